@@ -1,0 +1,14 @@
+//! The trees of vertex programs, and what makes a tree a typed program.
+#![tactic(auto)]
+
+mod expression;
+mod name;
+mod program;
+mod statement;
+mod typed;
+
+pub use expression::{BinOp, Builtin, Expr, Node};
+pub use name::{Ident, What};
+pub use program::{Decl, Dense, Program, SlotDecl, Sparse, TotalDecl};
+pub use statement::{AssignOp, Stmt};
+pub use typed::Typed;
