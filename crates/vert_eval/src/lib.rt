@@ -2,6 +2,12 @@
 //! in `specs/` the meaning of blocks, rounds and whole runs.
 #![tactic(auto)]
 
+mod cells;
 mod environment;
+mod value;
+mod words;
 
+pub use cells::{put, word_in};
 pub use environment::{Env, Flow};
+pub use value::eval;
+pub use words::{apply, assign, negated, truth, word};
