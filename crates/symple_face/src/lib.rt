@@ -3,11 +3,14 @@
 #![tactic(auto)]
 
 mod report;
+mod room;
 mod shelf;
 mod sink;
+mod sinks;
 mod source;
 
 pub use report::Report;
 pub use shelf::{LoadFault, Shelf, StoreFault};
 pub use sink::{Sink, SinkFault};
+pub use sinks::FirmSink;
 pub use source::{Source, SourceFault};
