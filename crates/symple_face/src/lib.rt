@@ -2,6 +2,7 @@
 //! counts of faults, and shelves, sources and sinks in memory that keep the same laws.
 #![tactic(auto)]
 
+mod calls;
 mod report;
 mod room;
 mod shelf;
@@ -12,5 +13,5 @@ mod source;
 pub use report::Report;
 pub use shelf::{LoadFault, Shelf, StoreFault};
 pub use sink::{Sink, SinkFault};
-pub use sinks::FirmSink;
+pub use sinks::{DripSink, FirmSink, MemSink};
 pub use source::{Source, SourceFault};
