@@ -1,5 +1,5 @@
 -- Words by ascending key, equal keys by turn: what a further word changes.
-use Rattle.std.proofs.Common.{◌≡◌, ℕ, ℤ, zero, suc, ◌+◌, ◌<◌, ◌≤◌, max, List, [], ◌∷◌, ◌++◌, map, filter, cond, refl, sym, ap, ◌∙◌, ⊎_elim, arith, append_assoc, nat_le, ◌==◌}
+use Rattle.std.proofs.Common.{◌≡◌, ℕ, ℤ, zero, suc, ◌<◌, ◌≤◌, List, [], ◌∷◌, ◌++◌, map, filter, cond, refl, sym, ap, ◌∙◌, ⊎_elim, arith, append_assoc, nat_le, ◌==◌}
 use Rattle.std.proofs.lemmas.Bool.{cases_lt, cases_eq, eq-eqb, ne_eqb, le-leb, leb-true, false_from_ne_true}
 use Rattle.vert_base.specs.Neighbours.{in_order}
 use Rattle.slot_merge.specs.Partials.{above, ordered}

@@ -1,13 +1,13 @@
 -- What a partial holds after words and after other partials.
-use Rattle.std.proofs.Common.{◌≡◌, ◌≢◌, ℕ, ℤ, ◌<◌, ◌≤◌, List, [], ◌∷◌, ◌++◌, map, fold, cond, refl, sym, ap, ◌∙◌, ⊎_elim, arith, Bool, true, false, Option, Some, None, nat_lt, nat_le}
+use Rattle.std.proofs.Common.{◌≡◌, ◌≢◌, ℕ, ℤ, ◌<◌, ◌≤◌, List, [], ◌∷◌, map, fold, cond, refl, sym, ap, ◌∙◌, ⊎_elim, arith, Bool, true, false, Some, nat_lt, nat_le}
 use Rattle.std.proofs.lemmas.Bool.{cases_lt, lt-ltb, le-ltb, le-leb, leb-true, false_from_ne_true}
 use Rattle.vert_base.specs.declared.value.Combine.{Combine}
 use Rattle.vert_base.specs.declared.value.Combine.TheVariants.{Min, Max, Sum, First}
 use Rattle.slot_merge.specs.declared.partial.Partial.{Partial}
 use Rattle.slot_merge.specs.Combine.{combined_of, combined}
-use Rattle.slot_merge.specs.Partials.{empty_partial, keyed, with_word, with_words, with_partial, ordered}
+use Rattle.slot_merge.specs.Partials.{with_word, with_words, ordered}
 use Rattle.slot_merge.specs.Laws.{partial_of}
-use Rattle.slot_merge.proofs.CombineLaws.{combined_of-assoc, combined_of-comm, combined-cons, joined, joined-comm, Min≢First, Max≢First, Sum≢First}
+use Rattle.slot_merge.proofs.CombineLaws.{combined-cons, joined, joined-comm, Min≢First, Max≢First, Sum≢First}
 use Rattle.slot_merge.proofs.OrderLaws.{Keyed, placed, placed-before, placed-behind, by_key, ordered-by_key}
 
 -- a partial with a value
