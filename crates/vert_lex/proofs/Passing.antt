@@ -1,5 +1,5 @@
 -- Passing blanks, comments and tokens.
-use Rattle.std.proofs.Common.{◌≡◌, ◌≢◌, ℕ, zero, suc, pred, ◌+◌, ◌-◌, ◌≤◌, ◌<◌, Bool, true, false, cond, eqb, List, [], ◌∷◌, ◌++◌, length, map, take, drop, get_or, Option, Some, None, Result, Ok, Err, refl, sym, ap, subst, ◌∙◌, append_assoc, arith}
+use Rattle.std.proofs.Common.{◌≡◌, ℕ, zero, suc, ◌+◌, ◌≤◌, ◌<◌, Bool, true, false, cond, eqb, List, [], ◌∷◌, ◌++◌, length, take, drop, get_or, Result, Ok, Err, refl, sym, ap, ◌∙◌, append_assoc, arith}
 use Rattle.std.proofs.lemmas.Bool.{ne_eqb}
 use Rattle.std.proofs.lemmas.List.{append-nil, length-drop, length-take-le, map-append}
 use Rattle.std.specs.Prelude.{not, nat_lt}
@@ -10,7 +10,7 @@ use Rattle.vert_lex.specs.declared.token.LexFault.TheVariants.{BadByte, TooLong}
 use Rattle.vert_lex.specs.Tokens.{Kind, kind_of, longest}
 use Rattle.vert_lex.specs.Text.{Placed, origin, after, through, is_blank, is_comment, judged, followed, tokens_at, tokens_of}
 use Rattle.vert_lex.specs.View.{plain_kind, plain_token, plain_tokens}
-use Rattle.vert_lex.proofs.Longest.{is_token, kind_nothing, longest_le, longest_token}
+use Rattle.vert_lex.proofs.Longest.{kind_nothing, longest_le}
 
 pub pass_token : (n : ℕ) (s : Span) (text : List ℕ) → n ≤ length text → tokens_at false n s text ≡ tokens_at false 0 (through s (take n text)) (drop n text)
 pass_token zero s text le = refl
@@ -69,7 +69,7 @@ pub push_step : (s : Span) (ts : List tokens.Token) (t : tokens.Token) (text : L
     → with_front (plain_tokens (ts ++ t ∷ [])) (tokens_at false 0 (through s (take n text)) (drop n text)) ≡ total
 push_step s ts t text n total same pos b c e some j so_far =
     let pushed : plain_tokens (ts ++ t ∷ []) ≡ plain_tokens ts ++ record { span = s; kind = plain_kind t.kind } ∷ [] =
-        map-append plain_token ts (t ∷ []) ∙ ap (λ x. plain_tokens ts ++ record { span = x; kind = plain_kind t.kind } ∷ []) same in
+    map-append plain_token ts (t ∷ []) ∙ ap (λ x. plain_tokens ts ++ record { span = x; kind = plain_kind t.kind } ∷ []) same in
     ap (λ l. with_front l (tokens_at false 0 (through s (take n text)) (drop n text))) pushed
     ∙ token_step s (plain_tokens ts) text n (plain_kind t.kind) total pos b c e some j so_far
 

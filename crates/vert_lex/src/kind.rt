@@ -7,12 +7,11 @@ ghost use Rattle.vert_lex.specs.Text.{judged};
 ghost use Rattle.vert_lex.specs.Tokens.{is_digit, is_word, kind_of};
 ghost use Rattle.vert_lex.specs.View.{plain_kind};
 
-use std::alloc::{AllocError, Global};
-use vert_base::Span;
-
 use crate::bytes::{first, is_digit, is_letter};
 use crate::token::{LexFault, TokenKind};
 use crate::{marks, words};
+use std::alloc::{AllocError, Global};
+use vert_base::Span;
 
 /// The greatest number of a program.
 const GREATEST: u64 = 9_223_372_036_854_775_807;

@@ -1,5 +1,4 @@
 use Rattle.vert_lex.proofs.Judging.{too_great}
-use Rattle.std.proofs.Common.{arith}
 use Rattle.vert_lex.proofs.kind.number.Goals as goal
 
 pub returns-then-value-digit : goal.returns-then-value-digit
