@@ -3,3 +3,4 @@ pub mod Calls
 pub mod Causes
 pub mod Files
 pub mod Room
+pub mod Pieces

@@ -3,6 +3,8 @@
 #![tactic(auto)]
 
 mod calls;
+mod mem_source;
+mod pieces;
 mod report;
 mod room;
 mod shelf;
@@ -10,6 +12,7 @@ mod sink;
 mod sinks;
 mod source;
 
+pub use mem_source::MemSource;
 pub use report::Report;
 pub use shelf::{LoadFault, Shelf, StoreFault};
 pub use sink::{Sink, SinkFault};
