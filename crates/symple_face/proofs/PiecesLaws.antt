@@ -1,9 +1,9 @@
 -- What is read of pieces.
-use Rattle.std.proofs.Common.{◌≡◌, ◌≤◌, ◌<◌, ℕ, ◌+◌, ◌-◌, suc, List, [], ◌∷◌, ◌++◌, take, drop, map, length, get_or, min, refl, sym, ap, ◌∙◌, add-one, arith, drop-cons, append_assoc, length-drop, length-take, ⊎_elim, subst}
+use Rattle.std.proofs.Common.{◌≡◌, ◌≤◌, ◌<◌, ℕ, ◌+◌, ◌-◌, suc, List, [], ◌∷◌, ◌++◌, take, drop, length, get_or, min, refl, sym, ap, ◌∙◌, add-one, arith, drop-cons, append_assoc, length-drop, length-take, ⊎_elim, subst}
 use Rattle.std.proofs.lemmas.List.{drop_all, drop-map, take_all, take-append-drop, drop-drop, take_rest}
 use Rattle.std.proofs.lemmas.Bool.{cases_lt}
 use Rattle.std.proofs.Math.Seq.{take-length, drop-length, take-append_seam, drop-append_seam}
-use Rattle.std.specs.Prelude.{Vec}
+use Rattle.std.specs.Prelude.{Vec, Result, Ok, Err, Some, IfOk, Bool, true, false, if◌then◌else◌}
 use Rattle.symple_face.specs.Pieces.{joined, first_bytes, without_first, contents, begun, unread}
 
 pub begun-none : (pieces : List (List ℕ)) → begun 0 pieces ≡ pieces
@@ -16,7 +16,7 @@ unread_at {Z} pieces at given piece within is =
     let next : drop at pieces ≡ get_or pieces at piece ∷ drop (suc at) pieces = drop-cons pieces at piece within in
     let step : drop at pieces ≡ piece ∷ drop (at + 1) pieces = rw add-one (next ∙ ap (λ (x : Vec ℕ Z). x ∷ drop (suc at) pieces) (sym is)) in
     let whole : drop at (contents pieces) ≡ piece.items ∷ drop (at + 1) (contents pieces) =
-        drop-map (λ (x : Vec ℕ Z). x.items) at pieces ∙ ap contents step ∙ ap (λ (r : List (List ℕ)). piece.items ∷ r) (sym (drop-map (λ (x : Vec ℕ Z). x.items) (at + 1) pieces)) in
+    drop-map (λ (x : Vec ℕ Z). x.items) at pieces ∙ ap contents step ∙ ap (λ (r : List (List ℕ)). piece.items ∷ r) (sym (drop-map (λ (x : Vec ℕ Z). x.items) (at + 1) pieces)) in
     ap (begun given) whole
 
 -- a piece that was given whole is passed over
@@ -57,7 +57,7 @@ here_rest {Z} pieces at given piece size within is some =
     let later : List (List ℕ) = drop (at + 1) (contents pieces) in
     let fit : ℕ = min (length left) size in
     let old : without_first size (unread at given (contents pieces)) ≡ drop size left ∷ later =
-        ap (without_first size) (unread_at pieces at given piece within is) ∙ rest_of size left later (omega (arith, length-drop given piece.items)) in
+    ap (without_first size) (unread_at pieces at given piece within is) ∙ rest_of size left later (omega (arith, length-drop given piece.items)) in
     let new : unread at (given + fit) (contents pieces) ≡ drop (given + fit) piece.items ∷ later = unread_at pieces at (given + fit) piece within is in
     let same : drop (given + fit) piece.items ≡ drop size left = sym (drop-drop fit given piece.items) ∙ drop_fit size left in
     old ∙ sym (new ∙ ap (λ (x : List ℕ). x ∷ later) same)
@@ -113,3 +113,30 @@ left_split size pieces old =
 -- what lies past the bytes written is as it was
 pub tail_kept : (bytes old : List ℕ) → drop (length bytes) (bytes ++ drop (length bytes) old) ≡ drop (length bytes) old
 tail_kept bytes old = drop-append_seam bytes (drop (length bytes) old)
+
+-- What a take answers, by whether it fails.
+module _ {E : Type 0} (e : E) (pieces new : List (List ℕ)) (old into : List ℕ) (result : Result ℕ E) where
+  pub told_left : (fails : Bool) → result ≡ (if fails then Err e else Ok (length (first_bytes (length old) pieces))) → into ≡ (if fails then old else first_bytes (length old) pieces ++ drop (length (first_bytes (length old) pieces)) old) → new ≡ (if fails then pieces else without_first (length old) pieces) → IfOk result (λ n. Some (joined pieces) ≡ Some (take n into ++ joined new))
+  told_left true answer bytes rest = subst (λ (r : Result ℕ E). IfOk r (λ n. Some (joined pieces) ≡ Some (take n into ++ joined new))) (sym answer) tt
+  told_left false answer bytes rest =
+      let size : ℕ = length (first_bytes (length old) pieces) in
+      let whole : joined pieces ≡ take size into ++ joined new =
+      left_split (length old) pieces old ∙ ap (λ (x : List ℕ). take size x ++ joined (without_first (length old) pieces)) (sym bytes) ∙ ap (λ (x : List (List ℕ)). take size into ++ joined x) (sym rest) in
+      subst (λ (r : Result ℕ E). IfOk r (λ n. Some (joined pieces) ≡ Some (take n into ++ joined new))) (sym answer) (ap Some whole)
+
+  pub told_within : (fails : Bool) → result ≡ (if fails then Err e else Ok (length (first_bytes (length old) pieces))) → IfOk result (λ n. n ≤ length old)
+  told_within true answer = subst (λ (r : Result ℕ E). IfOk r (λ n. n ≤ length old)) (sym answer) tt
+  told_within false answer = subst (λ (r : Result ℕ E). IfOk r (λ n. n ≤ length old)) (sym answer) (first_within (length old) pieces)
+
+  pub told_rest : (fails : Bool) → result ≡ (if fails then Err e else Ok (length (first_bytes (length old) pieces))) → into ≡ (if fails then old else first_bytes (length old) pieces ++ drop (length (first_bytes (length old) pieces)) old) → IfOk result (λ n. drop n into ≡ drop n old)
+  told_rest true answer bytes = subst (λ (r : Result ℕ E). IfOk r (λ n. drop n into ≡ drop n old)) (sym answer) tt
+  told_rest false answer bytes =
+      let size : ℕ = length (first_bytes (length old) pieces) in
+      subst (λ (r : Result ℕ E). IfOk r (λ n. drop n into ≡ drop n old)) (sym answer) (ap (drop size) bytes ∙ tail_kept (first_bytes (length old) pieces) old)
+
+  pub told_end : (fails : Bool) → result ≡ (if fails then Err e else Ok (length (first_bytes (length old) pieces))) → result ≡ Ok 0 → 0 < length old → (bytes : List ℕ) → Some (joined pieces) ≡ Some bytes → bytes ≡ []
+  told_end true answer none some bytes all = cc
+  told_end false answer none some bytes all =
+      let zero_size : length (first_bytes (length old) pieces) ≡ 0 = cc in
+      let nothing : joined pieces ≡ [] = first_some (length old) pieces zero_size some in
+      cc
