@@ -4,3 +4,4 @@ pub mod Causes
 pub mod Files
 pub mod Room
 pub mod Pieces
+pub mod Shelves
