@@ -1,11 +1,10 @@
-use Rattle.std.proofs.Common.{◌≡◌, ℕ, zero, suc, ◌+◌, ◌<◌, Bool, true, false, List, [], ◌∷◌, length, take, drop, refl, ap, sym, ◌∙◌, arith, ⊎_elim}
+use Rattle.std.proofs.Common.{◌≡◌, ℕ, zero, suc, ◌+◌, ◌<◌, true, false, List, [], ◌∷◌, length, take, drop, refl, ap, sym, ◌∙◌, arith, ⊎_elim}
 use Rattle.std.proofs.Math.Numerals.{one-add}
 use Rattle.std.specs.List.{position_or_len}
 use Rattle.std.proofs.lemmas.Bool.{cases_Bool}
 use Rattle.std.proofs.lemmas.List.{drop-drop}
 use Rattle.edge_reader.specs.Lines.{is_line_end, lines_of, join_line, without_return, entry_of_line, entry_of_numbers, weight_of, is_comment}
 use Rattle.edge_reader.specs.Words.{words_of, number_of}
-use Rattle.edge_reader.specs.declared.entry.Entry.TheVariants.{Skipped}
 
 -- the first line and the others
 pub lines_first : (c : ℕ) (cs : List ℕ) → lines_of (c ∷ cs) ≡ take (position_or_len is_line_end (c ∷ cs)) (c ∷ cs) ∷ lines_of (drop (suc (position_or_len is_line_end (c ∷ cs))) (c ∷ cs))

@@ -1,7 +1,6 @@
 -- What a line of an edge file says.
 use Rattle.std.specs.Prelude.{◌==◌, ℕ, ◌-◌, nat_lt, Bool, true, false, ◌||◌, if◌then◌else◌, List, [], ◌∷◌, length, slice_index, take, min, Option, Some, None, ℤ, pos, neg_ℤ}
 use Rattle.std.specs.Option.{option_map}
-use Rattle.vert_base.specs.declared.graph.VertexId.{VertexId}
 use Rattle.edge_reader.specs.declared.entry.Entry.{Entry}
 use Rattle.edge_reader.specs.declared.entry.Entry.TheVariants.{Skipped, Malformed, TooLarge, Read}
 use Rattle.edge_reader.specs.declared.entry.Weight.{Weight}

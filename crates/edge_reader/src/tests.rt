@@ -8,7 +8,7 @@ use vert_base::limits::VERTICES;
 
 /// A text, the given number of vertices, whether each edge comes with its reversal, how many vertices
 /// there are, and the edges.
-const ACCEPTED: [(&str, Option<u32>, bool, u32, &[(u32, u32, i32)]); 14] = [
+static ACCEPTED: [(&str, Option<u32>, bool, u32, &[(u32, u32, i32)]); 14] = [
     (
         "# x\r\n0\t1\r\n\n0 2\n  1 3\n2 3",
         None,
@@ -80,7 +80,7 @@ const ACCEPTED: [(&str, Option<u32>, bool, u32, &[(u32, u32, i32)]); 14] = [
 ];
 
 /// A text, the given number of vertices, the code and the line.
-const REFUSED: [(&str, Option<u32>, u8, u32); 41] = [
+static REFUSED: [(&str, Option<u32>, u8, u32); 41] = [
     ("0 1\n0 2\n1 3\n3 x\n", None, 1, 4),
     ("1\n", None, 1, 1),
     ("1 2 3 4\n", None, 1, 1),
@@ -147,7 +147,7 @@ fn lists(edges: &Edges, wanted: &[(u32, u32, i32)]) -> bool {
 
 #[test]
 fn accepts(rt: HostRuntime) -> Result<(), Fail> {
-    for (text, given, both, vertices, list) in ACCEPTED {
+    for &(text, given, both, vertices, list) in &ACCEPTED {
         let edges = read_text(rt.alloc(), text.as_bytes(), within(&rt, given), both)?;
         assert_eq!(rt; edges.vertices, vertices, "{text}");
         assert!(rt; lists(&edges, list), "{text}");
@@ -157,7 +157,7 @@ fn accepts(rt: HostRuntime) -> Result<(), Fail> {
 
 #[test]
 fn refuses(rt: HostRuntime) {
-    for (text, given, code, line) in REFUSED {
+    for &(text, given, code, line) in &REFUSED {
         let fault = read_text(rt.alloc(), text.as_bytes(), within(&rt, given), false).err();
         assert_eq!(rt; fault, Some(EdgeFault::Line { code, line }), "{text}");
     }

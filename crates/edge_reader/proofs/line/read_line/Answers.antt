@@ -1,4 +1,4 @@
-use Rattle.std.proofs.Common.{◌≡◌, ◌∙◌, sym, refl}
+use Rattle.std.proofs.Common.{◌∙◌, sym}
 use Rattle.edge_reader.specs.Words.{number_of}
 use Rattle.edge_reader.specs.Lines.{weight_of}
 use Rattle.edge_reader.proofs.LineLaws.{line_three}
