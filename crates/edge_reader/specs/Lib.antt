@@ -1,0 +1,5 @@
+pub mod EdgeList
+pub mod Words
+pub mod Lines
+pub mod EdgeText
+pub mod Gives

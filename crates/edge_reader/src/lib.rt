@@ -1,0 +1,16 @@
+//! Reads edge files: a graph's edges in file order, or the first fault and its place.
+#![tactic(auto)]
+
+mod edges;
+mod entry;
+mod fault;
+mod line;
+mod text;
+mod words;
+
+pub use edges::Edges;
+pub use fault::EdgeFault;
+pub use text::read_text;
+
+#[cfg(test)]
+mod tests;

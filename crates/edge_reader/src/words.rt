@@ -1,0 +1,69 @@
+ghost use Rattle.std.specs.Prelude.{◌≡◌, ◌≤◌, [], ◌∷◌, length, min, MatchOption};
+ghost use Rattle.std.specs.List.{position_or_len};
+ghost use Rattle.std.specs.Option.{option_map};
+ghost use Rattle.edge_reader.specs.Words.{is_blank, is_word_byte, words_of, number_of};
+
+/// Above every number that a file may hold. Larger ones are read as this one.
+pub const HUGE: u64 = 1 << 40;
+
+/// A space or a tab.
+#[inline]
+fn blank(byte: u8) -> bool
+    ensures { result ≡ is_blank byte }
+{
+    byte == b' ' || byte == b'\t'
+}
+
+/// How many blanks stand in front.
+fn blanks(text: &[u8]) -> usize
+    ensures value { result ≡ position_or_len is_word_byte text.now }
+    ensures within { result ≤ length text.now }
+{
+    for (i, byte) in text.iter().enumerate() {
+        if !blank(*byte) {
+            return i;
+        }
+    }
+    text.len()
+}
+
+/// How long the word in front is.
+fn word_len(text: &[u8]) -> usize
+    ensures value { result ≡ position_or_len is_blank text.now }
+    ensures within { result ≤ length text.now }
+{
+    for (i, byte) in text.iter().enumerate() {
+        if blank(*byte) {
+            return i;
+        }
+    }
+    text.len()
+}
+
+/// The first word, where there is one, and what stands behind it.
+pub fn next_word(text: &[u8]) -> Option<(&[u8], &[u8])>
+    ensures { MatchOption result (words_of text.now ≡ []) (λ found. words_of text.now ≡ found.0.now ∷ words_of found.1.now) }
+{
+    let front = &text[blanks(text)..];
+    if front.is_empty() {
+        return None;
+    }
+    Some(front.split_at(word_len(front)))
+}
+
+/// The number that a word says, where it is digits.
+pub fn number(word: &[u8]) -> Option<u64>
+    ensures { result ≡ option_map (λ value. min value HUGE) (number_of word.now) }
+{
+    if word.is_empty() {
+        return None;
+    }
+    let mut value = 0u64;
+    for byte in word {
+        if !byte.is_ascii_digit() {
+            return None;
+        }
+        value = (value * 10 + u64::from(*byte - b'0')).min(HUGE);
+    }
+    Some(value)
+}
