@@ -4,6 +4,8 @@
 
 mod cells;
 mod environment;
+#[cfg(test)]
+mod tests;
 mod value;
 mod words;
 
