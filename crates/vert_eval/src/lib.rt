@@ -11,5 +11,5 @@ mod words;
 
 pub use cells::{put, word_in};
 pub use environment::{Env, Flow};
-pub use value::eval;
+pub use value::{builtin_word, eval, other_word};
 pub use words::{apply, assign, negated, truth, word};
