@@ -1,2 +1,4 @@
 pub mod Combine
+pub mod Laws
+pub mod Mergeable
 pub mod Partials

@@ -1,6 +1,7 @@
-ghost use Rattle.std.specs.Prelude.{◌≡◌, ◌≢◌, IsSome};
-ghost use Rattle.vert_base.specs.declared.value.Combine.TheVariants.{First, Sum};
+ghost use Rattle.std.specs.Prelude.{◌≡◌};
+ghost use Rattle.vert_base.specs.declared.value.Combine.TheVariants.{Sum};
 ghost use Rattle.slot_merge.specs.Combine.{combined_of};
+ghost use Rattle.slot_merge.specs.Mergeable.{CanMerge};
 ghost use Rattle.slot_merge.specs.Partials.{empty_partial, started, with_word, with_partial};
 
 use arrayvec::ArrayVec;
@@ -62,8 +63,7 @@ impl Partial {
 
     /// Combines what another partial of the same slot holds.
     pub fn merge(&mut self, other: &Partial)
-        requires op { other.now.op ≡ self.old.op }
-        requires keys { self.old.op ≡ First → IsSome self.old.value → IsSome other.now.value → self.old.key ≢ other.now.key }
+        requires alike { CanMerge self.old other.now }
         ensures partial { self.new ≡ with_partial other.now self.old }
     {
         if let Some(value) = other.value {

@@ -1,0 +1,52 @@
+-- Combining goes by parts, and for all kinds but `First` in any order.
+use Rattle.std.proofs.Common.{◌≡◌, ◌≢◌, ℕ, ℤ, ◌+ℤ◌, List, [], ◌∷◌, ◌++◌, map, fold, refl, sym, ap, ◌∙◌, arith, w64, Option, Some, None, pos}
+use Rattle.std.specs.Int.{int_wrap, int_min, int_max}
+use Rattle.std.proofs.lemmas.Int.{ints, clamps, int_wrap-add_left, int_wrap-add_right}
+use Rattle.std.proofs.lemmas.List.Sums.{fold-append}
+use Rattle.vert_base.specs.declared.value.Combine.{Combine}
+use Rattle.vert_base.specs.declared.value.Combine.TheVariants.{Min, Max, Sum, First}
+use Rattle.slot_merge.specs.Combine.{combined_of, combined, neutral, total_of}
+
+sum-assoc : (x y z : ℤ) → (x +ℤ y) +ℤ z ≡ x +ℤ (y +ℤ z)
+sum-assoc x y z = omega (arith, ints)
+
+sum-comm : (x y : ℤ) → x +ℤ y ≡ y +ℤ x
+sum-comm x y = omega (arith, ints)
+
+pub combined_of-assoc : (op : Combine) (x y z : ℤ) → combined_of op (combined_of op x y) z ≡ combined_of op x (combined_of op y z)
+combined_of-assoc Min x y z = omega (arith, ints, clamps)
+combined_of-assoc Max x y z = omega (arith, ints, clamps)
+combined_of-assoc Sum x y z = int_wrap-add_left w64 (x +ℤ y) z ∙ ap (int_wrap w64) (sum-assoc x y z) ∙ sym (int_wrap-add_right w64 x (y +ℤ z))
+combined_of-assoc First x y z = refl
+
+pub combined_of-comm : (op : Combine) → op ≢ First → (x y : ℤ) → combined_of op x y ≡ combined_of op y x
+combined_of-comm Min other x y = omega (arith, ints, clamps)
+combined_of-comm Max other x y = omega (arith, ints, clamps)
+combined_of-comm Sum other x y = ap (int_wrap w64) (sum-comm x y)
+combined_of-comm First other x y = absurd (other refl)
+
+-- the first word may be combined last
+pub combined_of-fold : (op : Combine) (x y : ℤ) (ys : List ℤ) → fold (combined_of op) (combined_of op x y) ys ≡ combined_of op x (fold (combined_of op) y ys)
+combined_of-fold op x y [] = refl
+combined_of-fold op x y (z ∷ zs) = ap (λ w. fold (combined_of op) w zs) (combined_of-assoc op x y z) ∙ combined_of-fold op x (combined_of op y z) zs
+
+-- a word before what is combined
+abbrev pub joined : Combine → ℤ → Option ℤ → Option ℤ
+joined op x None = Some x
+joined op x (Some y) = Some (combined_of op x y)
+
+pub combined-cons : (op : Combine) (x : ℤ) (xs : List ℤ) → combined op (x ∷ xs) ≡ joined op x (combined op xs)
+combined-cons op x [] = refl
+combined-cons op x (y ∷ ys) = ap (λ w. Some w) (combined_of-fold op x y ys)
+
+pub joined-comm : (op : Combine) → op ≢ First → (x y : ℤ) (o : Option ℤ) → joined op x (joined op y o) ≡ joined op y (joined op x o)
+joined-comm op other x y None = ap (λ w. Some w) (combined_of-comm op other x y)
+joined-comm op other x y (Some z) =
+    ap (λ w. Some w) (sym (combined_of-assoc op x y z) ∙ ap (λ w. combined_of op w z) (combined_of-comm op other x y) ∙ combined_of-assoc op y x z)
+
+-- what a total begins with changes nothing
+neutral-twice : (op : Combine) → combined_of op (neutral op) (neutral op) ≡ neutral op
+neutral-twice Min = refl
+neutral-twice Max = refl
+neutral-twice Sum = refl
+neutral-twice First = refl

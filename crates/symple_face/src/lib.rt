@@ -1,0 +1,13 @@
+//! What the product asks of the outside, a shelf of files, a source and a sink of bytes, with its
+//! counts of faults, and shelves, sources and sinks in memory that keep the same laws.
+#![tactic(auto)]
+
+mod report;
+mod shelf;
+mod sink;
+mod source;
+
+pub use report::Report;
+pub use shelf::{LoadFault, Shelf, StoreFault};
+pub use sink::{Sink, SinkFault};
+pub use source::{Source, SourceFault};
