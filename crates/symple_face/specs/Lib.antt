@@ -1,4 +1,6 @@
 pub mod Bytes
+pub mod Calls
 pub mod Causes
 pub mod Files
 pub mod Room
+pub mod Pieces

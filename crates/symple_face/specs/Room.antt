@@ -1,14 +1,21 @@
--- The state of a sink in memory.
-use Rattle.std.specs.Prelude.{ℕ, ◌+◌, ◌-◌, ◌^◌, List, ◌++◌, min, max}
+-- The states of the sinks in memory.
+use Rattle.std.specs.Prelude.{ℕ, ◌+◌, List, ◌++◌, length, nat_le, Bool}
+use Rattle.symple_face.specs.Calls.{Calls, one_more}
 
+-- the bytes held, how many there is room for, and the count of faults
 pub record Room : Type 0 where
   pub bytes : List ℕ
   pub room : ℕ
   pub faults : ℕ
 
--- a count after one more
-abbrev pub one_more : ℕ → ℕ
-one_more count = max count (min (count + 1) (2 ^ 64 - 1))
+-- a sink whose puts fail at some of its calls
+pub record Counted : Type 0 where
+  pub held : Room
+  pub calls : Calls
+
+-- there is room for the whole piece
+abbrev pub fits : Room → List ℕ → Bool
+fits held piece = nat_le (length held.bytes + length piece) held.room
 
 -- after it took these bytes
 abbrev pub with_bytes : List ℕ → Room → Room

@@ -2,6 +2,9 @@
 //! counts of faults, and shelves, sources and sinks in memory that keep the same laws.
 #![tactic(auto)]
 
+mod calls;
+mod mem_source;
+mod pieces;
 mod report;
 mod room;
 mod shelf;
@@ -9,8 +12,9 @@ mod sink;
 mod sinks;
 mod source;
 
+pub use mem_source::MemSource;
 pub use report::Report;
 pub use shelf::{LoadFault, Shelf, StoreFault};
 pub use sink::{Sink, SinkFault};
-pub use sinks::FirmSink;
+pub use sinks::{DripSink, FirmSink, MemSink};
 pub use source::{Source, SourceFault};
