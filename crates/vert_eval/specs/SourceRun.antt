@@ -122,8 +122,8 @@ abbrev pub rounds_from : ℕ → Job → ℕ → Standing → Run
 rounds_from zero job round s = record { rounds = []; last = s }
 rounds_from (suc more) job round s =
     by_ruling s.ruling
-        (record { rounds = []; last = s })
-        (then_runs (played_at job round s) (rounds_from more job (round + 1) (next_standing job round s)))
+    (record { rounds = []; last = s })
+    (then_runs (played_at job round s) (rounds_from more job (round + 1) (next_standing job round s)))
 
 -- a run that goes on at a round before which this stands, whatever the rows would give
 abbrev pub resumed_run : Job → ℕ → Standing → Run
