@@ -1,11 +1,25 @@
 -- Combining goes by parts, and for all kinds but `First` in any order.
-use Rattle.std.proofs.Common.{◌≡◌, ◌≢◌, ℕ, ℤ, ◌+ℤ◌, List, [], ◌∷◌, ◌++◌, map, fold, refl, sym, ap, ◌∙◌, arith, w64, Option, Some, None, pos}
+use Rattle.std.proofs.Common.{◌≡◌, ◌≢◌, ℕ, ℤ, ◌+ℤ◌, List, [], ◌∷◌, ◌++◌, map, fold, refl, sym, ap, ◌∙◌, arith, w64, Bool, true, false, true≢false, Option, Some, None, pos}
 use Rattle.std.specs.Int.{int_wrap, int_min, int_max}
 use Rattle.std.proofs.lemmas.Int.{ints, clamps, int_wrap-add_left, int_wrap-add_right}
 use Rattle.std.proofs.lemmas.List.Sums.{fold-append}
 use Rattle.vert_base.specs.declared.value.Combine.{Combine}
 use Rattle.vert_base.specs.declared.value.Combine.TheVariants.{Min, Max, Sum, First}
 use Rattle.slot_merge.specs.Combine.{combined_of, combined, neutral, total_of}
+
+-- whether it is `First`
+abbrev has_keys : Combine → Bool
+has_keys First = true
+has_keys _ = false
+
+pub Min≢First : Min ≢ First
+Min≢First e = true≢false (sym (ap has_keys e))
+
+pub Max≢First : Max ≢ First
+Max≢First e = true≢false (sym (ap has_keys e))
+
+pub Sum≢First : Sum ≢ First
+Sum≢First e = true≢false (sym (ap has_keys e))
 
 sum-assoc : (x y z : ℤ) → (x +ℤ y) +ℤ z ≡ x +ℤ (y +ℤ z)
 sum-assoc x y z = omega (arith, ints)
@@ -46,7 +60,22 @@ joined-comm op other x y (Some z) =
 
 -- what a total begins with changes nothing
 neutral-twice : (op : Combine) → combined_of op (neutral op) (neutral op) ≡ neutral op
+unfolding int_wrap
 neutral-twice Min = refl
 neutral-twice Max = refl
 neutral-twice Sum = refl
 neutral-twice First = refl
+
+-- a total with what it begins with once more
+neutral-last : (op : Combine) → op ≢ First → (xs : List ℤ) → combined_of op (total_of op xs) (neutral op) ≡ total_of op xs
+neutral-last op other xs =
+    combined_of-comm op other (total_of op xs) (neutral op)
+    ∙ sym (combined_of-fold op (neutral op) (neutral op) xs)
+    ∙ ap (λ n. fold (combined_of op) n xs) (neutral-twice op)
+
+-- the total of words in parts is that of the parts' totals
+pub total_of-append : (op : Combine) → op ≢ First → (xs ys : List ℤ) → total_of op (xs ++ ys) ≡ combined_of op (total_of op xs) (total_of op ys)
+total_of-append op other xs ys =
+    fold-append (combined_of op) (neutral op) xs ys
+    ∙ sym (ap (λ n. fold (combined_of op) n ys) (neutral-last op other xs))
+    ∙ combined_of-fold op (total_of op xs) (neutral op) ys

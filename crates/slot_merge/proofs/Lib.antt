@@ -1,1 +1,6 @@
 pub mod CombineLaws
+pub mod MergeLaws
+pub mod MergeOrders
+pub mod OrderLaws
+pub mod PartialLaws
+pub mod Permutations
