@@ -70,17 +70,17 @@ nearer-same w v h = ap (λ b. cond b v w) (le-ltb v.0 w.0 h)
 pub nearer-assoc : (u v w : Keyed) → nearer u (nearer v w) ≡ nearer (nearer u v) w
 nearer-assoc u v w = ⊎_elim
     (λ near.
-      ⊎_elim
-      (λ last. ap (nearer u) (nearer-next v w last) ∙ nearer-next u w (omega arith) ∙ sym (nearer-next v w last))
-      (λ more. ap (nearer u) (nearer-same v w more) ∙ nearer-next u v near ∙ sym (nearer-same v w more))
-      (cases_lt w.0 v.0)
-      ∙ ap (λ x. nearer x w) (sym (nearer-next u v near)))
+    ⊎_elim
+    (λ last. ap (nearer u) (nearer-next v w last) ∙ nearer-next u w (omega arith) ∙ sym (nearer-next v w last))
+    (λ more. ap (nearer u) (nearer-same v w more) ∙ nearer-next u v near ∙ sym (nearer-same v w more))
+    (cases_lt w.0 v.0)
+    ∙ ap (λ x. nearer x w) (sym (nearer-next u v near)))
     (λ far.
-      ⊎_elim
-      (λ last. ap (nearer u) (nearer-next v w last))
-      (λ more. ap (nearer u) (nearer-same v w more) ∙ nearer-same u v far ∙ sym (nearer-same u w (omega arith)))
-      (cases_lt w.0 v.0)
-      ∙ ap (λ x. nearer x w) (sym (nearer-same u v far)))
+    ⊎_elim
+    (λ last. ap (nearer u) (nearer-next v w last))
+    (λ more. ap (nearer u) (nearer-same v w more) ∙ nearer-same u v far ∙ sym (nearer-same u w (omega arith)))
+    (cases_lt w.0 v.0)
+    ∙ ap (λ x. nearer x w) (sym (nearer-same u v far)))
     (cases_lt v.0 u.0)
 
 pub nearer-comm : (w v : Keyed) → w.0 ≢ v.0 → nearer w v ≡ nearer v w
@@ -118,17 +118,17 @@ front-nearer w v [] = ⊎_elim
     (cases_lt v.0 w.0)
 front-nearer w v (u ∷ us) = ⊎_elim
     (λ up.
-      ⊎_elim
-      (λ h. ap (λ x. front x (u ∷ us)) (nearer-next w v h) ∙ front-behind v u us up ∙ sym (front-behind w u (placed v us) (omega arith)))
-      (λ h. ap (λ x. front x (u ∷ us)) (nearer-same w v h))
-      (cases_lt v.0 w.0)
-      ∙ ap (front w) (sym (placed-behind v u us up)))
+    ⊎_elim
+    (λ h. ap (λ x. front x (u ∷ us)) (nearer-next w v h) ∙ front-behind v u us up ∙ sym (front-behind w u (placed v us) (omega arith)))
+    (λ h. ap (λ x. front x (u ∷ us)) (nearer-same w v h))
+    (cases_lt v.0 w.0)
+    ∙ ap (front w) (sym (placed-behind v u us up)))
     (λ down.
-      ⊎_elim
-      (λ h. ap (λ x. front x (u ∷ us)) (nearer-next w v h) ∙ front-before v u us down ∙ sym (front-behind w v (u ∷ us) h))
-      (λ h. ap (λ x. front x (u ∷ us)) (nearer-same w v h) ∙ front-before w u us (omega arith) ∙ sym (front-before w v (u ∷ us) h))
-      (cases_lt v.0 w.0)
-      ∙ ap (front w) (sym (placed-before v u us down)))
+    ⊎_elim
+    (λ h. ap (λ x. front x (u ∷ us)) (nearer-next w v h) ∙ front-before v u us down ∙ sym (front-behind w v (u ∷ us) h))
+    (λ h. ap (λ x. front x (u ∷ us)) (nearer-same w v h) ∙ front-before w u us (omega arith) ∙ sym (front-before w v (u ∷ us) h))
+    (cases_lt v.0 w.0)
+    ∙ ap (front w) (sym (placed-before v u us down)))
     (cases_lt u.0 v.0)
 
 least-front : (w : Keyed) (ws : List Keyed) → least w ws ≡ front w (by_key ws)
