@@ -1,1 +1,4 @@
 pub mod GraphLaws
+pub mod ReadLaws
+pub mod RunLaws
+pub mod TypedLaws
