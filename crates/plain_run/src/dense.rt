@@ -57,6 +57,7 @@ fn run_loop(scene: &Scene, body: &[Stmt], members: &[Edge], env: &mut Env, emits
     requires partials { length emits.old.slots.items ≡ length env.old.slots.items }
     ensures env { env.new ≡ (loop (scene_of scene.now) body.now members.now env.old).env }
     ensures emits { emits.new.slots.items ≡ with_emissions env.old.key emits.old.slots.items (loop (scene_of scene.now) body.now members.now env.old).emitted }
+    ensures within { result ≤ length members.now }
     ensures reads { map source (take result members.now) ≡ (loop (scene_of scene.now) body.now members.now env.old).reads }
     ensures kept { SameFrame env.old env.new }
     ensures partials { length emits.new.slots.items ≡ length emits.old.slots.items }
@@ -83,6 +84,7 @@ fn run_block(scene: &Scene, dense: &Dense, v: u32, env: &mut Env, emits: &mut Em
     requires partials { length emits.old.slots.items ≡ length env.old.slots.items }
     ensures emits { emits.new.slots.items
         ≡ with_emissions env.old.key emits.old.slots.items (dense_block (scene_of scene.now) dense.now (members_of (graph_of scene.now.graph.now) v) env.old).emitted }
+    ensures within { result ≤ length (members_of (graph_of scene.now.graph.now) v) }
     ensures reads { map source (take result (members_of (graph_of scene.now.graph.now) v))
         ≡ (dense_block (scene_of scene.now) dense.now (members_of (graph_of scene.now.graph.now) v) env.old).reads }
 {
@@ -103,6 +105,7 @@ pub(crate) fn run_dense(scene: &Scene, dense: &Dense, v: u32, env: &mut Env, emi
     requires partials { length emits.old.slots.items ≡ length env.old.slots.items }
     ensures emits { emits.new.slots.items
         ≡ with_emissions env.old.key emits.old.slots.items (dense_at (scene_of scene.now) dense.now (members_of (graph_of scene.now.graph.now) v) env.old).emitted }
+    ensures within { result ≤ length (members_of (graph_of scene.now.graph.now) v) }
     ensures reads { map source (take result (members_of (graph_of scene.now.graph.now) v))
         ≡ (dense_at (scene_of scene.now) dense.now (members_of (graph_of scene.now.graph.now) v) env.old).reads }
 {

@@ -24,7 +24,8 @@ pub(crate) struct Graph<'a> {
 }
 
 impl<'a> Graph<'a> {
-    ghost use Rattle.std.specs.Prelude.{◌<◌};
+    ghost use Rattle.std.specs.Prelude.{◌<◌, All};
+    ghost use Rattle.vert_base.specs.Neighbours.{source};
     ghost use Rattle.plain_run.specs.Views.{graph_of};
 
     /// How many edges end at a vertex.
@@ -46,7 +47,8 @@ impl<'a> Graph<'a> {
     /// The edges into a vertex in the order in which its loop reads them.
     pub(crate) fn members_of(&self, v: u32) -> &[Edge]
         requires { v < self.now.vertices }
-        ensures { result.now ≡ members_of (graph_of self.now) v }
+        ensures members { result.now ≡ members_of (graph_of self.now) v }
+        ensures inside { All (λ e. source e < self.now.vertices) result.now }
     {
         &self.members[v as usize]
     }

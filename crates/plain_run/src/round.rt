@@ -38,12 +38,16 @@ fn emit_at(scene: &Scene, ruling: Ruling, v: u32, emits: &mut Emits) -> usize
     requires inside { v < scene.now.graph.now.vertices }
     requires partials { length emits.old.slots.items ≡ length (program_of scene.now).slots.items }
     ensures emits { emits.new.slots.items ≡ with_emissions 0 emits.old.slots.items (gathered (program_of scene.now) ruling (scene_of scene.now) v).emitted }
+    ensures within { result ≤ length (members_of (graph_of scene.now.graph.now) v) }
     ensures reads { map source (take result (members_of (graph_of scene.now.graph.now) v)) ≡ (gathered (program_of scene.now) ruling (scene_of scene.now) v).reads }
 {
     match ruling {
         Ruling::Stop => 0,
         Ruling::Dense => match &scene.program.program.dense {
-            Some(dense) => run_dense(scene, dense, v, &mut bare_env(scene, v), emits),
+            Some(dense) => {
+                let mut env = bare_env(scene, v);
+                run_dense(scene, dense, v, &mut env, emits)
+            }
             None => 0,
         },
         Ruling::Sparse => match &scene.program.program.sparse {
@@ -60,6 +64,7 @@ fn gather(scene: &Scene, ruling: Ruling, v: u32) -> Gathered
     requires ready { IsReady scene.now }
     requires inside { v < scene.now.graph.now.vertices }
     ensures values { result.values.items ≡ slot_values 0 (slot_ops (program_of scene.now)) (gathered (program_of scene.now) ruling (scene_of scene.now) v).emitted }
+    ensures within { result.read ≤ length (members_of (graph_of scene.now.graph.now) v) }
     ensures reads { map source (take result.read (members_of (graph_of scene.now.graph.now) v)) ≡ (gathered (program_of scene.now) ruling (scene_of scene.now) v).reads }
 {
     let mut emits = no_emits(&scene.program.program.slots);
@@ -91,10 +96,11 @@ fn updated_row(scene: &Scene, v: u32, slots: ArrayVec<Option<i64>, 8>) -> Row
 fn sources(alloc: Global, members: &[Edge]) -> Result<Vec<VertexId>, Want>
     ensures { IfOk result (λ ids. ids_of ids.items ≡ map source members.now) }
 {
-    match members.iter().map(|member| member.from).collect(alloc) {
-        Ok(ids) => Ok(ids),
-        Err(_) => Err(Want),
+    let mut ids = Vec::new(alloc);
+    for member in members {
+        push(&mut ids, member.from)?;
     }
+    Ok(ids)
 }
 
 fn push<T: Drop>(items: &mut Vec<T>, item: T) -> Result<(), Want>

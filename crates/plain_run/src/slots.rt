@@ -11,11 +11,7 @@ pub(crate) fn no_values(slots: &[SlotDecl]) -> ArrayVec<Option<i64>, 8>
     requires { length slots.now ≤ 8 }
     ensures { result.items ≡ no_values (map (λ s. s.op) slots.now) }
 {
-    let mut values = ArrayVec::new();
-    for _ in slots {
-        values.push(None);
-    }
-    values
+    values_of(&no_emits(slots))
 }
 
 /// The partials of slots to which nothing was emitted.

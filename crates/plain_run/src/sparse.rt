@@ -63,7 +63,7 @@ fn receive(scene: &Scene, sparse: &Sparse, v: u32, member: &Edge, sender: &Env, 
 }
 
 /// Takes what one member sends, where that is active and its test is true.
-fn take(scene: &Scene, sparse: &Sparse, v: u32, member: &Edge, emits: &mut Emits)
+fn take_from(scene: &Scene, sparse: &Sparse, v: u32, member: &Edge, emits: &mut Emits)
     requires ready { IsReady scene.now }
     requires inside { v < scene.now.graph.now.vertices }
     requires source { source member.now < scene.now.graph.now.vertices }
@@ -92,6 +92,6 @@ pub(crate) fn run_sparse(scene: &Scene, sparse: &Sparse, v: u32, emits: &mut Emi
             (flat_map (emitted_over (scene_of scene.now) (slot_ops (program_of scene.now)) sparse.now receiver) (members_of (graph_of scene.now.graph.now) v)) }
 {
     for member in scene.graph.members_of(v) {
-        take(scene, sparse, v, member, emits);
+        take_from(scene, sparse, v, member, emits);
     }
 }
