@@ -1,20 +1,11 @@
-ghost use Rattle.std.specs.Prelude.{◌≡◌, ◌+◌, ◌<◌, ◌≤◌, length, decimal, OnOk, OnErr};
-ghost use Rattle.std.specs.Fmt.{signed_decimal};
-ghost use Rattle.symple_face.specs.Bytes.{gained, GainedPart};
-ghost use Rattle.symple_face.specs.Causes.{Rose};
+ghost use Rattle.std.specs.Prelude.{flat_map};
+ghost use Rattle.array_text.specs.Writes.{Writes};
 
-use itoa::Buffer;
 use symple_face::{Sink, SinkFault};
 
 /// Puts all of the bytes, in as many pieces as the sink takes them.
 pub fn put_all<O: Sink>(out: &mut O, bytes: &[u8]) -> Result<(), SinkFault>
-    ensures whole { OnOk result (O.held out.new ≡ gained (O.held out.old) bytes.now) }
-    ensures counted { OnOk result (O.faults out.new ≡ O.faults out.old) }
-    ensures part { OnErr result (GainedPart (O.held out.old) (O.held out.new) bytes.now) }
-    ensures failed { OnErr result (Rose (O.faults out.old) (O.faults out.new)) }
-    ensures later { O.faults out.old ≤ O.faults out.new }
-    ensures sure { OnErr result (O.spare out.old < length bytes.now) }
-    ensures spared { O.spare out.old ≤ O.spare out.new + length bytes.now }
+    ensures { Writes O.held O.faults O.spare out.old out.new bytes.now result }
 {
     let mut done = 0;
     while done < bytes.len() {
@@ -23,30 +14,12 @@ pub fn put_all<O: Sink>(out: &mut O, bytes: &[u8]) -> Result<(), SinkFault>
     Ok(())
 }
 
-/// Puts a number in decimal.
-pub(crate) fn put_natural<O: Sink>(out: &mut O, number: u64) -> Result<(), SinkFault>
-    ensures whole { OnOk result (O.held out.new ≡ gained (O.held out.old) (decimal number)) }
-    ensures counted { OnOk result (O.faults out.new ≡ O.faults out.old) }
-    ensures part { OnErr result (GainedPart (O.held out.old) (O.held out.new) (decimal number)) }
-    ensures failed { OnErr result (Rose (O.faults out.old) (O.faults out.new)) }
-    ensures later { O.faults out.old ≤ O.faults out.new }
-    ensures sure { OnErr result (O.spare out.old < length (decimal number)) }
-    ensures spared { O.spare out.old ≤ O.spare out.new + length (decimal number) }
+/// Puts the pieces one after another.
+pub(crate) fn put_pieces<O: Sink>(out: &mut O, pieces: &[&[u8]]) -> Result<(), SinkFault>
+    ensures { Writes O.held O.faults O.spare out.old out.new (flat_map (λ piece. piece.now) pieces.now) result }
 {
-    let mut buffer = Buffer::new();
-    put_all(out, buffer.format(number).as_bytes())
-}
-
-/// Puts a number in decimal, with a minus sign where it is below 0.
-pub(crate) fn put_integer<O: Sink>(out: &mut O, number: i64) -> Result<(), SinkFault>
-    ensures whole { OnOk result (O.held out.new ≡ gained (O.held out.old) (signed_decimal number)) }
-    ensures counted { OnOk result (O.faults out.new ≡ O.faults out.old) }
-    ensures part { OnErr result (GainedPart (O.held out.old) (O.held out.new) (signed_decimal number)) }
-    ensures failed { OnErr result (Rose (O.faults out.old) (O.faults out.new)) }
-    ensures later { O.faults out.old ≤ O.faults out.new }
-    ensures sure { OnErr result (O.spare out.old < length (signed_decimal number)) }
-    ensures spared { O.spare out.old ≤ O.spare out.new + length (signed_decimal number) }
-{
-    let mut buffer = Buffer::new();
-    put_all(out, buffer.format(number).as_bytes())
+    for piece in pieces {
+        put_all(out, piece)?;
+    }
+    Ok(())
 }

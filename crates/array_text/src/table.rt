@@ -1,81 +1,69 @@
-ghost use Rattle.std.specs.Prelude.{◌≡◌, ◌+◌, ◌<◌, ◌≤◌, length, ◌++◌, codes, OnOk, OnErr};
-ghost use Rattle.symple_face.specs.Bytes.{gained, GainedPart};
-ghost use Rattle.symple_face.specs.Causes.{Rose};
-ghost use Rattle.array_text.specs.Tables.{header_text, name_text, row_text, word_text};
+ghost use Rattle.std.specs.Prelude.{◌≡◌, ◌++◌, codes, slice_get};
+ghost use Rattle.array_text.specs.Tables.{bytes_of, header_text, row_text, word_text, words_text};
+ghost use Rattle.array_text.specs.Writes.{Writes};
 
-use crate::put::{put_all, put_integer, put_natural};
+use crate::put::{put_all, put_pieces};
+use itoa::Buffer;
 use symple_face::{Sink, SinkFault};
 use vert_base::{Row, ValueType, VertexId};
 use vert_tree::{Decl, Program, Typed};
 
 /// Puts the first line of the table.
 pub fn write_header<O: Sink>(typed: &Typed, out: &mut O) -> Result<(), SinkFault>
-    ensures whole { OnOk result (O.held out.new ≡ gained (O.held out.old) (header_text typed.now.program)) }
-    ensures counted { OnOk result (O.faults out.new ≡ O.faults out.old) }
-    ensures part { OnErr result (GainedPart (O.held out.old) (O.held out.new) (header_text typed.now.program)) }
-    ensures failed { OnErr result (Rose (O.faults out.old) (O.faults out.new)) }
-    ensures later { O.faults out.old ≤ O.faults out.new }
-    ensures sure { OnErr result (O.spare out.old < length (header_text typed.now.program)) }
-    ensures spared { O.spare out.old ≤ O.spare out.new + length (header_text typed.now.program) }
+    ensures { Writes O.held O.faults O.spare out.old out.new (header_text typed.now.program) result }
 {
     put_all(out, b"vertex")?;
     for field in &typed.program.fields {
-        put_name(&typed.program, field, out)?;
+        put_pieces(out, &[b" ", name_of(&typed.program, field)])?;
     }
     put_all(out, b"\n")
 }
 
-fn put_name<O: Sink>(program: &Program, field: &Decl, out: &mut O) -> Result<(), SinkFault>
-    ensures whole { OnOk result (O.held out.new ≡ gained (O.held out.old) (name_text program.now field.now)) }
-    ensures counted { OnOk result (O.faults out.new ≡ O.faults out.old) }
-    ensures part { OnErr result (GainedPart (O.held out.old) (O.held out.new) (name_text program.now field.now)) }
-    ensures failed { OnErr result (Rose (O.faults out.old) (O.faults out.new)) }
-    ensures later { O.faults out.old ≤ O.faults out.new }
-    ensures sure { OnErr result (O.spare out.old < length (name_text program.now field.now)) }
-    ensures spared { O.spare out.old ≤ O.spare out.new + length (name_text program.now field.now) }
+fn name_of<'a>(program: &'a Program, field: &Decl) -> &'a [u8]
+    ensures { result.now ≡ bytes_of (slice_get program.now.names.items field.now.name.name) }
 {
-    put_all(out, b" ")?;
     match program.names.get(field.name.name as usize) {
-        Some(name) => put_all(out, name.as_bytes()),
-        None => Ok(()),
+        Some(name) => name.as_bytes(),
+        None => b"",
     }
 }
 
-/// Puts the line of a vertex: its id and a word for each field.
+/// Puts the line of a vertex: its id and the words of its fields.
 pub fn write_row<O: Sink>(
     typed: &Typed,
     v: VertexId,
     row: &Row,
     out: &mut O,
 ) -> Result<(), SinkFault>
-    ensures whole { OnOk result (O.held out.new ≡ gained (O.held out.old) (row_text typed.now.program v.0 row.now)) }
-    ensures counted { OnOk result (O.faults out.new ≡ O.faults out.old) }
-    ensures part { OnErr result (GainedPart (O.held out.old) (O.held out.new) (row_text typed.now.program v.0 row.now)) }
-    ensures failed { OnErr result (Rose (O.faults out.old) (O.faults out.new)) }
-    ensures later { O.faults out.old ≤ O.faults out.new }
-    ensures sure { OnErr result (O.spare out.old < length (row_text typed.now.program v.0 row.now)) }
-    ensures spared { O.spare out.old ≤ O.spare out.new + length (row_text typed.now.program v.0 row.now) }
+    ensures { Writes O.held O.faults O.spare out.old out.new (row_text typed.now.program v.0 row.now) result }
 {
-    put_natural(out, u64::from(v.0))?;
-    for (field, word) in typed.program.fields.iter().zip(row.words.iter()) {
-        put_word(field.kind, *word, out)?;
-    }
+    let mut id = Buffer::new();
+    put_all(out, id.format(v.0).as_bytes())?;
+    put_words(typed.program.fields.as_slice(), row.words.as_slice(), out)?;
     put_all(out, b"\n")
 }
 
-fn put_word<O: Sink>(kind: ValueType, word: i64, out: &mut O) -> Result<(), SinkFault>
-    ensures whole { OnOk result (O.held out.new ≡ gained (O.held out.old) (codes " " ++ word_text kind word)) }
-    ensures counted { OnOk result (O.faults out.new ≡ O.faults out.old) }
-    ensures part { OnErr result (GainedPart (O.held out.old) (O.held out.new) (codes " " ++ word_text kind word)) }
-    ensures failed { OnErr result (Rose (O.faults out.old) (O.faults out.new)) }
-    ensures later { O.faults out.old ≤ O.faults out.new }
-    ensures sure { OnErr result (O.spare out.old < length (codes " " ++ word_text kind word)) }
-    ensures spared { O.spare out.old ≤ O.spare out.new + length (codes " " ++ word_text kind word) }
+fn put_words<O: Sink>(fields: &[Decl], words: &[i64], out: &mut O) -> Result<(), SinkFault>
+    ensures { Writes O.held O.faults O.spare out.old out.new (words_text fields.now words.now) result }
 {
-    put_all(out, b" ")?;
+    match (fields, words) {
+        ([field, other_fields @ ..], [word, other_words @ ..]) => {
+            put_word(field.kind, *word, out)?;
+            put_words(other_fields, other_words, out)
+        }
+        _ => Ok(()),
+    }
+}
+
+fn put_word<O: Sink>(kind: ValueType, word: i64, out: &mut O) -> Result<(), SinkFault>
+    ensures { Writes O.held O.faults O.spare out.old out.new (codes " " ++ word_text kind word) result }
+{
     match kind {
-        ValueType::Int => put_integer(out, word),
-        ValueType::Bool if word == 0 => put_all(out, b"false"),
-        ValueType::Bool => put_all(out, b"true"),
+        ValueType::Int => {
+            let mut digits = Buffer::new();
+            put_pieces(out, &[b" ", digits.format(word).as_bytes()])
+        }
+        ValueType::Bool if word == 0 => put_all(out, b" false"),
+        ValueType::Bool => put_all(out, b" true"),
     }
 }

@@ -1,11 +1,10 @@
-use Rattle.std.proofs.Common.{◌≡◌, ℕ, zero, suc, ◌+◌, ◌<◌, Bool, true, false, List, [], ◌∷◌, length, take, drop, refl, ap, sym, ◌∙◌, arith, ⊎_elim}
+use Rattle.std.proofs.Common.{◌≡◌, ℕ, zero, suc, ◌+◌, ◌<◌, true, false, List, [], ◌∷◌, length, take, drop, refl, ap, sym, ◌∙◌, arith, ⊎_elim}
 use Rattle.std.proofs.Math.Numerals.{one-add}
 use Rattle.std.specs.List.{position_or_len}
 use Rattle.std.proofs.lemmas.Bool.{cases_Bool}
 use Rattle.std.proofs.lemmas.List.{drop-drop}
 use Rattle.edge_reader.specs.Lines.{is_line_end, lines_of, join_line, without_return, entry_of_line, entry_of_numbers, weight_of, is_comment}
 use Rattle.edge_reader.specs.Words.{words_of, number_of}
-use Rattle.edge_reader.specs.declared.entry.Entry.TheVariants.{Skipped}
 
 -- the first line and the others
 pub lines_first : (c : ℕ) (cs : List ℕ) → lines_of (c ∷ cs) ≡ take (position_or_len is_line_end (c ∷ cs)) (c ∷ cs) ∷ lines_of (drop (suc (position_or_len is_line_end (c ∷ cs))) (c ∷ cs))
@@ -43,9 +42,6 @@ lines_last s n some e none =
     let same : drop 1 (drop n s) ≡ drop n s = ap (drop 1) empty ∙ (drop-nil 1 ∙ sym empty) in
     lines_next s n some e ∙ ap (λ q. take n s ∷ lines_of q) same
 
--- what a line of four words or fewer says
-pub line_skipped : (line text : List ℕ) → text ≡ without_return line → words_of text ≡ [] → entry_of_line line ≡ Skipped
-line_skipped line text e none = rw (sym e, none) refl
-
+-- what a line of three words says
 pub line_three : (line text from to last a b c : List ℕ) → text ≡ without_return line → words_of text ≡ from ∷ words_of a → is_comment from ≡ false → words_of a ≡ to ∷ words_of b → words_of b ≡ last ∷ words_of c → words_of c ≡ [] → entry_of_line line ≡ entry_of_numbers (number_of from) (number_of to) (weight_of last)
 line_three line text from to last a b c e first plain second third none = rw (sym e, first, second, third, none, plain) refl

@@ -15,7 +15,7 @@ abbrev pub limit_of : Option ℕ → ℕ
 limit_of None = VERTICES
 limit_of (Some vertices) = vertices
 
--- the code of an id that isn't
+-- the code of an id that isn't below it
 abbrev pub limit_code : Option ℕ → ℕ
 limit_code None = 4
 limit_code (Some vertices) = 3
@@ -27,7 +27,8 @@ edges_of both Malformed = []
 edges_of both TooLarge = []
 edges_of both (Read edge) = edge ∷ (if both then reversed edge ∷ [] else [])
 
--- the least code that refuses an entry after `count` edges, where one does
+-- the least code that refuses an entry after `count` edges, where one does:
+-- 1 no two or three numbers, 2 a number too large, 3 and 4 an id too large for the graph, 5 too many edges
 abbrev pub code_of : Option ℕ → Bool → ℕ → Entry → Option ℕ
 code_of given both count Skipped = None
 code_of given both count Malformed = Some 1

@@ -1,7 +1,6 @@
 -- What a line of an edge file says.
 use Rattle.std.specs.Prelude.{◌==◌, ℕ, ◌-◌, nat_lt, Bool, true, false, ◌||◌, if◌then◌else◌, List, [], ◌∷◌, length, slice_index, take, min, Option, Some, None, ℤ, pos, neg_ℤ}
 use Rattle.std.specs.Option.{option_map}
-use Rattle.vert_base.specs.declared.graph.VertexId.{VertexId}
 use Rattle.edge_reader.specs.declared.entry.Entry.{Entry}
 use Rattle.edge_reader.specs.declared.entry.Entry.TheVariants.{Skipped, Malformed, TooLarge, Read}
 use Rattle.edge_reader.specs.declared.entry.Weight.{Weight}
@@ -32,7 +31,7 @@ weight_of (byte ∷ word) =
     if byte == 45 then option_map (λ size. record { negative = true; size = size }) (number_of word)
     else option_map (λ size. record { negative = false; size = size }) (number_of (byte ∷ word))
 
--- the weight with a size of at most `most`
+-- a weight with its size cut down to `most` where it is larger
 abbrev pub capped : ℕ → Weight → Weight
 capped most weight = record { negative = weight.negative; size = min weight.size most }
 
@@ -44,13 +43,13 @@ one = record { negative = false; size = 1 }
 abbrev pub signed : Weight → ℤ
 signed weight = if weight.negative then neg_ℤ (pos weight.size) else pos weight.size
 
--- an edge from and to these vertices, where the ids are below 2^32 and the weight is from -2^31 to 2^31 - 1
+-- the edge of these numbers, where the ids are below 2^32 and the weight is from -2^31 to 2^31 - 1
 abbrev pub edge_of : ℕ → ℕ → Weight → Entry
 edge_of from to weight =
     if nat_lt 4294967295 from || nat_lt 4294967295 to || nat_lt (if weight.negative then 2147483648 else 2147483647) weight.size then TooLarge
     else Read (record { from = record { 0 = from }; to = record { 0 = to }; weight = signed weight })
 
--- an edge by what its words say
+-- the edge of these numbers, where each is one
 abbrev pub entry_of_numbers : Option ℕ → Option ℕ → Option Weight → Entry
 entry_of_numbers (Some from) (Some to) (Some weight) = edge_of from to weight
 entry_of_numbers (Some from) (Some to) None = Malformed

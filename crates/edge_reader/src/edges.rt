@@ -1,15 +1,15 @@
 ghost use Rattle.std.specs.Prelude.{◌≤◌, length};
+ghost use Rattle.vert_base.specs.declared.limits.TheConstants.{EDGES, VERTICES};
 ghost use Rattle.edge_reader.specs.EdgeList.{AreBelow};
 
 use vert_base::Edge;
-use vert_base::limits::{EDGES, VERTICES};
 
 /// The edges of a file by file place, and how many vertices there are.
-#[derive(Debug, Drop)]
+#[derive(Drop)]
 pub struct Edges {
     pub vertices: u32,
     pub list: Vec<Edge>,
-    pub ghost few: { length list.items ≤ 8388608 },
-    pub ghost within: { vertices ≤ 2097152 },
+    pub ghost few: { length list.items ≤ EDGES },
+    pub ghost within: { vertices ≤ VERTICES },
     pub ghost below: { AreBelow vertices list.items },
 }

@@ -4,7 +4,7 @@ ghost use Rattle.edge_reader.specs.Lines.{edge_of, entry_of_numbers};
 use vert_base::{Edge, VertexId};
 
 /// What a part of a file says: nothing, no edge, an edge whose numbers are too large, or an edge.
-#[derive(Clone, Copy, Debug)]
+#[derive(Clone, Copy)]
 pub enum Entry {
     Skipped,
     Malformed,
@@ -13,7 +13,7 @@ pub enum Entry {
 }
 
 /// A weight as it is written, of any size.
-#[derive(Clone, Copy, Debug)]
+#[derive(Clone, Copy)]
 pub struct Weight {
     pub negative: bool,
     pub size: u64,
@@ -41,20 +41,16 @@ impl Entry {
     fn from_edge(from: u64, to: u64, weight: Weight) -> Entry
         ensures { result ≡ edge_of from to weight }
     {
-        if from > 4_294_967_295 || to > 4_294_967_295 {
+        let most = if weight.negative {
+            2_147_483_648
+        } else {
+            2_147_483_647
+        };
+        if from > 4_294_967_295 || to > 4_294_967_295 || weight.size > most {
             return Entry::TooLarge;
         }
-        let weight = if weight.negative {
-            if weight.size > 2_147_483_648 {
-                return Entry::TooLarge;
-            }
-            -(weight.size as i64)
-        } else {
-            if weight.size > 2_147_483_647 {
-                return Entry::TooLarge;
-            }
-            weight.size as i64
-        };
+        let size = weight.size as i64;
+        let weight = if weight.negative { -size } else { size };
         Entry::Read(Edge {
             from: VertexId(from as u32),
             to: VertexId(to as u32),

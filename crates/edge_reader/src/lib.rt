@@ -11,3 +11,6 @@ mod words;
 pub use edges::Edges;
 pub use fault::EdgeFault;
 pub use text::read_text;
+
+#[cfg(test)]
+mod tests;

@@ -55,20 +55,14 @@ fn weight(word: &[u8]) -> Option<Weight>
     ensures { result ≡ option_map (capped HUGE) (weight_of word.now) }
 {
     match word {
-        [b'-', digits @ ..] => match number(digits) {
-            Some(size) => Some(Weight {
-                negative: true,
-                size,
-            }),
-            None => None,
-        },
-        _ => match number(word) {
-            Some(size) => Some(Weight {
-                negative: false,
-                size,
-            }),
-            None => None,
-        },
+        [b'-', digits @ ..] => number(digits).map(|size| Weight {
+            negative: true,
+            size,
+        }),
+        _ => number(word).map(|size| Weight {
+            negative: false,
+            size,
+        }),
     }
 }
 

@@ -69,7 +69,7 @@ fn bound(edges: &[Edge]) -> u32
 }
 
 /// How many vertices there are.
-fn size(edges: &[Edge], vertices: Option<u32>) -> u32
+fn vertex_count(edges: &[Edge], vertices: Option<u32>) -> u32
     requires below { AreBelow (limit_of vertices) edges.now }
     requires given { ForSome vertices (λ n. n ≤ VERTICES) }
     ensures value { result ≡ vertices_of vertices edges.now }
@@ -111,6 +111,6 @@ pub fn read_text(
         rest = after;
         number += 1;
     }
-    let vertices = size(&list, vertices);
+    let vertices = vertex_count(&list, vertices);
     Ok(Edges { vertices, list })
 }

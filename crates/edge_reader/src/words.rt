@@ -6,6 +6,7 @@ ghost use Rattle.edge_reader.specs.Words.{is_blank, is_word_byte, words_of, numb
 /// Above every number that a file may hold. Larger ones are read as this one.
 pub const HUGE: u64 = 1 << 40;
 
+/// A space or a tab.
 #[inline]
 fn blank(byte: u8) -> bool
     ensures { result ≡ is_blank byte }
@@ -59,7 +60,7 @@ pub fn number(word: &[u8]) -> Option<u64>
     }
     let mut value = 0u64;
     for byte in word {
-        if *byte < b'0' || *byte > b'9' {
+        if !byte.is_ascii_digit() {
             return None;
         }
         value = (value * 10 + u64::from(*byte - b'0')).min(HUGE);

@@ -1,6 +1,8 @@
 -- Combining goes by parts, and for all kinds but `First` in any order.
-use Rattle.std.proofs.Common.{◌≡◌, ◌≢◌, ℕ, ℤ, ◌+ℤ◌, List, [], ◌∷◌, ◌++◌, map, fold, refl, sym, ap, ◌∙◌, arith, w64, Bool, true, false, true≢false, Option, Some, None, pos}
-use Rattle.std.specs.Int.{int_wrap, int_min, int_max}
+use Rattle.std.proofs.Common.{◌≡◌, ◌≢◌, ℤ, ◌+ℤ◌, List, [], ◌∷◌, ◌++◌, fold, refl, sym, ap, ◌∙◌, arith, w64, Bool, true, false, true≢false, Option, Some, None}
+use Rattle.std.specs.Int.{int_wrap}
+use Rattle.std.specs.List.{flat_map}
+use Rattle.std.specs.Option.{option_to_list}
 use Rattle.std.proofs.lemmas.Int.{ints, clamps, int_wrap-add_left, int_wrap-add_right}
 use Rattle.std.proofs.lemmas.List.Sums.{fold-append}
 use Rattle.vert_base.specs.declared.value.Combine.{Combine}
@@ -57,6 +59,37 @@ pub joined-comm : (op : Combine) → op ≢ First → (x y : ℤ) (o : Option �
 joined-comm op other x y None = ap (λ w. Some w) (combined_of-comm op other x y)
 joined-comm op other x y (Some z) =
     ap (λ w. Some w) (sym (combined_of-assoc op x y z) ∙ ap (λ w. combined_of op w z) (combined_of-comm op other x y) ∙ combined_of-assoc op y x z)
+
+-- what two lists of words are combined to, given what each one is
+abbrev pub both_of : Combine → Option ℤ → Option ℤ → Option ℤ
+both_of op None o = o
+both_of op (Some x) o = joined op x o
+
+joined-both : (op : Combine) (x : ℤ) (o q : Option ℤ) → joined op x (both_of op o q) ≡ both_of op (joined op x o) q
+joined-both op x None q = refl
+joined-both op x (Some y) None = refl
+joined-both op x (Some y) (Some z) = ap (λ w. Some w) (sym (combined_of-assoc op x y z))
+
+pub combined-append : (op : Combine) (xs ys : List ℤ) → combined op (xs ++ ys) ≡ both_of op (combined op xs) (combined op ys)
+combined-append op [] ys = refl
+combined-append op (x ∷ xs) ys =
+    combined-cons op x (xs ++ ys)
+    ∙ ap (joined op x) (combined-append op xs ys)
+    ∙ joined-both op x (combined op xs) (combined op ys)
+    ∙ sym (ap (λ o. both_of op o (combined op ys)) (combined-cons op x xs))
+
+combined-word : (op : Combine) (xs : List ℤ) → combined op (option_to_list (combined op xs)) ≡ combined op xs
+combined-word op [] = refl
+combined-word op (x ∷ xs) = refl
+
+-- words may be combined in parts, and then the parts in their order
+pub combined-parts : {X : Type 0} (op : Combine) (f : X → List ℤ) (parts : List X) → combined op (flat_map (λ part. option_to_list (combined op (f part))) parts) ≡ combined op (flat_map f parts)
+combined-parts op f [] = refl
+combined-parts op f (part ∷ parts) =
+    combined-append op (option_to_list (combined op (f part))) (flat_map (λ p. option_to_list (combined op (f p))) parts)
+    ∙ ap (λ o. both_of op o (combined op (flat_map (λ p. option_to_list (combined op (f p))) parts))) (combined-word op (f part))
+    ∙ ap (both_of op (combined op (f part))) (combined-parts op f parts)
+    ∙ sym (combined-append op (f part) (flat_map f parts))
 
 -- what a total begins with changes nothing
 neutral-twice : (op : Combine) → combined_of op (neutral op) (neutral op) ≡ neutral op

@@ -4,3 +4,4 @@ pub mod MergeOrders
 pub mod OrderLaws
 pub mod PartialLaws
 pub mod Permutations
+pub mod SlotLaws

@@ -17,10 +17,6 @@ partial op key value = record { op = op; key = key; value = value }
 
 -- a word keeps the kind
 
-op-cases : (key : ℕ) (x : ℤ) (p : Partial) (b : Bool) → (cond b (holding First key x) (holding First p.key x)).op ≡ First
-op-cases key x p true = refl
-op-cases key x p false = refl
-
 op-First : (w v : Keyed) (b : Bool) → (cond b (hold v) (hold w)).op ≡ First
 op-First w v true = refl
 op-First w v false = refl

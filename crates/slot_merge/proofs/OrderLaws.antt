@@ -1,5 +1,5 @@
 -- Words by ascending key, equal keys by turn: what a further word changes.
-use Rattle.std.proofs.Common.{◌≡◌, ℕ, ℤ, zero, suc, ◌+◌, ◌<◌, ◌≤◌, max, List, [], ◌∷◌, ◌++◌, map, filter, cond, refl, sym, ap, ◌∙◌, ⊎_elim, arith, append_assoc, nat_le, ◌==◌}
+use Rattle.std.proofs.Common.{◌≡◌, ℕ, ℤ, zero, suc, ◌<◌, ◌≤◌, List, [], ◌∷◌, ◌++◌, map, filter, cond, refl, sym, ap, ◌∙◌, ⊎_elim, arith, append_assoc, nat_le, ◌==◌}
 use Rattle.std.proofs.lemmas.Bool.{cases_lt, cases_eq, eq-eqb, ne_eqb, le-leb, leb-true, false_from_ne_true}
 use Rattle.vert_base.specs.Neighbours.{in_order}
 use Rattle.slot_merge.specs.Partials.{above, ordered}
@@ -48,10 +48,10 @@ placed-past_under : (m : ℕ) (w : Keyed) (ws more : List Keyed) → m < w.0 →
 placed-past_under m w [] more h = refl
 placed-past_under m w (v ∷ vs) more h = ⊎_elim
     (λ e.
-      ap (λ l. placed w (l ++ more)) (under-here m v vs e)
-      ∙ placed-behind w v (under m vs ++ more) (omega arith)
-      ∙ ap (λ l. v ∷ l) (placed-past_under m w vs more h)
-      ∙ ap (λ l. l ++ placed w more) (sym (under-here m v vs e)))
+    ap (λ l. placed w (l ++ more)) (under-here m v vs e)
+    ∙ placed-behind w v (under m vs ++ more) (omega arith)
+    ∙ ap (λ l. v ∷ l) (placed-past_under m w vs more h)
+    ∙ ap (λ l. l ++ placed w more) (sym (under-here m v vs e)))
     (λ n. ap (λ l. placed w (l ++ more)) (under-other m v vs n) ∙ placed-past_under m w vs more h ∙ ap (λ l. l ++ placed w more) (sym (under-other m v vs n)))
     (cases_eq v.0 m)
 
@@ -68,9 +68,9 @@ placed-more : (m : ℕ) (w : Keyed) (ls ws : List Keyed) → w.0 ≤ m → place
 placed-more m w [] ws h = sym (placed-under m w ws h)
 placed-more m w (v ∷ vs) ws h = ⊎_elim
     (λ lt.
-      ap (λ l. l ++ under m ws) (placed-behind w v vs lt)
-      ∙ ap (λ l. v ∷ l) (placed-more m w vs ws h)
-      ∙ sym (placed-behind w v (vs ++ under m ws) lt))
+    ap (λ l. l ++ under m ws) (placed-behind w v vs lt)
+    ∙ ap (λ l. v ∷ l) (placed-more m w vs ws h)
+    ∙ sym (placed-behind w v (vs ++ under m ws) lt))
     (λ le. ap (λ l. l ++ under m ws) (placed-before w v vs le) ∙ sym (placed-before w v (vs ++ under m ws) le))
     (cases_lt v.0 w.0)
 
@@ -84,13 +84,13 @@ in_order-placed : (n : ℕ) (w : Keyed) (ws : List Keyed) → w.0 < n → in_ord
 in_order-placed zero w ws h = absurd (omega arith)
 in_order-placed (suc m) w ws h = ⊎_elim
     (λ e.
-      ap (λ l. l ++ under m (w ∷ ws)) (in_order-skip m w ws (omega arith))
-      ∙ ap (λ l. in_order key_of m ws ++ l) (under-here m w ws e ∙ sym (placed-under m w ws (omega arith)))
-      ∙ sym (placed-past m w ws (under m ws) (omega arith)))
+    ap (λ l. l ++ under m (w ∷ ws)) (in_order-skip m w ws (omega arith))
+    ∙ ap (λ l. in_order key_of m ws ++ l) (under-here m w ws e ∙ sym (placed-under m w ws (omega arith)))
+    ∙ sym (placed-past m w ws (under m ws) (omega arith)))
     (λ n.
-      ap (λ l. l ++ under m (w ∷ ws)) (in_order-placed m w ws (omega arith))
-      ∙ ap (λ l. placed w (in_order key_of m ws) ++ l) (under-other m w ws n)
-      ∙ placed-more m w (in_order key_of m ws) ws (omega arith))
+    ap (λ l. l ++ under m (w ∷ ws)) (in_order-placed m w ws (omega arith))
+    ∙ ap (λ l. placed w (in_order key_of m ws) ++ l) (under-other m w ws n)
+    ∙ placed-more m w (in_order key_of m ws) ws (omega arith))
     (cases_eq w.0 m)
 
 in_order-nil : (n : ℕ) → in_order key_of n [] ≡ []

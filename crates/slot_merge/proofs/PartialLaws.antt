@@ -1,13 +1,13 @@
 -- What a partial holds after words and after other partials.
-use Rattle.std.proofs.Common.{◌≡◌, ◌≢◌, ℕ, ℤ, ◌<◌, ◌≤◌, List, [], ◌∷◌, ◌++◌, map, fold, cond, refl, sym, ap, ◌∙◌, ⊎_elim, arith, Bool, true, false, Option, Some, None, nat_lt, nat_le}
+use Rattle.std.proofs.Common.{◌≡◌, ◌≢◌, ℕ, ℤ, ◌<◌, ◌≤◌, List, [], ◌∷◌, map, fold, cond, refl, sym, ap, ◌∙◌, ⊎_elim, arith, Bool, true, false, Some, nat_lt, nat_le}
 use Rattle.std.proofs.lemmas.Bool.{cases_lt, lt-ltb, le-ltb, le-leb, leb-true, false_from_ne_true}
 use Rattle.vert_base.specs.declared.value.Combine.{Combine}
 use Rattle.vert_base.specs.declared.value.Combine.TheVariants.{Min, Max, Sum, First}
 use Rattle.slot_merge.specs.declared.partial.Partial.{Partial}
 use Rattle.slot_merge.specs.Combine.{combined_of, combined}
-use Rattle.slot_merge.specs.Partials.{empty_partial, keyed, with_word, with_words, with_partial, ordered}
+use Rattle.slot_merge.specs.Partials.{with_word, with_words, ordered}
 use Rattle.slot_merge.specs.Laws.{partial_of}
-use Rattle.slot_merge.proofs.CombineLaws.{combined_of-assoc, combined_of-comm, combined-cons, joined, joined-comm, Min≢First, Max≢First, Sum≢First}
+use Rattle.slot_merge.proofs.CombineLaws.{combined-cons, joined, joined-comm, Min≢First, Max≢First, Sum≢First}
 use Rattle.slot_merge.proofs.OrderLaws.{Keyed, placed, placed-before, placed-behind, by_key, ordered-by_key}
 
 -- a partial with a value
@@ -70,17 +70,17 @@ nearer-same w v h = ap (λ b. cond b v w) (le-ltb v.0 w.0 h)
 pub nearer-assoc : (u v w : Keyed) → nearer u (nearer v w) ≡ nearer (nearer u v) w
 nearer-assoc u v w = ⊎_elim
     (λ near.
-      ⊎_elim
-      (λ last. ap (nearer u) (nearer-next v w last) ∙ nearer-next u w (omega arith) ∙ sym (nearer-next v w last))
-      (λ more. ap (nearer u) (nearer-same v w more) ∙ nearer-next u v near ∙ sym (nearer-same v w more))
-      (cases_lt w.0 v.0)
-      ∙ ap (λ x. nearer x w) (sym (nearer-next u v near)))
+    ⊎_elim
+    (λ last. ap (nearer u) (nearer-next v w last) ∙ nearer-next u w (omega arith) ∙ sym (nearer-next v w last))
+    (λ more. ap (nearer u) (nearer-same v w more) ∙ nearer-next u v near ∙ sym (nearer-same v w more))
+    (cases_lt w.0 v.0)
+    ∙ ap (λ x. nearer x w) (sym (nearer-next u v near)))
     (λ far.
-      ⊎_elim
-      (λ last. ap (nearer u) (nearer-next v w last))
-      (λ more. ap (nearer u) (nearer-same v w more) ∙ nearer-same u v far ∙ sym (nearer-same u w (omega arith)))
-      (cases_lt w.0 v.0)
-      ∙ ap (λ x. nearer x w) (sym (nearer-same u v far)))
+    ⊎_elim
+    (λ last. ap (nearer u) (nearer-next v w last))
+    (λ more. ap (nearer u) (nearer-same v w more) ∙ nearer-same u v far ∙ sym (nearer-same u w (omega arith)))
+    (cases_lt w.0 v.0)
+    ∙ ap (λ x. nearer x w) (sym (nearer-same u v far)))
     (cases_lt v.0 u.0)
 
 pub nearer-comm : (w v : Keyed) → w.0 ≢ v.0 → nearer w v ≡ nearer v w
@@ -118,17 +118,17 @@ front-nearer w v [] = ⊎_elim
     (cases_lt v.0 w.0)
 front-nearer w v (u ∷ us) = ⊎_elim
     (λ up.
-      ⊎_elim
-      (λ h. ap (λ x. front x (u ∷ us)) (nearer-next w v h) ∙ front-behind v u us up ∙ sym (front-behind w u (placed v us) (omega arith)))
-      (λ h. ap (λ x. front x (u ∷ us)) (nearer-same w v h))
-      (cases_lt v.0 w.0)
-      ∙ ap (front w) (sym (placed-behind v u us up)))
+    ⊎_elim
+    (λ h. ap (λ x. front x (u ∷ us)) (nearer-next w v h) ∙ front-behind v u us up ∙ sym (front-behind w u (placed v us) (omega arith)))
+    (λ h. ap (λ x. front x (u ∷ us)) (nearer-same w v h))
+    (cases_lt v.0 w.0)
+    ∙ ap (front w) (sym (placed-behind v u us up)))
     (λ down.
-      ⊎_elim
-      (λ h. ap (λ x. front x (u ∷ us)) (nearer-next w v h) ∙ front-before v u us down ∙ sym (front-behind w v (u ∷ us) h))
-      (λ h. ap (λ x. front x (u ∷ us)) (nearer-same w v h) ∙ front-before w u us (omega arith) ∙ sym (front-before w v (u ∷ us) h))
-      (cases_lt v.0 w.0)
-      ∙ ap (front w) (sym (placed-before v u us down)))
+    ⊎_elim
+    (λ h. ap (λ x. front x (u ∷ us)) (nearer-next w v h) ∙ front-before v u us down ∙ sym (front-behind w v (u ∷ us) h))
+    (λ h. ap (λ x. front x (u ∷ us)) (nearer-same w v h) ∙ front-before w u us (omega arith) ∙ sym (front-before w v (u ∷ us) h))
+    (cases_lt v.0 w.0)
+    ∙ ap (front w) (sym (placed-before v u us down)))
     (cases_lt u.0 v.0)
 
 least-front : (w : Keyed) (ws : List Keyed) → least w ws ≡ front w (by_key ws)

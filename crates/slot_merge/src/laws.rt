@@ -6,5 +6,4 @@ pub fn merging()
     ensures joined { MergedIsJoined }
     ensures either_way { MergedEitherWay }
     ensures any_order { MergedInAnyOrder }
-{
-}
+{}

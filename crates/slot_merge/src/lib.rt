@@ -6,3 +6,6 @@ mod partial;
 
 pub use laws::merging;
 pub use partial::{Emits, Partial};
+
+#[cfg(test)]
+mod tests;

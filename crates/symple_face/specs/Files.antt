@@ -1,5 +1,5 @@
 -- The files of a shelf.
-use Rattle.std.specs.Prelude.{◌≡◌, ◌≢◌, ℕ, List, [], ◌∷◌, Option, Some, None, bytes_eq, if◌then◌else◌, ⊤}
+use Rattle.std.specs.Prelude.{◌≡◌, ◌≢◌, ℕ, List, [], ◌∷◌, Option, Some, None, Bool, true, ◌&&◌, is_none, bytes_eq, if◌then◌else◌, ⊤, map, String, Vec, string_bytes}
 
 pub record File : Type 0 where
   pub name : List ℕ
@@ -23,3 +23,12 @@ SameBut name None None = ⊤
 SameBut name None (Some new) = ⊥
 SameBut name (Some old) None = ⊥
 SameBut name (Some old) (Some new) = (other : List ℕ) → other ≢ name → file_named other new ≡ file_named other old
+
+-- a list of names and contents, as files
+abbrev pub files_of : {Z : Type 0} → List (String Z × Vec ℕ Z) → List File
+files_of pairs = map (λ pair. record { name = string_bytes pair.0; bytes = pair.1.items }) pairs
+
+-- no name stands twice
+abbrev pub names_differ : List File → Bool
+names_differ [] = true
+names_differ (file ∷ files) = is_none (file_named file.name files) && names_differ files

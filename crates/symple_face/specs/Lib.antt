@@ -3,3 +3,5 @@ pub mod Calls
 pub mod Causes
 pub mod Files
 pub mod Room
+pub mod Pieces
+pub mod Shelves

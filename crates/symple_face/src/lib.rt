@@ -3,15 +3,24 @@
 #![tactic(auto)]
 
 mod calls;
+mod files;
+mod mem_source;
+mod pieces;
 mod report;
 mod room;
 mod shelf;
+mod shelves;
 mod sink;
 mod sinks;
 mod source;
 
+pub use mem_source::MemSource;
 pub use report::Report;
 pub use shelf::{LoadFault, Shelf, StoreFault};
+pub use shelves::{FirmShelf, MemShelf};
 pub use sink::{Sink, SinkFault};
 pub use sinks::{DripSink, FirmSink, MemSink};
 pub use source::{Source, SourceFault};
+
+#[cfg(test)]
+mod tests;

@@ -1,2 +1,3 @@
+pub mod FrameLaws
 mod Quotients
 pub mod RunLaws

@@ -8,7 +8,7 @@ use Rattle.slot_merge.specs.Combine.{Emission}
 use Rattle.vert_eval.specs.declared.environment.Env.{Env}
 use Rattle.vert_eval.specs.declared.environment.Flow.{Flow}
 use Rattle.vert_eval.specs.declared.environment.Flow.TheVariants.{Going, Broke}
-use Rattle.vert_eval.specs.Runs.{Act, Ran, after, by_flow, followed_by, in_turn, leaves}
+use Rattle.vert_eval.specs.Runs.{Act, Ran, after, by_flow, followed_by, in_turn}
 use Rattle.vert_eval.specs.Rounds.{Scene, loop, member_act}
 
 -- what follows a run that goes on, and one that broke

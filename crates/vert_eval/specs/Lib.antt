@@ -1,3 +1,4 @@
+pub mod Frames
 pub mod Rounds
 pub mod Runs
 pub mod SourceRun

@@ -1,5 +1,5 @@
 -- A round: what each vertex gathers from its neighbours, and its row after the update.
-use Rattle.std.specs.Prelude.{◌==◌, ℕ, ℤ, pos, ◌+◌, ◌&&◌, false, List, [], ◌∷◌, ◌++◌, length, map, filter, sum, Option, Some, None, slice_index_or, if◌then◌else◌}
+use Rattle.std.specs.Prelude.{◌==◌, ℕ, ℤ, pos, ◌&&◌, false, List, [], ◌∷◌, ◌++◌, length, map, filter, Option, Some, None, slice_index_or, if◌then◌else◌}
 use Rattle.std.specs.List.{flat_map, range_with_len}
 use Rattle.vert_base.specs.declared.graph.Edge.{Edge}
 use Rattle.vert_base.specs.declared.graph.Neighbour.{Neighbour}

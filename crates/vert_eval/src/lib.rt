@@ -4,10 +4,12 @@
 
 mod cells;
 mod environment;
+#[cfg(test)]
+mod tests;
 mod value;
 mod words;
 
 pub use cells::{put, word_in};
 pub use environment::{Env, Flow};
-pub use value::eval;
+pub use value::{builtin_word, eval, other_word};
 pub use words::{apply, assign, negated, truth, word};

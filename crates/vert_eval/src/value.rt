@@ -52,7 +52,8 @@ pub fn eval(e: &Expr, env: &Env) -> i64
     }
 }
 
-fn builtin_word(what: Builtin, env: &Env) -> i64
+/// The value of a word of the language at the vertex.
+pub fn builtin_word(what: Builtin, env: &Env) -> i64
     ensures { result ≡ builtin what env.now }
 {
     match what {
@@ -66,7 +67,8 @@ fn builtin_word(what: Builtin, env: &Env) -> i64
     }
 }
 
-fn other_word(what: Builtin, env: &Env) -> i64
+/// The value of a word of the language behind `u.`, which is 0 for those that do not stand there.
+pub fn other_word(what: Builtin, env: &Env) -> i64
     ensures { result ≡ other_builtin what env.now }
 {
     match what {

@@ -52,7 +52,7 @@ tokens_at false zero s (b ∷ bs) =
     if is_blank b then tokens_at false 0 (after s b) bs
     else (if is_comment b bs then tokens_at true 0 (after s b) bs
     else (let n = longest (length (b ∷ bs)) (b ∷ bs) in
-        followed s (judged s (kind_of (take n (b ∷ bs)))) (tokens_at false (pred n) (after s b) bs)))
+    followed s (judged s (kind_of (take n (b ∷ bs)))) (tokens_at false (pred n) (after s b) bs)))
 
 -- the tokens of a text, or its first fault
 abbrev pub tokens_of : List ℕ → Result (List Placed) LexFault

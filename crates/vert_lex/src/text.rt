@@ -2,15 +2,14 @@ ghost use Rattle.std.specs.Prelude.{◌≡◌, ◌≢◌, ◌≤◌, length, IfO
 ghost use Rattle.vert_lex.specs.Text.{origin, through, tokens_of};
 ghost use Rattle.vert_lex.specs.View.{plain_tokens};
 
-use std::alloc::Global;
-use vert_base::Span;
-use vert_base::limits::PROGRAM_BYTES;
-
 use crate::bytes::{front, skip};
 use crate::kind::kind_of;
 use crate::length::{gap_length, token_length};
 use crate::place::through;
 use crate::token::{LexFault, Token};
+use std::alloc::Global;
+use vert_base::Span;
+use vert_base::limits::PROGRAM_BYTES;
 
 /// The place of the first byte.
 const ORIGIN: Span = Span {

@@ -1,7 +1,6 @@
-use Rattle.std.proofs.Common.{◌≡◌, ◌<◌, ◌∙◌, ap, sym, arith, refl, take, drop, length, ◌-◌, ◌∷◌}
+use Rattle.std.proofs.Common.{◌≡◌, ◌<◌, arith, drop, length}
 use Rattle.std.proofs.lemmas.Grind.{common_steps}
 use Rattle.std.proofs.lemmas.List.{take_rest}
-use Rattle.edge_reader.specs.Lines.{lines_of}
 use Rattle.edge_reader.proofs.LineLaws.{lines_next, lines_last}
 use Rattle.edge_reader.proofs.line.next_line.Goals as goal
 

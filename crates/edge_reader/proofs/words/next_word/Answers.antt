@@ -1,7 +1,6 @@
-use Rattle.std.proofs.Common.{◌≡◌, ◌<◌, ◌∙◌, ap, sym, arith, refl, take, drop, length, ◌-◌, ◌∷◌}
+use Rattle.std.proofs.Common.{◌≡◌, ◌<◌, arith, take, drop, length, ◌-◌}
 use Rattle.std.proofs.lemmas.Grind.{common_steps}
 use Rattle.std.proofs.lemmas.List.{take_rest}
-use Rattle.edge_reader.specs.Words.{words_of}
 use Rattle.edge_reader.proofs.WordLaws.{words_next, words_none}
 use Rattle.edge_reader.proofs.words.next_word.Goals as goal
 

@@ -1,0 +1,9 @@
+pub mod BlockLaws
+pub mod EnvLaws
+pub mod GraphLaws
+pub mod MemberLaws
+pub mod ReadLaws
+pub mod RunLaws
+pub mod SlotLaws
+pub mod TurnLaws
+pub mod TypedLaws

@@ -1,0 +1,15 @@
+use Rattle.std.proofs.Common.{map, ap, ◌∙◌}
+use Rattle.slot_merge.specs.Partials.{empty_partial, with_emissions}
+use Rattle.slot_merge.proofs.SlotLaws.{slot_values_are}
+use Rattle.vert_eval.specs.Rounds.{gathered, slot_ops}
+use Rattle.plain_run.specs.Views.{program_of, scene_of}
+use Rattle.plain_run.proofs.round.gather.Goals as goal
+
+pub returns-clause-values : goal.returns-clause-values
+returns-clause-values c =
+    let program = program_of c.args.scene.now in
+    let emitted = (gathered program c.args.ruling (scene_of c.args.scene.now) c.args.v).emitted in
+    let empty = c.no_emits-emits.ensures ∙ ap (λ l. map empty_partial (map (λ s. s.op) l)) c.deref.ensures.value in
+    c.values_of.ensures
+    ∙ ap (map (λ p. p.value)) (c.emit_at-read.ensures.emits ∙ ap (λ ps. with_emissions 0 ps emitted) empty)
+    ∙ slot_values_are 0 (slot_ops program) emitted

@@ -1,0 +1,39 @@
+-- What the code holds, in the words of the meaning.
+use Rattle.std.specs.Prelude.{◌≡◌, ◌≤◌, ℕ, List, length, All}
+use Rattle.vert_base.specs.declared.value.Row.{Row}
+use Rattle.vert_tree.specs.declared.program.Program.{Program}
+use Rattle.vert_tree.specs.Places.{Counts, round_counts}
+use Rattle.vert_eval.specs.Rounds as meaning
+use Rattle.plain_run.specs.declared.graph.Graph.{Graph}
+use Rattle.plain_run.specs.declared.scene.Scene.{Scene}
+use Rattle.plain_run.specs.Lists.{plain_graph}
+
+abbrev pub graph_of : Graph → meaning.Graph
+graph_of g = plain_graph g.vertices g.ends.now g.edges.now
+
+abbrev pub scene_of : Scene → meaning.Scene
+scene_of s = record {
+  graph = graph_of s.graph.now;
+  draws = s.draws;
+  round = s.round;
+  rows = s.rows.now;
+  totals = s.totals.now;
+}
+
+abbrev pub program_of : Scene → Program
+program_of s = s.program.now.program
+
+-- the places for the expressions and blocks of a round
+abbrev pub counts_in : Scene → Counts
+counts_in s = round_counts (program_of s)
+
+-- each row has so many words
+abbrev pub AreWide : ℕ → List Row → Type 0
+AreWide fields rows = All (λ r. length r.words.items ≡ fields) rows
+
+-- what a round needs: of each vertex a row with a word for each field, and all totals
+pub record IsReady (s : Scene) : Type 0 where
+  pub rows : length s.rows.now ≡ s.graph.now.vertices
+  pub wide : AreWide (length (program_of s).fields.items) s.rows.now
+  pub totals : length s.totals.now ≡ length (program_of s).totals.items
+  pub round : s.round ≤ 10000

@@ -1,0 +1,97 @@
+//! A sparse round at a vertex.
+ghost use Rattle.std.specs.Prelude.{IsTrue, ◌≡◌, ◌<◌, ◌≤◌, length};
+ghost use Rattle.std.specs.List.{flat_map, list_all};
+ghost use Rattle.vert_base.specs.Neighbours.{source};
+ghost use Rattle.vert_tree.specs.Places.{expr_placed, sparse_placed};
+ghost use Rattle.slot_merge.specs.Partials.{with_emissions};
+ghost use Rattle.vert_eval.specs.Values.{CanDraw, counts_of};
+ghost use Rattle.vert_eval.specs.Rounds.{emitted_over, members_of, received, sender_at, sent_by, slot_ops};
+ghost use Rattle.plain_run.specs.Views.{IsReady, counts_in, graph_of, program_of, scene_of};
+
+use super::run::run_body;
+use super::scene::{Scene, enter, env_at};
+use super::slots::no_values;
+use arrayvec::ArrayVec;
+use slot_merge::Emits;
+use vert_base::Edge;
+use vert_eval::{Env, eval, truth};
+use vert_tree::Sparse;
+
+/// What the sends are at a sender.
+fn sends_of(sparse: &Sparse, sender: &Env) -> ArrayVec<i64, 8>
+    requires few { length sparse.now.sends.items ≤ 8 }
+    requires names { IsTrue (list_all (λ d. expr_placed (counts_of sender.now) d.value) sparse.now.sends.items) }
+    requires draws { CanDraw sender.now }
+    ensures { result.items ≡ sent_by sparse.now sender.now }
+{
+    let mut words = ArrayVec::new();
+    for decl in &sparse.sends {
+        words.push(eval(&decl.value, sender));
+    }
+    words
+}
+
+/// The environment of a vertex that has no values of the slots.
+pub(crate) fn bare_env(scene: &Scene, v: u32) -> Env
+    requires ready { IsReady scene.now }
+    requires inside { v < scene.now.graph.now.vertices }
+    ensures env { result ≡ sender_at (scene_of scene.now) (slot_ops (program_of scene.now)) v }
+    ensures counts { counts_of result ≡ counts_in scene.now }
+    ensures draws { CanDraw result }
+{
+    env_at(scene, v, no_values(&scene.program.program.slots))
+}
+
+/// Runs the body at a receiver, over what one member sends it.
+fn receive(scene: &Scene, sparse: &Sparse, v: u32, member: &Edge, sender: &Env, emits: &mut Emits)
+    requires ready { IsReady scene.now }
+    requires inside { v < scene.now.graph.now.vertices }
+    requires source { source member.now < scene.now.graph.now.vertices }
+    requires placed { IsTrue (sparse_placed (counts_in scene.now) sparse.now) }
+    requires few { length sparse.now.sends.items ≤ 8 }
+    requires counts { counts_of sender.now ≡ counts_in scene.now }
+    requires draws { CanDraw sender.now }
+    requires partials { length emits.old.slots.items ≡ length (program_of scene.now).slots.items }
+    ensures emits { let receiver = sender_at (scene_of scene.now) (slot_ops (program_of scene.now)) v in
+        emits.new.slots.items ≡ with_emissions 0 emits.old.slots.items (received (scene_of scene.now) sparse.now member.now sender.now receiver).emitted }
+    ensures partials { length emits.new.slots.items ≡ length emits.old.slots.items }
+{
+    let mut env = bare_env(scene, v);
+    enter(scene, member, &mut env);
+    env.sends = sends_of(sparse, sender);
+    run_body(&sparse.body, &mut env, emits);
+}
+
+/// Takes what one member sends, where that is active and its test is true.
+fn take_from(scene: &Scene, sparse: &Sparse, v: u32, member: &Edge, emits: &mut Emits)
+    requires ready { IsReady scene.now }
+    requires inside { v < scene.now.graph.now.vertices }
+    requires source { source member.now < scene.now.graph.now.vertices }
+    requires placed { IsTrue (sparse_placed (counts_in scene.now) sparse.now) }
+    requires few { length sparse.now.sends.items ≤ 8 }
+    requires partials { length emits.old.slots.items ≡ length (program_of scene.now).slots.items }
+    ensures emits { let receiver = sender_at (scene_of scene.now) (slot_ops (program_of scene.now)) v in
+        emits.new.slots.items ≡ with_emissions 0 emits.old.slots.items (emitted_over (scene_of scene.now) (slot_ops (program_of scene.now)) sparse.now receiver member.now) }
+    ensures partials { length emits.new.slots.items ≡ length emits.old.slots.items }
+{
+    let sender = bare_env(scene, member.from.0);
+    if sender.row.active && truth(eval(&sparse.when_test, &sender)) {
+        receive(scene, sparse, v, member, &sender, emits);
+    }
+}
+
+/// Takes what the members send, one after another.
+pub(crate) fn run_sparse(scene: &Scene, sparse: &Sparse, v: u32, emits: &mut Emits)
+    requires ready { IsReady scene.now }
+    requires inside { v < scene.now.graph.now.vertices }
+    requires placed { IsTrue (sparse_placed (counts_in scene.now) sparse.now) }
+    requires few { length sparse.now.sends.items ≤ 8 }
+    requires partials { length emits.old.slots.items ≡ length (program_of scene.now).slots.items }
+    ensures { let receiver = sender_at (scene_of scene.now) (slot_ops (program_of scene.now)) v in
+        emits.new.slots.items ≡ with_emissions 0 emits.old.slots.items
+            (flat_map (emitted_over (scene_of scene.now) (slot_ops (program_of scene.now)) sparse.now receiver) (members_of (graph_of scene.now.graph.now) v)) }
+{
+    for member in scene.graph.members_of(v) {
+        take_from(scene, sparse, v, member, emits);
+    }
+}
