@@ -1,6 +1,2 @@
-pub mod Answers
-pub mod Faults
 pub mod Lines
-pub mod Notes
 pub mod Reads
-pub mod Verdicts

@@ -1,7 +1,6 @@
 use std::alloc::Global;
 use std::env::FillError;
 use std::rt::Env;
-
 use vert_base::Want;
 
 /// The words behind the program's own name. One that isn't UTF-8 is the empty word, which no line

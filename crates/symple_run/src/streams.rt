@@ -1,6 +1,12 @@
-use std::io::{ErrorKind, Read, Write};
+ghost use Rattle.std.specs.Prelude.{◌≡◌, None};
 
+use crate::counts::one_more;
+use crate::pieces::{read_some, write_some};
+use std::io::{Read, Write};
 use symple_face::{Sink, SinkFault, Source, SourceFault};
+
+/// The most bytes that one read asks for.
+const PIECE: usize = 8_192;
 
 /// A stream of the system to read from. It counts its failures and tells nothing of contents.
 #[derive(Drop)]
@@ -11,7 +17,9 @@ pub struct InSource<R: Read + Drop> {
 
 impl<R: Read + Drop> InSource<R> {
     /// The stream behind this reader.
-    pub fn new(reader: R) -> Self {
+    pub fn new(reader: R) -> Self
+        ensures { result.faults ≡ 0 }
+    {
         InSource { reader, faults: 0 }
     }
 }
@@ -22,15 +30,18 @@ impl<R: Read + Drop> Source for InSource<R> {
     ghost faults = { λ source. source.faults };
 
     fn take(&mut self, into: &mut [u8]) -> Result<usize, SourceFault> {
-        for _ in 0..u64::MAX {
-            match self.reader.read(into) {
-                Ok(size) => return Ok(size),
-                Err(error) if error.kind() == ErrorKind::Interrupted => {}
-                Err(_) => break,
+        let mut piece = [0u8; PIECE];
+        let most = into.len().min(PIECE);
+        match read_some(&mut self.reader, &mut piece[..most]) {
+            Some(size) => {
+                into[..size].copy_from_slice(&piece[..size]);
+                Ok(size)
+            }
+            None => {
+                self.faults = one_more(self.faults);
+                Err(SourceFault)
             }
         }
-        self.faults = self.faults.saturating_add(1);
-        Err(SourceFault)
     }
 }
 
@@ -43,7 +54,9 @@ pub struct OutSink<W: Write + Drop> {
 
 impl<W: Write + Drop> OutSink<W> {
     /// The stream behind this writer.
-    pub fn new(writer: W) -> Self {
+    pub fn new(writer: W) -> Self
+        ensures { result.faults ≡ 0 }
+    {
         OutSink { writer, faults: 0 }
     }
 }
@@ -57,15 +70,12 @@ impl<W: Write + Drop> Sink for OutSink<W> {
         if bytes.is_empty() {
             return Ok(0);
         }
-        for _ in 0..u64::MAX {
-            match self.writer.write(bytes) {
-                Ok(0) => break,
-                Ok(size) => return Ok(size),
-                Err(error) if error.kind() == ErrorKind::Interrupted => {}
-                Err(_) => break,
+        match write_some(&mut self.writer, bytes) {
+            Some(size) => Ok(size),
+            None => {
+                self.faults = one_more(self.faults);
+                Err(SinkFault)
             }
         }
-        self.faults = self.faults.saturating_add(1);
-        Err(SinkFault)
     }
 }
