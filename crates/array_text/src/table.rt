@@ -46,13 +46,14 @@ pub fn write_row<O: Sink>(
 fn put_words<O: Sink>(fields: &[Decl], words: &[i64], out: &mut O) -> Result<(), SinkFault>
     ensures { Writes O.held O.faults O.spare out.old out.new (words_text fields.now words.now) result }
 {
-    match (fields, words) {
-        ([field, other_fields @ ..], [word, other_words @ ..]) => {
-            put_word(field.kind, *word, out)?;
-            put_words(other_fields, other_words, out)
-        }
-        _ => Ok(()),
-    }
+    let Some(field) = fields.first() else {
+        return Ok(());
+    };
+    let Some(word) = words.first() else {
+        return Ok(());
+    };
+    put_word(field.kind, *word, out)?;
+    put_words(&fields[1..], &words[1..], out)
 }
 
 fn put_word<O: Sink>(kind: ValueType, word: i64, out: &mut O) -> Result<(), SinkFault>
