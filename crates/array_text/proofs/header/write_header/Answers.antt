@@ -4,7 +4,7 @@ use Rattle.vert_tree.specs.declared.program.Decl.{Decl}
 use Rattle.vert_tree.specs.declared.program.Program.{Program}
 use Rattle.array_text.specs.Tables.{bytes_of, name_text}
 use Rattle.array_text.proofs.WritesLaws.{writes_same, writes_failed, writes_then, texts_split, regrouped}
-use Rattle.array_text.proofs.table.write_header.Goals as goal
+use Rattle.array_text.proofs.header.write_header.Goals as goal
 
 named : (p : Program) (field : Decl) (name : List ℕ) → name ≡ bytes_of (slice_get p.names.items field.name.name) → codes " " ++ (name ++ []) ≡ name_text p field
 named p field name is = ap (λ (n : List ℕ). codes " " ++ n) (append-nil name ∙ is)

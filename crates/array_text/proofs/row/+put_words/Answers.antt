@@ -6,7 +6,7 @@ use Rattle.vert_base.specs.declared.value.ValueType.{ValueType}
 use Rattle.array_text.specs.Tables.{word_text, words_text}
 use Rattle.array_text.proofs.WordsLaws.{words_more, words_rest}
 use Rattle.array_text.proofs.WritesLaws.{writes_same, writes_failed, writes_then}
-use Rattle.array_text.proofs.table.+put_words.Goals as goal
+use Rattle.array_text.proofs.row.+put_words.Goals as goal
 
 -- a word as it was passed
 passed : (kind : ValueType) (word : ℤ) (rest : List ℕ) → SFits w64 word → codes " " ++ word_text kind (to_z w64 (of_z w64 word)) ++ rest ≡ codes " " ++ word_text kind word ++ rest

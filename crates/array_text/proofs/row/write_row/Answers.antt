@@ -2,7 +2,7 @@ use Rattle.std.proofs.Common.{◌≡◌, ◌++◌, List, ℕ, ℤ, codes, ◌∙
 use Rattle.vert_tree.specs.declared.program.Decl.{Decl}
 use Rattle.array_text.specs.Tables.{words_text}
 use Rattle.array_text.proofs.WritesLaws.{writes_same, writes_failed, writes_then}
-use Rattle.array_text.proofs.table.write_row.Goals as goal
+use Rattle.array_text.proofs.row.write_row.Goals as goal
 
 same_front : (a b : List ℕ) (fs gs : List Decl) (ws vs : List ℤ) → a ≡ b → fs ≡ gs → ws ≡ vs → a ++ words_text fs ws ≡ b ++ words_text gs vs
 same_front a b fs gs ws vs p q r = cc
