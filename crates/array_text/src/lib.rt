@@ -9,6 +9,6 @@ mod row;
 mod tests;
 
 pub use header::write_header;
-pub use put::put_all;
+pub use put::{put_all, put_pieces};
 pub use round::write_round;
 pub use row::write_row;

@@ -2,12 +2,14 @@
 #![tactic(auto)]
 
 pub mod counts;
+pub mod failure;
 pub mod files;
 pub mod line;
 pub mod outside;
 pub mod pieces;
 pub mod status;
 pub mod streams;
+pub mod table;
 
 use status::Status;
 use std::process::ExitCode;
