@@ -92,12 +92,13 @@ fn updated_row(scene: &Scene, v: u32, slots: ArrayVec<Option<i64>, 8>) -> Row
     }
 }
 
-/// The sources of edges, in order.
-fn sources(alloc: Global, members: &[Edge]) -> Result<Vec<VertexId>, Want>
-    ensures { IfOk result (λ ids. ids_of ids.items ≡ map source members.now) }
+/// The sources of the members that were read, in order.
+fn sources(alloc: Global, members: &[Edge], read: usize) -> Result<Vec<VertexId>, Want>
+    requires { read ≤ length members.now }
+    ensures { IfOk result (λ ids. ids_of ids.items ≡ map source (take read members.now)) }
 {
     let mut ids = Vec::new(alloc);
-    for member in members {
+    for member in &members[..read] {
         push(&mut ids, member.from)?;
     }
     Ok(ids)
@@ -125,7 +126,7 @@ pub(crate) fn round(alloc: Global, scene: &Scene, ruling: Ruling) -> Result<Outc
         let gathered = gather(scene, ruling, v);
         push(&mut rows, updated_row(scene, v, gathered.values))?;
         let members = scene.graph.members_of(v);
-        push(&mut reads, sources(alloc, &members[..gathered.read])?)?;
+        push(&mut reads, sources(alloc, members, gathered.read)?)?;
     }
     Ok(Outcome { rows, reads })
 }

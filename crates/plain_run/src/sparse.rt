@@ -56,9 +56,10 @@ fn receive(scene: &Scene, sparse: &Sparse, v: u32, member: &Edge, sender: &Env, 
         emits.new.slots.items ≡ with_emissions 0 emits.old.slots.items (received (scene_of scene.now) sparse.now member.now sender.now receiver).emitted }
     ensures partials { length emits.new.slots.items ≡ length emits.old.slots.items }
 {
+    let words = sends_of(sparse, sender);
     let mut env = bare_env(scene, v);
     enter(scene, member, &mut env);
-    env.sends = sends_of(sparse, sender);
+    env.sends = words;
     run_body(&sparse.body, &mut env, emits);
 }
 
