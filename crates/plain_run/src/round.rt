@@ -104,7 +104,7 @@ fn sources(alloc: Global, members: &[Edge], read: usize) -> Result<Vec<VertexId>
     Ok(ids)
 }
 
-fn push<T: Drop>(items: &mut Vec<T>, item: T) -> Result<(), Want>
+pub(crate) fn push<T: Drop>(items: &mut Vec<T>, item: T) -> Result<(), Want>
     ensures { IfOk result (λ _. items.new.items ≡ items.old.items ++ item ∷ []) }
 {
     match items.push(item) {
