@@ -11,6 +11,7 @@ use Rattle.vert_base.specs.declared.value.Combine.{Combine}
 use Rattle.vert_base.specs.declared.value.Row.{Row}
 use Rattle.vert_base.specs.declared.value.Ruling.{Ruling}
 use Rattle.vert_base.specs.declared.value.Ruling.TheVariants as ruling
+use Rattle.vert_tree.specs.declared.expression.Expr.{Expr}
 use Rattle.vert_tree.specs.declared.program.Decl.{Decl}
 use Rattle.vert_tree.specs.declared.program.Program.{Program}
 use Rattle.vert_tree.specs.declared.program.TotalDecl.{TotalDecl}
@@ -60,6 +61,15 @@ total_more op f v word more e h =
     ∙ (ap (λ x. combined_of op x (f v)) e
     ∙ (sym (fold-append (combined_of op) (neutral op) (map f (range_with_len 0 v)) (f v ∷ []))
     ∙ ap (fold (combined_of op) (neutral op)) (sym (map-range_with_len_more f 0 v v (omega arith)))))
+
+pub total_step :
+    (op : Combine) (value : Expr) (s : Scene) (v : ℕ) (env : Env) (word more : ℤ) →
+    word ≡ fold (combined_of op) (neutral op) (map (λ u. value_of value (env_at s u [])) (range_with_len 0 v)) →
+    env ≡ env_at s v [] →
+    more ≡ combined_of op word (value_of value env) →
+    more ≡ fold (combined_of op) (neutral op) (map (λ u. value_of value (env_at s u [])) (range_with_len 0 (v + 1)))
+total_step op value s v env word more e same h =
+    total_more op (λ u. value_of value (env_at s u [])) v word more e (h ∙ ap (λ x. combined_of op word (value_of value x)) same)
 
 -- each first row has a word for each field
 pub first_rows-wide : (j : Job) (n : ℕ) (rows : List Row) → rows ≡ map (first_row j) (range_with_len 0 n) → All (λ r. length r.words.items ≡ length j.program.fields.items) rows
