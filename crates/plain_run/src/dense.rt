@@ -48,7 +48,13 @@ fn visit(scene: &Scene, body: &[Stmt], member: &Edge, env: &mut Env, emits: &mut
 }
 
 /// Runs the loop: how many members were read.
-fn run_loop(scene: &Scene, body: &[Stmt], members: &[Edge], env: &mut Env, emits: &mut Emits) -> usize
+fn run_loop(
+    scene: &Scene,
+    body: &[Stmt],
+    members: &[Edge],
+    env: &mut Env,
+    emits: &mut Emits,
+) -> usize
     requires inside { All (λ e. source e < scene.now.graph.now.vertices) members.now }
     requires rows { length scene.now.rows.now ≡ scene.now.graph.now.vertices }
     requires wide { AreWide (length env.old.other_row.words.items) scene.now.rows.now }
@@ -95,7 +101,13 @@ fn run_block(scene: &Scene, dense: &Dense, v: u32, env: &mut Env, emits: &mut Em
 }
 
 /// Runs the block where the test is true: how many members were read.
-pub(crate) fn run_dense(scene: &Scene, dense: &Dense, v: u32, env: &mut Env, emits: &mut Emits) -> usize
+pub(crate) fn run_dense(
+    scene: &Scene,
+    dense: &Dense,
+    v: u32,
+    env: &mut Env,
+    emits: &mut Emits,
+) -> usize
     requires ready { IsReady scene.now }
     requires inside { v < scene.now.graph.now.vertices }
     requires placed { IsTrue (dense_placed (counts_in scene.now) dense.now) }

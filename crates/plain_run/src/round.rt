@@ -10,9 +10,9 @@ ghost use Rattle.plain_run.specs.Views.{AreWide, IsReady, graph_of, program_of, 
 
 use super::dense::run_dense;
 use super::run::run_body;
-use super::scene::{Scene, env_at};
+use super::scene::{Scene, bare_env, env_at};
 use super::slots::{no_emits, values_of};
-use super::sparse::{bare_env, run_sparse};
+use super::sparse::run_sparse;
 use arrayvec::ArrayVec;
 use slot_merge::Emits;
 use std::alloc::Global;
