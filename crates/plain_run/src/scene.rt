@@ -22,7 +22,7 @@ pub(crate) struct Scene<'a> {
     pub totals: &'a [i64],
 }
 
-fn row_copy(row: &Row) -> Row
+pub(crate) fn row_copy(row: &Row) -> Row
     ensures { result ≡ row.now }
 {
     let mut words = ArrayVec::new();

@@ -5,8 +5,8 @@ ghost use Rattle.vert_base.specs.Neighbours.{source};
 ghost use Rattle.vert_tree.specs.Places.{expr_placed, sparse_placed};
 ghost use Rattle.slot_merge.specs.Partials.{with_emissions};
 ghost use Rattle.vert_eval.specs.Values.{CanDraw, counts_of};
-ghost use Rattle.vert_eval.specs.Rounds.{emitted_over, members_of, received, sender_at, sent_by, slot_ops};
-ghost use Rattle.plain_run.specs.Views.{IsReady, counts_in, graph_of, program_of, scene_of};
+ghost use Rattle.vert_eval.specs.Rounds.{emitted_over, received, sender_at, sent_by, slot_ops};
+ghost use Rattle.plain_run.specs.Views.{IsReady, counts_in, members_at, program_of, scene_of};
 
 use super::run::run_body;
 use super::scene::{Scene, bare_env, enter};
@@ -78,7 +78,7 @@ pub(crate) fn run_sparse(scene: &Scene, sparse: &Sparse, v: u32, emits: &mut Emi
     requires partials { length emits.old.slots.items ≡ length (program_of scene.now).slots.items }
     ensures { let receiver = sender_at (scene_of scene.now) (slot_ops (program_of scene.now)) v in
         emits.new.slots.items ≡ with_emissions 0 emits.old.slots.items
-        (flat_map (emitted_over (scene_of scene.now) (slot_ops (program_of scene.now)) sparse.now receiver) (members_of (graph_of scene.now.graph.now) v)) }
+        (flat_map (emitted_over (scene_of scene.now) (slot_ops (program_of scene.now)) sparse.now receiver) (members_at scene.now v)) }
 {
     for member in scene.graph.members_of(v) {
         take_from(scene, sparse, v, member, emits);
