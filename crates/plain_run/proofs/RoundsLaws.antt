@@ -29,7 +29,7 @@ pub left_more :
 left_more j fuel less round s next told one whole e ne is here h =
     let rest = rounds_from less j (round + 1) (next_standing j round s) in
     let step : rounds_from fuel j round s ≡ then_runs (played_at j round s) rest =
-        ap (λ n. rounds_from n j round s) e ∙ going s.ruling (record { rounds = []; last = s }) (then_runs (played_at j round s) rest) ne in
+    ap (λ n. rounds_from n j round s) e ∙ going s.ruling (record { rounds = []; last = s }) (then_runs (played_at j round s) rest) ne in
     let same : rounds_from less j (round + 1) next ≡ rest = ap (rounds_from less j (round + 1)) here in
     record {
       rows = ap (λ r. r.last.rows) same ∙ (ap (λ r. r.last.rows) (sym step) ∙ h.rows);

@@ -1,18 +1,17 @@
 //! One round: what each vertex gathers, and its row after the update.
 ghost use Rattle.std.specs.Prelude.{◌≡◌, ◌<◌, ◌≤◌, ◌++◌, ◌∷◌, [], IfOk, length, map, take};
 ghost use Rattle.vert_base.specs.Neighbours.{source};
-ghost use Rattle.vert_tree.specs.declared.program.Program.{Program};
 ghost use Rattle.slot_merge.specs.Combine.{slot_values};
 ghost use Rattle.slot_merge.specs.Partials.{empty_partial, with_emissions};
-ghost use Rattle.vert_eval.specs.Rounds.{env_at, gathered, members_of, reads_of, rows_after, slot_ops, updated};
+ghost use Rattle.vert_eval.specs.Rounds.{env_at, gathered, reads_of, rows_after, slot_ops, updated};
 ghost use Rattle.plain_run.specs.Lists.{id_lists_of, ids_of};
-ghost use Rattle.plain_run.specs.Views.{AreWide, IsReady, graph_of, program_of, scene_of};
+ghost use Rattle.plain_run.specs.Views.{AreWide, IsReady, members_at, program_of, scene_of};
 
 use super::dense::run_dense;
 use super::run::run_body;
-use super::scene::{Scene, env_at};
+use super::scene::{Scene, bare_env, env_at};
 use super::slots::{no_emits, values_of};
-use super::sparse::{bare_env, run_sparse};
+use super::sparse::run_sparse;
 use arrayvec::ArrayVec;
 use slot_merge::Emits;
 use std::alloc::Global;
@@ -38,8 +37,8 @@ fn emit_at(scene: &Scene, ruling: Ruling, v: u32, emits: &mut Emits) -> usize
     requires inside { v < scene.now.graph.now.vertices }
     requires partials { length emits.old.slots.items ≡ length (program_of scene.now).slots.items }
     ensures emits { emits.new.slots.items ≡ with_emissions 0 emits.old.slots.items (gathered (program_of scene.now) ruling (scene_of scene.now) v).emitted }
-    ensures within { result ≤ length (members_of (graph_of scene.now.graph.now) v) }
-    ensures reads { map source (take result (members_of (graph_of scene.now.graph.now) v)) ≡ (gathered (program_of scene.now) ruling (scene_of scene.now) v).reads }
+    ensures within { result ≤ length (members_at scene.now v) }
+    ensures reads { map source (take result (members_at scene.now v)) ≡ (gathered (program_of scene.now) ruling (scene_of scene.now) v).reads }
 {
     match ruling {
         Ruling::Stop => 0,
@@ -64,8 +63,8 @@ fn gather(scene: &Scene, ruling: Ruling, v: u32) -> Gathered
     requires ready { IsReady scene.now }
     requires inside { v < scene.now.graph.now.vertices }
     ensures values { result.values.items ≡ slot_values 0 (slot_ops (program_of scene.now)) (gathered (program_of scene.now) ruling (scene_of scene.now) v).emitted }
-    ensures within { result.read ≤ length (members_of (graph_of scene.now.graph.now) v) }
-    ensures reads { map source (take result.read (members_of (graph_of scene.now.graph.now) v)) ≡ (gathered (program_of scene.now) ruling (scene_of scene.now) v).reads }
+    ensures within { result.read ≤ length (members_at scene.now v) }
+    ensures reads { map source (take result.read (members_at scene.now v)) ≡ (gathered (program_of scene.now) ruling (scene_of scene.now) v).reads }
 {
     let mut emits = no_emits(&scene.program.program.slots);
     let read = emit_at(scene, ruling, v, &mut emits);
@@ -104,6 +103,7 @@ fn sources(alloc: Global, members: &[Edge], read: usize) -> Result<Vec<VertexId>
     Ok(ids)
 }
 
+/// Puts an item behind the others.
 pub(crate) fn push<T: Drop>(items: &mut Vec<T>, item: T) -> Result<(), Want>
     ensures { IfOk result (λ _. items.new.items ≡ items.old.items ++ item ∷ []) }
 {

@@ -40,12 +40,7 @@ struct Step {
 }
 
 /// The round before which this stands.
-fn play(
-    alloc: Global,
-    job: &Job,
-    number: u32,
-    standing: &Standing,
-) -> Result<Step, Want>
+fn play(alloc: Global, job: &Job, number: u32, standing: &Standing) -> Result<Step, Want>
     requires number { number ≤ 10000 }
     requires standing { IsStanding job.now standing.now }
     ensures told { IfOk result (λ step. told_of step.played

@@ -33,7 +33,7 @@ loop-number-preserved c =
     let whole = resumed_run job 1 (standing_of c.args.first) in
     let less : limit + 1 - n ≡ suc (limit + 1 - (n + 1)) = omega arith in
     let grown : map told_of c.push.new.items.items ≡ told ++ told_of step.played ∷ [] =
-        ap (map told_of) c.in_ok-push.ensures ∙ map-append told_of c.loop-number.rounds.items (step.played ∷ []) in
+    ap (map told_of) c.in_ok-push.ensures ∙ map-append told_of c.loop-number.rounds.items (step.played ∷ []) in
     let left = left_more job (limit + 1 - n) (limit + 1 - (n + 1)) n s (standing_of step.next) told (told_of step.played) whole less c.in_default.not-Stop c.in_ok-step.ensures.told c.in_ok-step.ensures.next c.loop-number.invariant.left in
     record {
       left = subst (λ (ts : List Told). IsLeft ts (rounds_from (limit + 1 - (n + 1)) job (n + 1) (standing_of step.next)) whole) (sym grown) left;

@@ -26,8 +26,8 @@ loop-v-preserved c =
     let row = get_or rows v c.index-rows-v.result in
     let at = get_or_default rows v c.index-rows-v.result empty_row lt in
     elim c.if-rows-v.branch [
-      then-rows-v w ↦ omega (arith, w.edges-is, c.loop-v.invariant, active_sum-on g rows v row at w.if-rows-v.true, w.from-edges.ensures, w.outdegree.ensures)
-    | else-rows-v w ↦ omega (arith, w.edges-is, c.loop-v.invariant, active_sum-off g rows v row at w.if-rows-v.false)
+      | then-rows-v w ↦ omega (arith, w.edges-is, c.loop-v.invariant, active_sum-on g rows v row at w.if-rows-v.true, w.from-edges.ensures, w.outdegree.ensures)
+      | else-rows-v w ↦ omega (arith, w.edges-is, c.loop-v.invariant, active_sum-off g rows v row at w.if-rows-v.false)
     ]
 
 pub returns-clause-few : goal.returns-clause-few
