@@ -1,5 +1,6 @@
-ghost use Rattle.std.specs.Prelude.{◌≡◌, ◌≢◌, ℕ, ◌≤◌, ◌<◌, length, slice_index, map, is_some, true, Some, if◌then◌else◌, None, nat_lt, IfOk, IfErr};
+ghost use Rattle.std.specs.Prelude.{◌≡◌, ◌≢◌, ℕ, ◌≤◌, ◌<◌, length, slice_index, position, is_some, true, Some, if◌then◌else◌, None, nat_lt, IfSome, IfOk, IfErr};
 ghost use Rattle.std.specs.String.{string_bytes};
+ghost use Rattle.std.specs.Str.{bytes_eq};
 ghost use Rattle.std.specs.Str.Parse.{digits_value};
 ghost use Rattle.vert_lex.specs.Places.{reserved_words, marks, place_of};
 ghost use Rattle.vert_lex.specs.Text.{judged};
@@ -17,28 +18,27 @@ use crate::{marks, words};
 const GREATEST: u64 = 9_223_372_036_854_775_807;
 
 /// Where a text stands in a table, from 0.
-fn place_of(texts: &[&str], text: &[u8]) -> Option<u8>
-    requires { length texts.now < 256 }
-    ensures { result ≡ place_of (map (λ t. t.now) texts.now) text.now }
+fn place_of(texts: &[&str], text: &[u8]) -> Option<usize>
+    ensures place { result ≡ position (λ t. bytes_eq t.now text.now) texts.now }
+    ensures within { IfSome result (λ place. place < length texts.now) }
 {
-    texts
-        .iter()
-        .position(|t| t.as_bytes() == text)
-        .map(|place| place as u8)
+    texts.iter().position(|t| t.as_bytes() == text)
 }
 
 #[tactic(auto, unfolding(crate::specs::Places::marks))]
 fn mark_place(bytes: &[u8]) -> Option<u8>
     ensures { result ≡ place_of marks bytes.now }
 {
-    place_of(&marks::TEXTS, bytes)
+    let place = place_of(&marks::TEXTS, bytes)?;
+    Some(place as u8)
 }
 
 #[tactic(auto, unfolding(crate::specs::Places::reserved_words))]
 fn reserved_place(word: &[u8]) -> Option<u8>
     ensures { result ≡ place_of reserved_words word.now }
 {
-    place_of(&words::TEXTS, word)
+    let place = place_of(&words::TEXTS, word)?;
+    Some(place as u8)
 }
 
 /// Whether these bytes are a mark.

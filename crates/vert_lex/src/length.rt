@@ -1,4 +1,5 @@
-ghost use Rattle.std.specs.Prelude.{◌≡◌, ℕ, ◌<◌, ◌≤◌, ◌^◌, length, take, drop, slice_index, true, false};
+ghost use Rattle.std.specs.Prelude.{◌≡◌, ℕ, ◌<◌, ◌≤◌, ◌^◌, length, take, drop, slice_index, true, false, nat_le, ◌&&◌, is_some};
+ghost use Rattle.vert_lex.specs.Places.{marks, place_of};
 ghost use Rattle.vert_base.specs.declared.text.Span.{Span};
 ghost use Rattle.vert_lex.specs.Text.{through, is_blank, is_comment, tokens_at};
 ghost use Rattle.vert_lex.specs.Tokens.{is_digit, is_word, longest};
@@ -66,7 +67,8 @@ pub(crate) fn gap_length(text: &[u8]) -> usize
 pub(crate) fn token_length(text: &[u8]) -> usize
     requires some { 0 < length text.now }
     requires few { length text.now < 2 ^ 32 }
-    ensures { result ≡ longest (length text.now) text.now }
+    ensures longest { result ≡ longest (length text.now) text.now }
+    ensures within { result ≤ length text.now }
 {
     let b = first(text);
     let rest = skip(text, 1);
@@ -76,11 +78,18 @@ pub(crate) fn token_length(text: &[u8]) -> usize
     if is_digit(b) {
         return 1 + number_length(rest);
     }
-    if text.len() > 1 && is_mark(front(text, 2)) {
+    if begins_with_mark(text, 2) {
         return 2;
     }
-    if is_mark(front(text, 1)) {
+    if begins_with_mark(text, 1) {
         return 1;
     }
     0
+}
+
+/// Whether the first `n` bytes are a mark.
+fn begins_with_mark(text: &[u8], n: usize) -> bool
+    ensures { result ≡ (nat_le n (length text.now) && is_some (place_of marks (take n text.now))) }
+{
+    n <= text.len() && is_mark(front(text, n))
 }

@@ -1,0 +1,8 @@
+use Rattle.std.proofs.Common.{◌≡◌, ℕ, ◌<◌, ◌≤◌, ◌-◌, length, get_or}
+use Rattle.vert_lex.proofs.length.line_length.Given as goal
+
+abbrev pub invariant-bytes : goal.invariant-bytes
+invariant-bytes l = record { in_range : l.n ≤ length l.text; all : (i : ℕ) → i < l.n → get_or l.text i 0 ≡ 10 → ⊥ }
+
+abbrev pub decreases-bytes : goal.decreases-bytes
+decreases-bytes l = length l.text - l.n
