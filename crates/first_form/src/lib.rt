@@ -1,0 +1,3 @@
+//! The programs that the reader takes today, those of the first form: one dense loop that sums into a
+//! let.
+#![tactic(auto)]
