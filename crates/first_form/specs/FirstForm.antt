@@ -1,5 +1,5 @@
 -- The programs of the first form: one dense loop that sums into a let.
-use Rattle.std.specs.Prelude.{ℕ, ◌+◌, nat_le, Bool, true, false, not, ◌&&◌, ◌||◌, ◌==◌, List, [], ◌∷◌, ◌++◌, Option, Some, None, slice_get, if◌then◌else◌}
+use Rattle.std.specs.Prelude.{ℕ, ◌+◌, nat_le, Bool, true, false, not, ◌&&◌, ◌||◌, ◌==◌, List, [], ◌∷◌, flat_map, Option, Some, None, slice_get, if◌then◌else◌}
 use Rattle.std.specs.Str.{bytes_eq}
 use Rattle.vert_lex.specs.declared.marks.TheConstants as mark
 use Rattle.vert_lex.specs.declared.words.TheConstants as word
@@ -48,38 +48,42 @@ op_tokens assign.Add = Mark mark.PLUS_ASSIGN ∷ []
 op_tokens assign.Least = Reserved word.MIN ∷ Mark mark.ASSIGN ∷ []
 op_tokens assign.Greatest = Reserved word.MAX ∷ Mark mark.ASSIGN ∷ []
 
--- vertex 1; mode dense; limit LIMIT; field FIELD: int = ..; slot SLOT: sum; start true;
-abbrev pub head_tokens : Form → List Kind
-head_tokens f =
-    (Reserved word.VERTEX ∷ Number 1 ∷ Mark mark.SEMICOLON ∷ Reserved word.MODE ∷ Reserved word.DENSE ∷ Mark mark.SEMICOLON
-    ∷ Reserved word.LIMIT ∷ Number f.limit ∷ Mark mark.SEMICOLON ∷ Reserved word.FIELD ∷ Name f.field ∷ Mark mark.COLON ∷ Reserved word.INT ∷ Mark mark.ASSIGN ∷ [])
-    ++ atom_tokens f f.field_value
-    ++ (Mark mark.SEMICOLON ∷ Reserved word.SLOT ∷ Name f.slot ∷ Mark mark.COLON ∷ Reserved word.SUM ∷ Mark mark.SEMICOLON
-    ∷ Reserved word.START ∷ Reserved word.TRUE ∷ Mark mark.SEMICOLON ∷ [])
-
--- dense when true { let LOCAL: int = ..; for u { LOCAL += ..; } emit SLOT ..; }
-abbrev pub dense_tokens : Form → List Kind
-dense_tokens f =
-    (Reserved word.DENSE ∷ Reserved word.WHEN ∷ Reserved word.TRUE ∷ Mark mark.LEFT_BRACE ∷ Reserved word.LET ∷ Name f.local ∷ Mark mark.COLON
-    ∷ Reserved word.INT ∷ Mark mark.ASSIGN ∷ [])
-    ++ atom_tokens f f.local_value
-    ++ (Mark mark.SEMICOLON ∷ Reserved word.FOR ∷ Reserved word.U ∷ Mark mark.LEFT_BRACE ∷ Name f.local ∷ Mark mark.PLUS_ASSIGN ∷ [])
-    ++ atom_tokens f f.added
-    ++ (Mark mark.SEMICOLON ∷ Mark mark.RIGHT_BRACE ∷ Reserved word.EMIT ∷ Name f.slot ∷ [])
-    ++ atom_tokens f f.emitted
-    ++ (Mark mark.SEMICOLON ∷ Mark mark.RIGHT_BRACE ∷ [])
-
--- update { FIELD .. ..; }
-abbrev pub update_tokens : Form → List Kind
-update_tokens f =
-    (Reserved word.UPDATE ∷ Mark mark.LEFT_BRACE ∷ Name f.field ∷ [])
-    ++ op_tokens f.op
-    ++ atom_tokens f f.updated
-    ++ (Mark mark.SEMICOLON ∷ Mark mark.RIGHT_BRACE ∷ [])
-
 -- the tokens of a program of the first form
 abbrev pub form_tokens : Form → List Kind
-form_tokens f = head_tokens f ++ dense_tokens f ++ update_tokens f
+form_tokens f = flat_map (λ tokens. tokens)
+    -- vertex 1; mode dense; limit LIMIT;
+    ((Reserved word.VERTEX ∷ Number 1 ∷ Mark mark.SEMICOLON ∷ Reserved word.MODE ∷ Reserved word.DENSE ∷ Mark mark.SEMICOLON ∷ Reserved word.LIMIT ∷ [])
+    ∷ (Number f.limit ∷ [])
+    -- field FIELD: int = VALUE;
+    ∷ (Mark mark.SEMICOLON ∷ Reserved word.FIELD ∷ [])
+    ∷ (Name f.field ∷ [])
+    ∷ (Mark mark.COLON ∷ Reserved word.INT ∷ Mark mark.ASSIGN ∷ [])
+    ∷ atom_tokens f f.field_value
+    -- slot SLOT: sum; start true; dense when true {
+    ∷ (Mark mark.SEMICOLON ∷ Reserved word.SLOT ∷ [])
+    ∷ (Name f.slot ∷ [])
+    ∷ (Mark mark.COLON ∷ Reserved word.SUM ∷ Mark mark.SEMICOLON ∷ Reserved word.START ∷ Reserved word.TRUE ∷ Mark mark.SEMICOLON
+    ∷ Reserved word.DENSE ∷ Reserved word.WHEN ∷ Reserved word.TRUE ∷ Mark mark.LEFT_BRACE ∷ Reserved word.LET ∷ [])
+    -- let LOCAL: int = VALUE;
+    ∷ (Name f.local ∷ [])
+    ∷ (Mark mark.COLON ∷ Reserved word.INT ∷ Mark mark.ASSIGN ∷ [])
+    ∷ atom_tokens f f.local_value
+    -- for u { LOCAL += VALUE; }
+    ∷ (Mark mark.SEMICOLON ∷ Reserved word.FOR ∷ Reserved word.U ∷ Mark mark.LEFT_BRACE ∷ [])
+    ∷ (Name f.local ∷ [])
+    ∷ (Mark mark.PLUS_ASSIGN ∷ [])
+    ∷ atom_tokens f f.added
+    -- emit SLOT VALUE; }
+    ∷ (Mark mark.SEMICOLON ∷ Mark mark.RIGHT_BRACE ∷ Reserved word.EMIT ∷ [])
+    ∷ (Name f.slot ∷ [])
+    ∷ atom_tokens f f.emitted
+    -- update { FIELD = VALUE; }
+    ∷ (Mark mark.SEMICOLON ∷ Mark mark.RIGHT_BRACE ∷ Reserved word.UPDATE ∷ Mark mark.LEFT_BRACE ∷ [])
+    ∷ (Name f.field ∷ [])
+    ∷ op_tokens f.op
+    ∷ atom_tokens f f.updated
+    ∷ (Mark mark.SEMICOLON ∷ Mark mark.RIGHT_BRACE ∷ [])
+    ∷ [])
 
 -- where each expression may stand
 abbrev pub reads_no_name : Atom → Bool
