@@ -1,1 +1,3 @@
+pub mod SmallTokens
 pub mod StripLaws
+pub mod TypedTrees

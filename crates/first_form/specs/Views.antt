@@ -1,7 +1,7 @@
 -- Tokens and forms without their memory.
-use Rattle.std.specs.Prelude.{List, map}
+use Rattle.std.specs.Prelude.{◌≤◌, List, [], ◌∷◌, map}
 use Rattle.vert_lex.specs.declared.token.Token.{Token}
-use Rattle.vert_lex.specs.Tokens.{Kind}
+use Rattle.vert_lex.specs.Tokens.{Kind, Number}
 use Rattle.vert_lex.specs.View.{plain_kind}
 use Rattle.first_form.specs.declared.form.Atom as code
 use Rattle.first_form.specs.declared.form.Atom.TheVariants as atom
@@ -35,3 +35,23 @@ plain_form f = record {
   op = f.op;
   updated = plain_atom f.updated;
 }
+
+abbrev pub IsSmallKind : Kind → Type 0
+IsSmallKind (Number value) = value ≤ 9223372036854775807
+IsSmallKind _ = Unit {0}
+
+-- no number is above the greatest that a program may have
+abbrev pub AreSmall : List Kind → Type 0
+AreSmall [] = Unit {0}
+AreSmall (kind ∷ ks) = IsSmallKind kind × AreSmall ks
+
+abbrev pub IsSmallAtom : Atom → Type 0
+IsSmallAtom (Literal value) = value ≤ 9223372036854775807
+IsSmallAtom _ = Unit {0}
+
+pub record IsSmallForm (f : Form) : Type 0 where
+  pub field_value : IsSmallAtom f.field_value
+  pub local_value : IsSmallAtom f.local_value
+  pub added : IsSmallAtom f.added
+  pub emitted : IsSmallAtom f.emitted
+  pub updated : IsSmallAtom f.updated

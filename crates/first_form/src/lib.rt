@@ -2,5 +2,9 @@
 //! let.
 #![tactic(auto)]
 
-pub mod form;
-pub mod spelling;
+mod form;
+mod read;
+mod spelling;
+mod tree;
+
+pub use read::{FormFault, read_form};
