@@ -135,14 +135,12 @@ fn dense(alloc: Global, form: &Form<'_>) -> Result<Dense, AllocError>
     })
 }
 
-/// The tree of a program with these parts.
-pub(crate) fn tree(alloc: Global, form: &Form<'_>) -> Result<Typed, AllocError>
-    requires sound { is_sound (plain_form form.now) ≡ true }
-    requires small { IsSmallForm (plain_form form.now) }
-    ensures { IfOk result (λ typed. IsFormTree (plain_form form.now) typed.program) }
+fn program(alloc: Global, form: &Form<'_>) -> Result<Program, AllocError>
+    requires { IsSmallForm (plain_form form.now) }
+    ensures { IfOk result (λ program. IsFormTree (plain_form form.now) program) }
 {
     let sets = Stmt::Assign(field_name(), form.op, expression(form.updated));
-    let program = Program {
+    Ok(Program {
         version: 1,
         mode: Mode::Dense,
         mode_at: START,
@@ -157,6 +155,15 @@ pub(crate) fn tree(alloc: Global, form: &Form<'_>) -> Result<Typed, AllocError>
         sparse: None,
         update: one(alloc, sets)?,
         stop: None,
-    };
+    })
+}
+
+/// The tree of a program with these parts.
+pub(crate) fn tree(alloc: Global, form: &Form<'_>) -> Result<Typed, AllocError>
+    requires sound { is_sound (plain_form form.now) ≡ true }
+    requires small { IsSmallForm (plain_form form.now) }
+    ensures { IfOk result (λ typed. IsFormTree (plain_form form.now) typed.program) }
+{
+    let program = program(alloc, form)?;
     Ok(Typed { program })
 }
