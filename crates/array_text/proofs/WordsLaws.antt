@@ -1,5 +1,5 @@
 -- The words of the fields, one after another.
-use Rattle.std.proofs.Common.{◌≡◌, ◌≤◌, ◌-◌, ◌++◌, List, ℕ, ℤ, [], ◌∷◌, Option, Some, None, codes, length, take, drop, slice_get, refl, ap, ◌∙◌, arith}
+use Rattle.std.proofs.Common.{◌≡◌, ◌-◌, ◌++◌, List, ℤ, [], ◌∷◌, Some, codes, length, take, drop, slice_get, ap, ◌∙◌}
 use Rattle.std.proofs.lemmas.List.{take_rest}
 use Rattle.vert_tree.specs.declared.program.Decl.{Decl}
 use Rattle.array_text.specs.Tables.{word_text, words_text}

@@ -1,9 +1,9 @@
 -- Texts that are written one after another.
-use Rattle.std.proofs.Common.{◌≡◌, ℕ, ◌+◌, ◌<◌, ◌≤◌, List, [], ◌∷◌, ◌++◌, length, take, drop, get_or, Option, Result, Ok, Err, flat_map, refl, sym, ap, subst, ◌∙◌, length-append, arith, append_assoc, append-nil}
+use Rattle.std.proofs.Common.{◌≡◌, ℕ, ◌+◌, ◌<◌, List, [], ◌∷◌, ◌++◌, length, take, drop, get_or, Option, Result, Ok, Err, flat_map, refl, sym, ap, subst, ◌∙◌, length-append, arith, append_assoc, append-nil}
 use Rattle.std.specs.Result.{IsErr}
 use Rattle.std.proofs.lemmas.Grind.{flat_map-append}
 use Rattle.std.proofs.lemmas.List.{take_more, take-append-drop}
-use Rattle.symple_face.specs.Bytes.{gained, GainedPart}
+use Rattle.symple_face.specs.Bytes.{gained}
 use Rattle.symple_face.proofs.BytesLaws.{gained-nothing, gained-gained, part_of_longer, part_after}
 use Rattle.symple_face.specs.declared.sink.SinkFault.{SinkFault}
 use Rattle.array_text.specs.Writes.{Writes}

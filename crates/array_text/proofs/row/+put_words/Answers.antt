@@ -1,4 +1,4 @@
-use Rattle.std.proofs.Common.{◌++◌, codes, drop, ap, ◌∙◌, ◌≡◌, List, ℕ, ℤ, to_z, of_z, w64, sym, arith, rules}
+use Rattle.std.proofs.Common.{◌++◌, codes, drop, ap, ◌∙◌, ◌≡◌, List, ℕ, ℤ, to_z, of_z, w64, arith, rules}
 use Rattle.std.proofs.lemmas.Grind.{common_steps}
 use Rattle.std.proofs.lemmas.Int.{to_z-of_z}
 use mir.Val.{SFits}
