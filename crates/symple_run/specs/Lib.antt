@@ -1,4 +1,7 @@
+pub mod Answers
 pub mod Faults
 pub mod Lines
 pub mod Notes
 pub mod Reads
+pub mod Verdicts
+pub mod Loads

@@ -1,26 +1,40 @@
 //! SympleGraph: runs vertex programs whose neighbour loops stop early.
 #![tactic(auto)]
 
-pub mod counts;
-pub mod failure;
-pub mod files;
-pub mod line;
-pub mod outside;
-pub mod pieces;
-pub mod status;
-pub mod streams;
-pub mod table;
+mod counts;
+mod failure;
+mod files;
+mod line;
+mod outside;
+mod pieces;
+mod read;
+mod status;
+mod streams;
+mod table;
+mod top;
 
+use files::FileShelf;
+use outside::words_of;
 use status::Status;
 use std::process::ExitCode;
+use streams::{InSource, OutSink};
+use top::symple;
 
 fn main(rt: HostRuntime) -> ExitCode {
-    let Ok(words) = outside::words_of(&rt, rt.alloc()) else {
+    let Ok(words) = words_of(&rt, rt.alloc()) else {
         return ExitCode::from(Status::Memory.number());
     };
-    let _shelf = files::FileShelf::new(&rt);
-    let _input = streams::InSource::new(rt.stdin());
-    let _out = streams::OutSink::new(rt.stdout());
-    let _ = line::read_line(&words);
-    ExitCode::from(0)
+    let mut shelf = FileShelf::new(&rt);
+    let mut input = InSource::new(rt.stdin());
+    let mut out = OutSink::new(rt.stdout());
+    let mut notes = OutSink::new(rt.stderr());
+    let status = symple(
+        rt.alloc(),
+        &words,
+        &mut shelf,
+        &mut input,
+        &mut out,
+        &mut notes,
+    );
+    ExitCode::from(status.number())
 }

@@ -1,0 +1,76 @@
+ghost use Rattle.std.specs.Prelude.{◌≡◌, ◌≤◌, map, Some, None};
+ghost use Rattle.std.specs.String.{string_bytes};
+ghost use Rattle.symple_run.specs.Answers.{Answers};
+ghost use Rattle.symple_run.specs.Lines.{line_of};
+
+use crate::failure::{Failure, write_note};
+use crate::line::{RunLine, WordFault, read_line};
+use crate::read::{load_graph, load_program};
+use crate::status::Status;
+use crate::table::write_table;
+use plain_run::run_plainly;
+use std::alloc::Global;
+use symple_face::{Shelf, Sink, Source};
+
+/// Runs the program on the graph and puts the table.
+fn run<'a, H: Shelf, O: Sink>(
+    alloc: Global,
+    line: RunLine<'a>,
+    shelf: &mut H,
+    out: &mut O,
+) -> Result<(), Failure<'a>> {
+    let typed = load_program(alloc, shelf, line.program)?;
+    let edges = load_graph(alloc, shelf, line.graph)?;
+    let ends = [edges.vertices];
+    let Ok(played) = run_plainly(alloc, &typed, edges.vertices, &edges.list, &ends, 0) else {
+        return Err(Failure::Memory);
+    };
+    match write_table(&typed, &played.rows, out) {
+        Ok(()) => Ok(()),
+        Err(_) => Err(Failure::Write),
+    }
+}
+
+/// Performs the line that the words are.
+fn perform<'a, H: Shelf, O: Sink>(
+    alloc: Global,
+    words: &'a [String],
+    shelf: &mut H,
+    out: &mut O,
+) -> Result<(), Failure<'a>> {
+    match read_line(words) {
+        Ok(line) => run(alloc, line, shelf, out),
+        Err(WordFault::Command) => Err(Failure::Command),
+        Err(WordFault::Words) => Err(Failure::Words),
+    }
+}
+
+/// Performs the line that the words are, over a shelf of files, an input, and sinks for what it prints
+/// and for the note that it leaves where it doesn't end well.
+///
+/// The words are those behind the program's own name. Nothing is taken from the input.
+pub fn symple<H: Shelf, I: Source, O: Sink, N: Sink>(
+    alloc: Global,
+    words: &[String],
+    shelf: &mut H,
+    input: &mut I,
+    out: &mut O,
+    notes: &mut N,
+) -> Status
+    ensures answer { Answers (H.files shelf.old) (line_of (map string_bytes words.now)) (H.loads shelf.old) (H.loads shelf.new)
+        (record { held = O.held out.old; held_after = O.held out.new; faults = O.faults out.old; faults_after = O.faults out.new })
+        (record { held = N.held notes.old; held_after = N.held notes.new; faults = N.faults notes.old; faults_after = N.faults notes.new })
+        result }
+    ensures files { H.files shelf.new ≡ H.files shelf.old }
+    ensures stores { H.stores shelf.new ≡ H.stores shelf.old }
+    ensures loads { H.loads shelf.old ≤ H.loads shelf.new }
+    ensures input { input.new ≡ input.old }
+{
+    match perform(alloc, words, shelf, out) {
+        Ok(()) => Status::Done,
+        Err(failure) => {
+            let _ = write_note(&failure, notes);
+            failure.status()
+        }
+    }
+}
