@@ -6,12 +6,14 @@ use Rattle.std.specs.Str.{bytes_eq}
 use Rattle.vert_base.specs.declared.text.Span.{Span}
 use Rattle.vert_lex.specs.declared.marks.TheConstants as mark
 use Rattle.vert_lex.specs.declared.words.TheConstants as word
+use Rattle.vert_lex.specs.declared.token.Token.{Token}
 use Rattle.vert_lex.specs.declared.token.LexFault.{LexFault}
 use Rattle.vert_lex.specs.declared.token.LexFault.TheVariants.{BadNumber}
 use Rattle.vert_lex.specs.Text.{Placed, after, followed, is_blank, is_comment, judged, origin, tokens_at, tokens_of}
+use Rattle.vert_lex.specs.View.{plain_tokens}
 use Rattle.vert_lex.specs.Tokens.{Kind, Reserved, Mark, Number, Name, kind_of, longest}
 use Rattle.first_form.specs.FirstForm.{Atom, Literal, Id, Count, Weight, Field, Local, OtherField, SlotValue, atom_in, atom_length, loop_atom, name_in, op_in, op_length, update_atom, is_mark, is_word, parts_of, word_atom}
-use Rattle.first_form.specs.Views.{AreSmall, IsSmallAtom, IsSmallForm, IsSmallKind}
+use Rattle.first_form.specs.Views.{AreSmall, IsSmallAtom, IsSmallForm, IsSmallKind, kinds_of}
 
 abbrev IsSmallAnswer : Result (List Placed) LexFault → Type 0
 IsSmallAnswer (Ok placed) = AreSmall (map (λ t. t.kind) placed)
@@ -97,3 +99,11 @@ form_small ks small =
       emitted = atom_small field (slice_get ks (tail + 4)) (small_at ks (tail + 4) small);
       updated = update_small field (slice_get ks last) (slice_get ks (last + 1)) (small_at ks last small);
     }
+
+small_kinds : (tokens : List Token) → AreSmall (map (λ t. t.kind) (plain_tokens tokens)) → AreSmall (kinds_of tokens)
+small_kinds [] small = tt
+small_kinds (t ∷ ts) small = (small.0, small_kinds ts small.1)
+
+-- the same of the tokens themselves
+pub lexed_small : (text : List ℕ) (tokens : List Token) → tokens_of text ≡ Ok (plain_tokens tokens) → AreSmall (kinds_of tokens)
+lexed_small text tokens is = small_kinds tokens (tokens_small text (plain_tokens tokens) is)

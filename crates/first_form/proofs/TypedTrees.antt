@@ -25,10 +25,12 @@ use Rattle.vert_tree.specs.declared.expression.Expr.{Expr}
 use Rattle.vert_tree.specs.declared.statement.AssignOp.{AssignOp}
 use Rattle.vert_tree.specs.declared.statement.AssignOp.TheVariants as assign
 use Rattle.vert_tree.specs.declared.statement.Stmt.{Stmt}
-use Rattle.vert_tree.specs.declared.statement.Stmt.TheVariants.{Assign, Emit}
-use Rattle.vert_tree.specs.Kinds.{Kinds, assign_typed, body_typed, dense_typed, expr_has, field_kinds, has_kind, is_kinded, kinds_of, lets_typed, name_kind, node_kind, other_kind, sparse_typed, stmt_typed, word_kind}
-use Rattle.vert_tree.specs.Limits.{decls_shallow, dense_shallow, expr_shallow, is_known, is_limited, is_shallow, mode_stands, names_stand, node_depth, sparse_shallow, stmt_depth, version_stands}
-use Rattle.vert_tree.specs.Places.{Counts, Rights, dense_placed, expr_placed, is_named, is_other_field, is_placed, is_slot, is_target, lets_placed, loop_rights, no_counts, node_placed, option_all, round_counts, row_counts, sparse_placed, stmt_placed, stop_counts, tail_rights, update_rights}
+use Rattle.vert_tree.specs.declared.statement.Stmt.TheFolds.{fold-roll-Stmt}
+use Rattle.vert_tree.specs.declared.statement.Stmt.TheOpen as level
+use Rattle.vert_tree.specs.declared.statement.Stmt.TheVariants.{Assign, Emit, rolls-Assign, rolls-Emit}
+use Rattle.vert_tree.specs.Kinds.{Kinds, assign_typed, body_typed, dense_typed, expr_has, field_kinds, has_kind, is_kinded, kinds_of, lets_typed, level_typed, name_kind, node_kind, other_kind, sparse_typed, stmt_typed, word_kind}
+use Rattle.vert_tree.specs.Limits.{decls_shallow, dense_shallow, expr_shallow, is_known, is_limited, is_shallow, level_depth, mode_stands, names_stand, node_depth, sparse_shallow, stmt_depth, version_stands}
+use Rattle.vert_tree.specs.Places.{Counts, Rights, dense_placed, expr_placed, is_named, is_other_field, is_placed, is_slot, is_target, lets_placed, level_placed, loop_rights, no_counts, node_placed, option_all, round_counts, row_counts, sparse_placed, stmt_placed, stop_counts, tail_rights, update_rights}
 use Rattle.vert_tree.specs.Typed.{is_typed}
 use Rattle.first_form.specs.FirstForm.{Atom, Literal, Id, Count, Weight, Field, Local, OtherField, SlotValue, Form, in_let, in_loop, in_tail, in_update, is_sound, reads_no_name}
 use Rattle.first_form.specs.Trees.{IsAssign, IsDecl, IsDense, IsEmit, IsFormTree, IsNamed, IsOne, IsSomeDense, IsSumSlot, SaysAtom, SaysTrue}
@@ -226,29 +228,40 @@ ints_assigned assign.Least = refl
 ints_assigned assign.Greatest = refl
 
 assign_placed : (r : Rights) (c : Counts) (number : ℕ) (w : What) (op : AssignOp) (a : Atom) (s : Stmt) → IsAssign number w op a s → is_target r c w ≡ true → HasRoom c a → stmt_placed r c s ≡ true
-assign_placed r c number w op a (Assign target how e) is may room = both_true (ap (is_target r c) is.0.what_is ∙ may) (says_placed c a e.node is.2 room)
+assign_placed r c number w op a (Assign target how e) is may room =
+    ap (stmt_placed r c) (sym (rolls-Assign target how e)) ∙ fold-roll-Stmt Bool (level_placed r c) (level.Assign target how e)
+    ∙ both_true (ap (is_target r c) is.0.what_is ∙ may) (says_placed c a e.node is.2 room)
 assign_placed r c number w op a _ is may room = absurd is
 
 assign_ints : (k : Kinds) (number : ℕ) (w : What) (op : AssignOp) (a : Atom) (s : Stmt) → IsAssign number w op a s → name_kind k w ≡ Some kind.Int → HasInt k a → stmt_typed k s ≡ true
 assign_ints k number w op a (Assign target how e) is int room =
-    ap (λ t. assign_typed how t (node_kind k e.node)) (ap (name_kind k) is.0.what_is ∙ int)
+    ap (stmt_typed k) (sym (rolls-Assign target how e)) ∙ fold-roll-Stmt Bool (level_typed k) (level.Assign target how e)
+    ∙ ap (λ t. assign_typed how t (node_kind k e.node)) (ap (name_kind k) is.0.what_is ∙ int)
     ∙ ap (assign_typed how (Some kind.Int)) (says_int k a e.node is.2 room) ∙ ints_assigned how
 assign_ints k number w op a _ is int room = absurd is
 
 assign_shallow : (number : ℕ) (w : What) (op : AssignOp) (a : Atom) (s : Stmt) → IsAssign number w op a s → nat_le (stmt_depth s) 64 ≡ true
-assign_shallow number w op a (Assign target how e) is = says_shallow a e.node is.2
+assign_shallow number w op a (Assign target how e) is =
+    ap (λ n. nat_le n 64) (ap stmt_depth (sym (rolls-Assign target how e)) ∙ fold-roll-Stmt ℕ level_depth (level.Assign target how e))
+    ∙ says_shallow a e.node is.2
 assign_shallow number w op a _ is = absurd is
 
 emit_placed : (r : Rights) (c : Counts) (a : Atom) (s : Stmt) → IsEmit a s → r.emits ≡ true → Above c.slots → HasRoom c a → stmt_placed r c s ≡ true
-emit_placed r c a (Emit at slot e) is may slots room = both_true may (both_true (ap (is_slot c) is.0.what_is ∙ slots) (says_placed c a e.node is.1 room))
+emit_placed r c a (Emit at slot e) is may slots room =
+    ap (stmt_placed r c) (sym (rolls-Emit at slot e)) ∙ fold-roll-Stmt Bool (level_placed r c) (level.Emit at slot e)
+    ∙ both_true may (both_true (ap (is_slot c) is.0.what_is ∙ slots) (says_placed c a e.node is.1 room))
 emit_placed r c a _ is may slots room = absurd is
 
 emit_int : (k : Kinds) (a : Atom) (s : Stmt) → IsEmit a s → HasInt k a → stmt_typed k s ≡ true
-emit_int k a (Emit at slot e) is room = ap (has_kind kind.Int) (says_int k a e.node is.1 room)
+emit_int k a (Emit at slot e) is room =
+    ap (stmt_typed k) (sym (rolls-Emit at slot e)) ∙ fold-roll-Stmt Bool (level_typed k) (level.Emit at slot e)
+    ∙ ap (has_kind kind.Int) (says_int k a e.node is.1 room)
 emit_int k a _ is room = absurd is
 
 emit_shallow : (a : Atom) (s : Stmt) → IsEmit a s → nat_le (stmt_depth s) 64 ≡ true
-emit_shallow a (Emit at slot e) is = says_shallow a e.node is.1
+emit_shallow a (Emit at slot e) is =
+    ap (λ n. nat_le n 64) (ap stmt_depth (sym (rolls-Emit at slot e)) ∙ fold-roll-Stmt ℕ level_depth (level.Emit at slot e))
+    ∙ says_shallow a e.node is.1
 emit_shallow a _ is = absurd is
 
 -- the dense block
@@ -260,11 +273,11 @@ module _ (f : Form) (sound : Sound f) (d : Dense) (is : IsDense f d) where
       both_true (true_placed c d.when_test.node is.test)
       (both_true (one_let_placed 2 (what.Local 0) f.local_value c d.lets.items is.lets (let_needs (Above c.fields) (Above c.locals) (Above c.other_fields) (Above c.slots) f.local_value sound.local_value field))
       (both_true (one_all (IsAssign 2 (what.Local 0) assign.Add f.added) (stmt_placed loop_rights inner) d.body.items is.body
-        (λ s one. assign_placed loop_rights inner 2 (what.Local 0) assign.Add f.added s one local
-          (loop_needs (Above c.fields) (Above (length d.lets.items)) (Above c.other_fields) (Above c.slots) f.added sound.added field local other)))
+      (λ s one. assign_placed loop_rights inner 2 (what.Local 0) assign.Add f.added s one local
+      (loop_needs (Above c.fields) (Above (length d.lets.items)) (Above c.other_fields) (Above c.slots) f.added sound.added field local other)))
       (one_all (IsEmit f.emitted) (stmt_placed tail_rights inner) d.tail.items is.tail
-        (λ s one. emit_placed tail_rights inner f.emitted s one refl slot
-          (tail_needs (Above c.fields) (Above (length d.lets.items)) (Above c.other_fields) (Above c.slots) f.emitted sound.emitted field local)))))
+      (λ s one. emit_placed tail_rights inner f.emitted s one refl slot
+      (tail_needs (Above c.fields) (Above (length d.lets.items)) (Above c.other_fields) (Above c.slots) f.emitted sound.emitted field local)))))
 
   dense_is_typed : (k : Kinds) → IsFirstInt k.fields → dense_typed k d ≡ true
   dense_is_typed k field =
@@ -273,11 +286,11 @@ module _ (f : Form) (sound : Sound f) (d : Dense) (is : IsDense f d) where
       both_true (true_typed k d.when_test.node is.test)
       (both_true (one_let_typed 2 (what.Local 0) f.local_value k d.lets.items is.lets (let_needs (IsFirstInt k.fields) (IsFirstInt k.locals) (IsFirstInt k.fields) (Unit {0}) f.local_value sound.local_value field))
       (both_true (one_all (IsAssign 2 (what.Local 0) assign.Add f.added) (stmt_typed inner) d.body.items is.body
-        (λ s one. assign_ints inner 2 (what.Local 0) assign.Add f.added s one local
-          (loop_needs (IsFirstInt k.fields) (IsFirstInt (kinds_of d.lets.items)) (IsFirstInt k.fields) (Unit {0}) f.added sound.added field local field)))
+      (λ s one. assign_ints inner 2 (what.Local 0) assign.Add f.added s one local
+      (loop_needs (IsFirstInt k.fields) (IsFirstInt (kinds_of d.lets.items)) (IsFirstInt k.fields) (Unit {0}) f.added sound.added field local field)))
       (one_all (IsEmit f.emitted) (stmt_typed inner) d.tail.items is.tail
-        (λ s one. emit_int inner f.emitted s one
-          (tail_needs (IsFirstInt k.fields) (IsFirstInt (kinds_of d.lets.items)) (IsFirstInt k.fields) (Unit {0}) f.emitted sound.emitted field local)))))
+      (λ s one. emit_int inner f.emitted s one
+      (tail_needs (IsFirstInt k.fields) (IsFirstInt (kinds_of d.lets.items)) (IsFirstInt k.fields) (Unit {0}) f.emitted sound.emitted field local)))))
 
   dense_is_shallow : dense_shallow d ≡ true
   dense_is_shallow =
@@ -304,28 +317,28 @@ module _ (f : Form) (p : Program) (sound : Sound f) (tree : IsFormTree f p) wher
   form_placed =
       let c = round_counts p in
       both_true (one_all (IsDecl 0 (what.Field 0) f.field_value) (λ d. expr_placed no_counts d.value) p.fields.items tree.fields
-        (λ d is. says_placed no_counts f.field_value d.value.node is.value (none_needs (Above 0) (Above 0) (Above 0) (Above 0) f.field_value sound.field_value)))
+      (λ d is. says_placed no_counts f.field_value d.value.node is.value (none_needs (Above 0) (Above 0) (Above 0) (Above 0) f.field_value sound.field_value)))
       (both_true (ap (list_all (λ t. expr_placed (row_counts p) t.value)) tree.totals)
       (both_true (true_placed (row_counts p) p.start.node tree.start)
       (both_true (some_dense f (dense_placed (round_counts p)) p.dense tree.dense (λ d is. dense_is_placed f sound d is (round_counts p) one_field one_slot one_field))
       (both_true (ap (option_all (sparse_placed (round_counts p))) tree.sparse)
       (both_true (one_all (IsAssign 0 (what.Field 0) f.op f.updated) (stmt_placed update_rights (round_counts p)) p.update.items tree.update
-        (λ s is. assign_placed update_rights (round_counts p) 0 (what.Field 0) f.op f.updated s is one_field
-          (update_needs (Above c.fields) (Above c.locals) (Above c.other_fields) (Above c.slots) f.updated sound.updated one_field one_slot)))
+      (λ s is. assign_placed update_rights (round_counts p) 0 (what.Field 0) f.op f.updated s is one_field
+      (update_needs (Above c.fields) (Above c.locals) (Above c.other_fields) (Above c.slots) f.updated sound.updated one_field one_slot)))
       (ap (option_all (expr_placed (stop_counts p))) tree.stop))))))
 
   form_kinded : is_kinded p ≡ true
   form_kinded =
       let k = field_kinds p in
       both_true (one_all (IsDecl 0 (what.Field 0) f.field_value) (λ d. expr_has (field_kinds p) d.kind d.value) p.fields.items tree.fields
-        (λ d is. decl_typed 0 (what.Field 0) f.field_value (field_kinds p) d is (none_needs (IsFirstInt k.fields) (IsFirstInt k.locals) (IsFirstInt k.fields) (Unit {0}) f.field_value sound.field_value)))
+      (λ d is. decl_typed 0 (what.Field 0) f.field_value (field_kinds p) d is (none_needs (IsFirstInt k.fields) (IsFirstInt k.locals) (IsFirstInt k.fields) (Unit {0}) f.field_value sound.field_value)))
       (both_true (ap (list_all (λ t. expr_has (field_kinds p) kind.Int t.value)) tree.totals)
       (both_true (true_typed (field_kinds p) p.start.node tree.start)
       (both_true (some_dense f (dense_typed (field_kinds p)) p.dense tree.dense (λ d is. dense_is_typed f sound d is (field_kinds p) field_int))
       (both_true (ap (option_all (sparse_typed (field_kinds p))) tree.sparse)
       (both_true (one_all (IsAssign 0 (what.Field 0) f.op f.updated) (stmt_typed (field_kinds p)) p.update.items tree.update
-        (λ s is. assign_ints (field_kinds p) 0 (what.Field 0) f.op f.updated s is field_int
-          (update_needs (IsFirstInt k.fields) (IsFirstInt k.locals) (IsFirstInt k.fields) (Unit {0}) f.updated sound.updated field_int tt)))
+      (λ s is. assign_ints (field_kinds p) 0 (what.Field 0) f.op f.updated s is field_int
+      (update_needs (IsFirstInt k.fields) (IsFirstInt k.locals) (IsFirstInt k.fields) (Unit {0}) f.updated sound.updated field_int tt)))
       (ap (option_all (expr_has (field_kinds p) kind.Bool)) tree.stop))))))
 
   form_limited : is_limited p ≡ true
@@ -335,7 +348,7 @@ module _ (f : Form) (p : Program) (sound : Sound f) (tree : IsFormTree f p) wher
       (both_true (ap (λ n. nat_le n 8) (one_length IsSumSlot p.slots.items tree.slots))
       (both_true (ap (λ (ts : List TotalDecl). nat_le (length ts) 4) tree.totals)
       (both_true (some_dense f (λ d. nat_le (length d.lets.items) 8) p.dense tree.dense
-        (λ d is. ap (λ n. nat_le n 8) (one_length (IsDecl 2 (what.Local 0) f.local_value) d.lets.items is.lets)))
+      (λ d is. ap (λ n. nat_le n 8) (one_length (IsDecl 2 (what.Local 0) f.local_value) d.lets.items is.lets)))
       (ap (option_all (λ (s : Sparse). nat_le (length s.sends.items) 8)) tree.sparse)))))
 
   form_shallow : is_shallow p ≡ true
@@ -349,7 +362,7 @@ module _ (f : Form) (p : Program) (sound : Sound f) (tree : IsFormTree f p) wher
       (ap (option_all expr_shallow) tree.stop))))))
 
   three_names : length p.names.items ≡ 3
-  three_names = sym (length-map string_bytes p.names.items) ∙ ap length tree.names
+  three_names = sym (length-map p.names.items string_bytes) ∙ ap length tree.names
 
   form_named : names_stand p ≡ true
   form_named =
@@ -357,7 +370,7 @@ module _ (f : Form) (p : Program) (sound : Sound f) (tree : IsFormTree f p) wher
       (both_true (one_all IsSumSlot (λ s. is_known p s.name) p.slots.items tree.slots (λ s is. known p 1 (what.Slot 0) s.name is.name three_names refl))
       (both_true (ap (list_all (λ (t : TotalDecl). is_known p t.name)) tree.totals)
       (both_true (some_dense f (λ d. list_all (λ l. is_known p l.name) d.lets.items) p.dense tree.dense
-        (λ d is. one_all (IsDecl 2 (what.Local 0) f.local_value) (λ l. is_known p l.name) d.lets.items is.lets (λ l one. known p 2 (what.Local 0) l.name one.name three_names refl)))
+      (λ d is. one_all (IsDecl 2 (what.Local 0) f.local_value) (λ l. is_known p l.name) d.lets.items is.lets (λ l one. known p 2 (what.Local 0) l.name one.name three_names refl)))
       (ap (option_all (λ (s : Sparse). list_all (λ l. is_known p l.name) s.sends.items)) tree.sparse))))
 
   form_versioned : version_stands p ≡ true

@@ -5,6 +5,8 @@
 mod form;
 mod read;
 mod spelling;
+#[cfg(test)]
+mod tests;
 mod tree;
 
 pub use read::{FormFault, read_form};

@@ -8,7 +8,9 @@ ghost use Rattle.first_form.specs.Views.{IsSmallAtom, IsSmallForm, plain_atom, p
 use crate::form::{Atom, Form};
 use std::alloc::{AllocError, Global};
 use vert_base::{Combine, Mode, Span, ValueType};
-use vert_tree::{AssignOp, Builtin, Decl, Dense, Expr, Ident, Node, Program, SlotDecl, Stmt, Typed, What};
+use vert_tree::{
+    AssignOp, Builtin, Decl, Dense, Expr, Ident, Node, Program, SlotDecl, Stmt, Typed, What,
+};
 
 /// The first place of a text, which stands for the places of the tokens.
 const START: Span = Span {

@@ -9,9 +9,10 @@ use Rattle.first_form.proofs.SmallTokens.{form_small}
 use Rattle.first_form.proofs.read.read_form.Goals as goal
 
 read_whole : (ks : List Kind) (f : Form) (p : Program) → f ≡ parts_of ks → is_sound f ≡ true → same_kinds ks (form_tokens f) ≡ true → IsFormTree f p → (is_first_form ks ≡ true) × IsTreeOf ks p
-read_whole ks f p is sound spelled tree =
-    ( both_true (subst (λ g. is_sound g ≡ true) is sound) (subst (λ g. same_kinds ks (form_tokens g) ≡ true) is spelled)
-    , subst (λ g. IsFormTree g p) is tree )
+read_whole ks f p is sound spelled tree = (
+  both_true (subst (λ g. is_sound g ≡ true) is sound) (subst (λ g. same_kinds ks (form_tokens g) ≡ true) is spelled),
+  subst (λ g. IsFormTree g p) is tree,
+)
 
 pub tree-requires-clause-small : goal.tree-requires-clause-small
 tree-requires-clause-small c = subst IsSmallForm (sym c.parts_of-form.ensures) (form_small (kinds_of c.args.tokens.now) c.requires)
