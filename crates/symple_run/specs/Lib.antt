@@ -1,7 +1,8 @@
 pub mod Answers
+pub mod Endings
 pub mod Faults
 pub mod Lines
+pub mod Loads
 pub mod Notes
 pub mod Reads
 pub mod Verdicts
-pub mod Loads

@@ -4,7 +4,8 @@ use Rattle.edge_reader.specs.declared.fault.EdgeFault.{EdgeFault}
 use Rattle.edge_reader.specs.declared.fault.EdgeFault.TheVariants.{Line as AtLine, Byte as AtByte, Want as EdgeWant}
 use Rattle.edge_reader.specs.EdgeList.{Graph}
 use Rattle.edge_reader.specs.EdgeText.{reading_of_text}
-use Rattle.first_form.specs.FirstForm.{is_first_form, IsTreeOf}
+use Rattle.first_form.specs.FirstForm.{is_first_form}
+use Rattle.first_form.specs.Trees.{IsTreeOf}
 use Rattle.symple_face.specs.Files.{File, file_named}
 use Rattle.symple_run.specs.declared.failure.Refusal.{Refusal}
 use Rattle.symple_run.specs.declared.failure.Stage.TheVariants.{Tokens, Grammar}

@@ -1,5 +1,5 @@
 ghost use Rattle.std.specs.Prelude.{◌≡◌, ◌≤◌};
-ghost use Rattle.symple_run.specs.Loads.{GivesGraph, GivesProgram, ReadsProgram};
+ghost use Rattle.symple_run.specs.Loads.{GivesGraph, GivesProgram, ReadsProgram, token_fault};
 
 use crate::failure::{Failure, Refusal, Stage};
 use edge_reader::{EdgeFault, Edges, read_text};
@@ -18,29 +18,53 @@ const ORIGIN: Span = Span {
     column: 1,
 };
 
-fn refused(stage: Stage, number: u8, span: Span) -> Failure<'static> {
-    Failure::Program(Refusal {
+/// What is said of a text that is too long.
+const TOO_LONG: Refusal = Refusal {
+    stage: Stage::Tokens,
+    number: 3,
+    span: ORIGIN,
+};
+
+/// Why a text gives no program.
+#[derive(Clone, Copy)]
+enum ProgramFault {
+    Refused(Refusal),
+    Want,
+}
+
+fn refused(stage: Stage, number: u8, span: Span) -> ProgramFault
+    ensures { result ≡ ProgramFault.Refused (record { stage = stage; number = number; span = span }) }
+{
+    ProgramFault::Refused(Refusal {
         stage,
         number,
         span,
     })
 }
 
+fn token_fault(fault: LexFault) -> ProgramFault
+    ensures { result ≡ token_fault fault }
+{
+    match fault {
+        LexFault::BadByte(span) => refused(Stage::Tokens, 1, span),
+        LexFault::BadNumber(span) => refused(Stage::Tokens, 2, span),
+        LexFault::TooLong => ProgramFault::Refused(TOO_LONG),
+        LexFault::Want => ProgramFault::Want,
+    }
+}
+
 /// Reads the text of a program.
-fn read_program(alloc: Global, text: &[u8]) -> Result<Typed, Failure<'static>>
+fn read_program(alloc: Global, text: &[u8]) -> Result<Typed, ProgramFault>
     ensures { ReadsProgram text.now result }
 {
     let tokens = match lex(alloc, text) {
         Ok(tokens) => tokens,
-        Err(LexFault::BadByte(span)) => return Err(refused(Stage::Tokens, 1, span)),
-        Err(LexFault::BadNumber(span)) => return Err(refused(Stage::Tokens, 2, span)),
-        Err(LexFault::TooLong) => return Err(refused(Stage::Tokens, 3, ORIGIN)),
-        Err(LexFault::Want) => return Err(Failure::Memory),
+        Err(fault) => return Err(token_fault(fault)),
     };
     match read_form(alloc, &tokens) {
         Ok(typed) => Ok(typed),
         Err(FormFault::OtherForm) => Err(refused(Stage::Grammar, 1, ORIGIN)),
-        Err(FormFault::Want) => Err(Failure::Memory),
+        Err(FormFault::Want) => Err(ProgramFault::Want),
     }
 }
 
@@ -55,11 +79,16 @@ pub(crate) fn load_program<'a, H: Shelf>(
     ensures stores { H.stores shelf.new ≡ H.stores shelf.old }
     ensures later { H.loads shelf.old ≤ H.loads shelf.new }
 {
-    match shelf.load(alloc, name, PROGRAM_BYTES) {
-        Ok(text) => read_program(alloc, &text),
-        Err(LoadFault::TooLong) => Err(refused(Stage::Tokens, 3, ORIGIN)),
-        Err(LoadFault::Want) => Err(Failure::Memory),
-        Err(LoadFault::Failed | LoadFault::Missing) => Err(Failure::Load(name)),
+    let text = match shelf.load(alloc, name, PROGRAM_BYTES) {
+        Ok(text) => text,
+        Err(LoadFault::TooLong) => return Err(Failure::Program(TOO_LONG)),
+        Err(LoadFault::Want) => return Err(Failure::Memory),
+        Err(LoadFault::Failed | LoadFault::Missing) => return Err(Failure::Load(name)),
+    };
+    match read_program(alloc, &text) {
+        Ok(typed) => Ok(typed),
+        Err(ProgramFault::Refused(refusal)) => Err(Failure::Program(refusal)),
+        Err(ProgramFault::Want) => Err(Failure::Memory),
     }
 }
 

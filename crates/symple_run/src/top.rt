@@ -1,16 +1,20 @@
 ghost use Rattle.std.specs.Prelude.{◌≡◌, ◌≤◌, map, Some, None};
 ghost use Rattle.std.specs.String.{string_bytes};
-ghost use Rattle.symple_run.specs.Answers.{Answers};
-ghost use Rattle.symple_run.specs.Lines.{line_of};
+ghost use Rattle.edge_reader.specs.Gives.{graph_of_edges};
+ghost use Rattle.symple_run.specs.Answers.{Answers, output_text};
+ghost use Rattle.symple_run.specs.Endings.{EndsBy, Plays};
+ghost use Rattle.symple_run.specs.Lines.{RunLine, line_of};
 
 use crate::failure::{Failure, write_note};
 use crate::line::{RunLine, WordFault, read_line};
 use crate::read::{load_graph, load_program};
 use crate::status::Status;
 use crate::table::write_table;
+use edge_reader::Edges;
 use plain_run::run_plainly;
 use std::alloc::Global;
 use symple_face::{Shelf, Sink, Source};
+use vert_tree::Typed;
 
 /// Runs the program on the graph and puts the table.
 fn run<'a, H: Shelf, O: Sink>(
@@ -18,14 +22,39 @@ fn run<'a, H: Shelf, O: Sink>(
     line: RunLine<'a>,
     shelf: &mut H,
     out: &mut O,
-) -> Result<(), Failure<'a>> {
-    let typed = load_program(alloc, shelf, line.program)?;
-    let edges = load_graph(alloc, shelf, line.graph)?;
+) -> Result<(), Failure<'a>>
+    ensures ends { EndsBy (H.files shelf.old) (RunLine line.entry.program.now line.entry.graph.now) (H.loads shelf.old) (H.loads shelf.new)
+        (record { held = O.held out.old; held_after = O.held out.new; faults = O.faults out.old; faults_after = O.faults out.new }) result }
+    ensures files { H.files shelf.new ≡ H.files shelf.old }
+    ensures stores { H.stores shelf.new ≡ H.stores shelf.old }
+    ensures loads { H.loads shelf.old ≤ H.loads shelf.new }
+{
+    let typed = match load_program(alloc, shelf, line.program) {
+        Ok(typed) => typed,
+        Err(failure) => return Err(failure),
+    };
+    let edges = match load_graph(alloc, shelf, line.graph) {
+        Ok(edges) => edges,
+        Err(failure) => return Err(failure),
+    };
+    play(alloc, &typed, &edges, out)
+}
+
+/// Plays the program on the graph by one machine and puts the table.
+fn play<O: Sink>(
+    alloc: Global,
+    typed: &Typed,
+    edges: &Edges,
+    out: &mut O,
+) -> Result<(), Failure<'static>>
+    ensures { Plays (output_text typed.now.program (graph_of_edges edges.now))
+        (record { held = O.held out.old; held_after = O.held out.new; faults = O.faults out.old; faults_after = O.faults out.new }) result }
+{
     let ends = [edges.vertices];
-    let Ok(played) = run_plainly(alloc, &typed, edges.vertices, &edges.list, &ends, 0) else {
+    let Ok(played) = run_plainly(alloc, typed, edges.vertices, &edges.list, &ends, 0) else {
         return Err(Failure::Memory);
     };
-    match write_table(&typed, &played.rows, out) {
+    match write_table(typed, &played.rows, out) {
         Ok(()) => Ok(()),
         Err(_) => Err(Failure::Write),
     }
@@ -37,7 +66,13 @@ fn perform<'a, H: Shelf, O: Sink>(
     words: &'a [String],
     shelf: &mut H,
     out: &mut O,
-) -> Result<(), Failure<'a>> {
+) -> Result<(), Failure<'a>>
+    ensures ends { EndsBy (H.files shelf.old) (line_of (map string_bytes words.now)) (H.loads shelf.old) (H.loads shelf.new)
+        (record { held = O.held out.old; held_after = O.held out.new; faults = O.faults out.old; faults_after = O.faults out.new }) result }
+    ensures files { H.files shelf.new ≡ H.files shelf.old }
+    ensures stores { H.stores shelf.new ≡ H.stores shelf.old }
+    ensures loads { H.loads shelf.old ≤ H.loads shelf.new }
+{
     match read_line(words) {
         Ok(line) => run(alloc, line, shelf, out),
         Err(WordFault::Command) => Err(Failure::Command),

@@ -1,0 +1,27 @@
+-- How a line ends, before its status and note.
+use Rattle.std.specs.Prelude.{◌≡◌, ⊤, ℕ, List, Option, Some, None, Result, Ok, Err}
+use Rattle.symple_face.specs.Files.{File}
+use Rattle.symple_run.specs.declared.failure.Failure.{Failure}
+use Rattle.symple_run.specs.declared.failure.Failure.TheVariants as failure
+use Rattle.symple_run.specs.Answers.{AreUnder, Change, Ends, Failed, Gained, Stayed}
+use Rattle.symple_run.specs.Faults.{fault_of}
+use Rattle.symple_run.specs.Lines.{Line}
+use Rattle.symple_run.specs.Notes.{Fault}
+
+abbrev pub fault_after : Result (Unit {0}) Failure → Option Fault
+fault_after (Ok done) = None
+fault_after (Err failure) = Some (fault_of failure)
+
+-- some files stand under the names of the line, and this is how it ends over them
+pub record EndsBy (files : Option (List File)) (words : Line) (loads loads_after : ℕ) (out : Change) (result : Result (Unit {0}) Failure) : Type 0 where
+  pub program : Option (List ℕ)
+  pub graph : Option (List ℕ)
+  pub under : AreUnder files words program graph
+  pub ends : Ends files (fault_after result) words program graph loads loads_after out
+
+-- this text is put, as far as memory and the sink last
+abbrev pub Plays : List ℕ → Change → Result (Unit {0}) Failure → Type 0
+Plays text out (Ok done) = Gained text out
+Plays text out (Err failure.Write) = Failed text out
+Plays text out (Err failure.Memory) = Stayed out
+Plays text out (Err _) = ⊥
