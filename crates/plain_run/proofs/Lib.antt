@@ -1,9 +1,15 @@
+pub mod ActiveLaws
 pub mod BlockLaws
+pub mod BuildLaws
 pub mod EnvLaws
 pub mod GraphLaws
 pub mod MemberLaws
+pub mod OrderLaws
 pub mod ReadLaws
+pub mod RoundsLaws
 pub mod RunLaws
 pub mod SlotLaws
+pub mod SortLaws
+pub mod StartLaws
 pub mod TurnLaws
 pub mod TypedLaws

@@ -1,5 +1,5 @@
 -- What the partials of slots give.
-use Rattle.std.proofs.Common.{◌≡◌, ℕ, ◌++◌, List, [], ◌∷◌, map, length, refl, ap, ◌∙◌, None}
+use Rattle.std.proofs.Common.{◌≡◌, List, [], ◌∷◌, map, length, refl, ap, ◌∙◌, None}
 use Rattle.std.proofs.Math.ListN.{length-map}
 use Rattle.vert_base.specs.declared.value.Combine.{Combine}
 use Rattle.vert_tree.specs.declared.program.SlotDecl.{SlotDecl}

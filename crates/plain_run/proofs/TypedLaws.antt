@@ -3,6 +3,7 @@ use Rattle.std.proofs.Common.{◌≡◌, ◌≤◌, Bool, true, length, refl, sy
 use Rattle.std.specs.Prelude.{◌&&◌, nat_le, is_some}
 use Rattle.std.specs.List.{list_all}
 use Rattle.std.proofs.lemmas.Bool.{and_parts, leb-true}
+use Rattle.vert_tree.specs.declared.expression.Expr.{Expr}
 use Rattle.vert_tree.specs.declared.program.Dense.{Dense}
 use Rattle.vert_tree.specs.declared.program.Program.{Program}
 use Rattle.vert_tree.specs.declared.program.Sparse.{Sparse}
@@ -95,3 +96,6 @@ module _ (p : Program) (typed : is_typed p ≡ true) where
 
   pub few_sends : (s : Sparse) → p.sparse ≡ Some s → length s.sends.items ≤ 8
   few_sends s e = leb-true _ _ (there (λ x. nat_le (length x.sends.items) 8) p.sparse s e limits.sixth)
+
+  pub stop_stands : (e : Expr) → p.stop ≡ Some e → expr_placed (stop_counts p) e ≡ true
+  stop_stands e is = there (expr_placed (stop_counts p)) p.stop e is places.seventh

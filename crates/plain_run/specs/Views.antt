@@ -1,5 +1,6 @@
 -- What the code holds, in the words of the meaning.
 use Rattle.std.specs.Prelude.{◌≡◌, ◌≤◌, ℕ, List, length, All}
+use Rattle.vert_base.specs.declared.graph.Edge.{Edge}
 use Rattle.vert_base.specs.declared.value.Row.{Row}
 use Rattle.vert_tree.specs.declared.program.Program.{Program}
 use Rattle.vert_tree.specs.Places.{Counts, round_counts}
@@ -26,6 +27,10 @@ program_of s = s.program.now.program
 -- the places for the expressions and blocks of a round
 abbrev pub counts_in : Scene → Counts
 counts_in s = round_counts (program_of s)
+
+-- the edges into a vertex in the order of reading
+abbrev pub members_at : Scene → ℕ → List Edge
+members_at s v = meaning.members_of (graph_of s.graph.now) v
 
 -- each row has so many words
 abbrev pub AreWide : ℕ → List Row → Type 0

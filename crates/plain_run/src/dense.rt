@@ -4,9 +4,9 @@ ghost use Rattle.vert_base.specs.Neighbours.{source};
 ghost use Rattle.vert_tree.specs.Places.{Rights, body_placed, dense_placed, lets_placed};
 ghost use Rattle.slot_merge.specs.Partials.{with_emissions};
 ghost use Rattle.vert_eval.specs.Values.{CanDraw, counts_of};
-ghost use Rattle.vert_eval.specs.Rounds.{dense_at, dense_block, loop, member_act, members_of, with_lets};
+ghost use Rattle.vert_eval.specs.Rounds.{dense_at, dense_block, loop, member_act, with_lets};
 ghost use Rattle.plain_run.specs.Frames.{SameDraws, SameFrame};
-ghost use Rattle.plain_run.specs.Views.{AreWide, IsReady, counts_in, graph_of, scene_of};
+ghost use Rattle.plain_run.specs.Views.{AreWide, IsReady, counts_in, members_at, scene_of};
 
 use super::run::run_body;
 use super::scene::{Scene, enter};
@@ -48,7 +48,13 @@ fn visit(scene: &Scene, body: &[Stmt], member: &Edge, env: &mut Env, emits: &mut
 }
 
 /// Runs the loop: how many members were read.
-fn run_loop(scene: &Scene, body: &[Stmt], members: &[Edge], env: &mut Env, emits: &mut Emits) -> usize
+fn run_loop(
+    scene: &Scene,
+    body: &[Stmt],
+    members: &[Edge],
+    env: &mut Env,
+    emits: &mut Emits,
+) -> usize
     requires inside { All (λ e. source e < scene.now.graph.now.vertices) members.now }
     requires rows { length scene.now.rows.now ≡ scene.now.graph.now.vertices }
     requires wide { AreWide (length env.old.other_row.words.items) scene.now.rows.now }
@@ -83,10 +89,10 @@ fn run_block(scene: &Scene, dense: &Dense, v: u32, env: &mut Env, emits: &mut Em
     requires draws { CanDraw env.old }
     requires partials { length emits.old.slots.items ≡ length env.old.slots.items }
     ensures emits { emits.new.slots.items
-        ≡ with_emissions env.old.key emits.old.slots.items (dense_block (scene_of scene.now) dense.now (members_of (graph_of scene.now.graph.now) v) env.old).emitted }
-    ensures within { result ≤ length (members_of (graph_of scene.now.graph.now) v) }
-    ensures reads { map source (take result (members_of (graph_of scene.now.graph.now) v))
-        ≡ (dense_block (scene_of scene.now) dense.now (members_of (graph_of scene.now.graph.now) v) env.old).reads }
+        ≡ with_emissions env.old.key emits.old.slots.items (dense_block (scene_of scene.now) dense.now (members_at scene.now v) env.old).emitted }
+    ensures within { result ≤ length (members_at scene.now v) }
+    ensures reads { map source (take result (members_at scene.now v))
+        ≡ (dense_block (scene_of scene.now) dense.now (members_at scene.now v) env.old).reads }
 {
     run_lets(&dense.lets, env);
     let read = run_loop(scene, &dense.body, scene.graph.members_of(v), env, emits);
@@ -95,7 +101,13 @@ fn run_block(scene: &Scene, dense: &Dense, v: u32, env: &mut Env, emits: &mut Em
 }
 
 /// Runs the block where the test is true: how many members were read.
-pub(crate) fn run_dense(scene: &Scene, dense: &Dense, v: u32, env: &mut Env, emits: &mut Emits) -> usize
+pub(crate) fn run_dense(
+    scene: &Scene,
+    dense: &Dense,
+    v: u32,
+    env: &mut Env,
+    emits: &mut Emits,
+) -> usize
     requires ready { IsReady scene.now }
     requires inside { v < scene.now.graph.now.vertices }
     requires placed { IsTrue (dense_placed (counts_in scene.now) dense.now) }
@@ -104,10 +116,10 @@ pub(crate) fn run_dense(scene: &Scene, dense: &Dense, v: u32, env: &mut Env, emi
     requires draws { CanDraw env.old }
     requires partials { length emits.old.slots.items ≡ length env.old.slots.items }
     ensures emits { emits.new.slots.items
-        ≡ with_emissions env.old.key emits.old.slots.items (dense_at (scene_of scene.now) dense.now (members_of (graph_of scene.now.graph.now) v) env.old).emitted }
-    ensures within { result ≤ length (members_of (graph_of scene.now.graph.now) v) }
-    ensures reads { map source (take result (members_of (graph_of scene.now.graph.now) v))
-        ≡ (dense_at (scene_of scene.now) dense.now (members_of (graph_of scene.now.graph.now) v) env.old).reads }
+        ≡ with_emissions env.old.key emits.old.slots.items (dense_at (scene_of scene.now) dense.now (members_at scene.now v) env.old).emitted }
+    ensures within { result ≤ length (members_at scene.now v) }
+    ensures reads { map source (take result (members_at scene.now v))
+        ≡ (dense_at (scene_of scene.now) dense.now (members_at scene.now v) env.old).reads }
 {
     if truth(eval(&dense.when_test, env)) {
         run_block(scene, dense, v, env, emits)

@@ -3,8 +3,16 @@
 
 mod dense;
 mod graph;
+mod index;
+mod job;
 mod round;
+mod rounds;
 mod run;
 mod scene;
 mod slots;
 mod sparse;
+mod standing;
+mod start;
+mod totals;
+
+pub use rounds::{PlainRun, PlayedRound, run_plainly};

@@ -1,18 +1,17 @@
 //! One round: what each vertex gathers, and its row after the update.
 ghost use Rattle.std.specs.Prelude.{◌≡◌, ◌<◌, ◌≤◌, ◌++◌, ◌∷◌, [], IfOk, length, map, take};
 ghost use Rattle.vert_base.specs.Neighbours.{source};
-ghost use Rattle.vert_tree.specs.declared.program.Program.{Program};
 ghost use Rattle.slot_merge.specs.Combine.{slot_values};
 ghost use Rattle.slot_merge.specs.Partials.{empty_partial, with_emissions};
-ghost use Rattle.vert_eval.specs.Rounds.{env_at, gathered, members_of, reads_of, rows_after, slot_ops, updated};
+ghost use Rattle.vert_eval.specs.Rounds.{env_at, gathered, reads_of, rows_after, slot_ops, updated};
 ghost use Rattle.plain_run.specs.Lists.{id_lists_of, ids_of};
-ghost use Rattle.plain_run.specs.Views.{AreWide, IsReady, graph_of, program_of, scene_of};
+ghost use Rattle.plain_run.specs.Views.{AreWide, IsReady, members_at, program_of, scene_of};
 
 use super::dense::run_dense;
 use super::run::run_body;
-use super::scene::{Scene, env_at};
+use super::scene::{Scene, bare_env, env_at};
 use super::slots::{no_emits, values_of};
-use super::sparse::{bare_env, run_sparse};
+use super::sparse::run_sparse;
 use arrayvec::ArrayVec;
 use slot_merge::Emits;
 use std::alloc::Global;
@@ -38,8 +37,8 @@ fn emit_at(scene: &Scene, ruling: Ruling, v: u32, emits: &mut Emits) -> usize
     requires inside { v < scene.now.graph.now.vertices }
     requires partials { length emits.old.slots.items ≡ length (program_of scene.now).slots.items }
     ensures emits { emits.new.slots.items ≡ with_emissions 0 emits.old.slots.items (gathered (program_of scene.now) ruling (scene_of scene.now) v).emitted }
-    ensures within { result ≤ length (members_of (graph_of scene.now.graph.now) v) }
-    ensures reads { map source (take result (members_of (graph_of scene.now.graph.now) v)) ≡ (gathered (program_of scene.now) ruling (scene_of scene.now) v).reads }
+    ensures within { result ≤ length (members_at scene.now v) }
+    ensures reads { map source (take result (members_at scene.now v)) ≡ (gathered (program_of scene.now) ruling (scene_of scene.now) v).reads }
 {
     match ruling {
         Ruling::Stop => 0,
@@ -64,8 +63,8 @@ fn gather(scene: &Scene, ruling: Ruling, v: u32) -> Gathered
     requires ready { IsReady scene.now }
     requires inside { v < scene.now.graph.now.vertices }
     ensures values { result.values.items ≡ slot_values 0 (slot_ops (program_of scene.now)) (gathered (program_of scene.now) ruling (scene_of scene.now) v).emitted }
-    ensures within { result.read ≤ length (members_of (graph_of scene.now.graph.now) v) }
-    ensures reads { map source (take result.read (members_of (graph_of scene.now.graph.now) v)) ≡ (gathered (program_of scene.now) ruling (scene_of scene.now) v).reads }
+    ensures within { result.read ≤ length (members_at scene.now v) }
+    ensures reads { map source (take result.read (members_at scene.now v)) ≡ (gathered (program_of scene.now) ruling (scene_of scene.now) v).reads }
 {
     let mut emits = no_emits(&scene.program.program.slots);
     let read = emit_at(scene, ruling, v, &mut emits);
@@ -92,18 +91,20 @@ fn updated_row(scene: &Scene, v: u32, slots: ArrayVec<Option<i64>, 8>) -> Row
     }
 }
 
-/// The sources of edges, in order.
-fn sources(alloc: Global, members: &[Edge]) -> Result<Vec<VertexId>, Want>
-    ensures { IfOk result (λ ids. ids_of ids.items ≡ map source members.now) }
+/// The sources of the members that were read, in order.
+fn sources(alloc: Global, members: &[Edge], read: usize) -> Result<Vec<VertexId>, Want>
+    requires { read ≤ length members.now }
+    ensures { IfOk result (λ ids. ids_of ids.items ≡ map source (take read members.now)) }
 {
     let mut ids = Vec::new(alloc);
-    for member in members {
+    for member in &members[..read] {
         push(&mut ids, member.from)?;
     }
     Ok(ids)
 }
 
-fn push<T: Drop>(items: &mut Vec<T>, item: T) -> Result<(), Want>
+/// Puts an item behind the others.
+pub(crate) fn push<T: Drop>(items: &mut Vec<T>, item: T) -> Result<(), Want>
     ensures { IfOk result (λ _. items.new.items ≡ items.old.items ++ item ∷ []) }
 {
     match items.push(item) {
@@ -125,7 +126,7 @@ pub(crate) fn round(alloc: Global, scene: &Scene, ruling: Ruling) -> Result<Outc
         let gathered = gather(scene, ruling, v);
         push(&mut rows, updated_row(scene, v, gathered.values))?;
         let members = scene.graph.members_of(v);
-        push(&mut reads, sources(alloc, &members[..gathered.read])?)?;
+        push(&mut reads, sources(alloc, members, gathered.read)?)?;
     }
     Ok(Outcome { rows, reads })
 }

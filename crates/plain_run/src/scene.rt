@@ -1,9 +1,11 @@
 ghost use Rattle.std.specs.Prelude.{◌≡◌, ◌<◌, ◌≤◌, length, pos};
 ghost use Rattle.vert_base.specs.Neighbours.{source};
-ghost use Rattle.vert_eval.specs.Rounds.{at_member, env_at, neighbour_of, row_at};
-ghost use Rattle.plain_run.specs.Views.{graph_of, scene_of};
+ghost use Rattle.vert_eval.specs.Values.{CanDraw, counts_of};
+ghost use Rattle.vert_eval.specs.Rounds.{at_member, env_at, neighbour_of, row_at, sender_at, slot_ops};
+ghost use Rattle.plain_run.specs.Views.{IsReady, counts_in, graph_of, program_of, scene_of};
 
 use super::graph::Graph;
+use super::slots::no_values;
 use arrayvec::ArrayVec;
 use vert_base::{Edge, Neighbour, Row, VertexId};
 use vert_eval::Env;
@@ -20,7 +22,7 @@ pub(crate) struct Scene<'a> {
     pub totals: &'a [i64],
 }
 
-fn row_copy(row: &Row) -> Row
+pub(crate) fn row_copy(row: &Row) -> Row
     ensures { result ≡ row.now }
 {
     let mut words = ArrayVec::new();
@@ -89,6 +91,17 @@ pub(crate) fn env_at(scene: &Scene, v: u32, slots: ArrayVec<Option<i64>, 8>) -> 
         totals: totals_of(scene),
         key: 0,
     }
+}
+
+/// The environment of a vertex that has no values of the slots.
+pub(crate) fn bare_env(scene: &Scene, v: u32) -> Env
+    requires ready { IsReady scene.now }
+    requires inside { v < scene.now.graph.now.vertices }
+    ensures env { result ≡ sender_at (scene_of scene.now) (slot_ops (program_of scene.now)) v }
+    ensures counts { counts_of result ≡ counts_in scene.now }
+    ensures draws { CanDraw result }
+{
+    env_at(scene, v, no_values(&scene.program.program.slots))
 }
 
 /// Makes a member of the neighbours the one that the environment is at.

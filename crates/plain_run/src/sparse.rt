@@ -5,12 +5,11 @@ ghost use Rattle.vert_base.specs.Neighbours.{source};
 ghost use Rattle.vert_tree.specs.Places.{expr_placed, sparse_placed};
 ghost use Rattle.slot_merge.specs.Partials.{with_emissions};
 ghost use Rattle.vert_eval.specs.Values.{CanDraw, counts_of};
-ghost use Rattle.vert_eval.specs.Rounds.{emitted_over, members_of, received, sender_at, sent_by, slot_ops};
-ghost use Rattle.plain_run.specs.Views.{IsReady, counts_in, graph_of, program_of, scene_of};
+ghost use Rattle.vert_eval.specs.Rounds.{emitted_over, received, sender_at, sent_by, slot_ops};
+ghost use Rattle.plain_run.specs.Views.{IsReady, counts_in, members_at, program_of, scene_of};
 
 use super::run::run_body;
-use super::scene::{Scene, enter, env_at};
-use super::slots::no_values;
+use super::scene::{Scene, bare_env, enter};
 use arrayvec::ArrayVec;
 use slot_merge::Emits;
 use vert_base::Edge;
@@ -31,17 +30,6 @@ fn sends_of(sparse: &Sparse, sender: &Env) -> ArrayVec<i64, 8>
     words
 }
 
-/// The environment of a vertex that has no values of the slots.
-pub(crate) fn bare_env(scene: &Scene, v: u32) -> Env
-    requires ready { IsReady scene.now }
-    requires inside { v < scene.now.graph.now.vertices }
-    ensures env { result ≡ sender_at (scene_of scene.now) (slot_ops (program_of scene.now)) v }
-    ensures counts { counts_of result ≡ counts_in scene.now }
-    ensures draws { CanDraw result }
-{
-    env_at(scene, v, no_values(&scene.program.program.slots))
-}
-
 /// Runs the body at a receiver, over what one member sends it.
 fn receive(scene: &Scene, sparse: &Sparse, v: u32, member: &Edge, sender: &Env, emits: &mut Emits)
     requires ready { IsReady scene.now }
@@ -56,9 +44,10 @@ fn receive(scene: &Scene, sparse: &Sparse, v: u32, member: &Edge, sender: &Env, 
         emits.new.slots.items ≡ with_emissions 0 emits.old.slots.items (received (scene_of scene.now) sparse.now member.now sender.now receiver).emitted }
     ensures partials { length emits.new.slots.items ≡ length emits.old.slots.items }
 {
+    let words = sends_of(sparse, sender);
     let mut env = bare_env(scene, v);
     enter(scene, member, &mut env);
-    env.sends = sends_of(sparse, sender);
+    env.sends = words;
     run_body(&sparse.body, &mut env, emits);
 }
 
@@ -89,7 +78,7 @@ pub(crate) fn run_sparse(scene: &Scene, sparse: &Sparse, v: u32, emits: &mut Emi
     requires partials { length emits.old.slots.items ≡ length (program_of scene.now).slots.items }
     ensures { let receiver = sender_at (scene_of scene.now) (slot_ops (program_of scene.now)) v in
         emits.new.slots.items ≡ with_emissions 0 emits.old.slots.items
-            (flat_map (emitted_over (scene_of scene.now) (slot_ops (program_of scene.now)) sparse.now receiver) (members_of (graph_of scene.now.graph.now) v)) }
+        (flat_map (emitted_over (scene_of scene.now) (slot_ops (program_of scene.now)) sparse.now receiver) (members_at scene.now v)) }
 {
     for member in scene.graph.members_of(v) {
         take_from(scene, sparse, v, member, emits);

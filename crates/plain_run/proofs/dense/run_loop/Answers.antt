@@ -1,6 +1,5 @@
 use Rattle.std.proofs.Common.{◌<◌, ◌+◌, length, get_or, sym, ap, ◌∙◌, arith}
 use Rattle.std.proofs.lemmas.List.{get_or_default}
-use Rattle.vert_base.specs.declared.graph.Edge.{Edge}
 use Rattle.vert_tree.specs.Places.{body_placed}
 use Rattle.vert_eval.specs.Rounds.{loop, member_act}
 use Rattle.plain_run.specs.Views.{scene_of}

@@ -1,7 +1,7 @@
-use Rattle.std.proofs.Common.{◌≤◌, length, arith}
+use Rattle.std.proofs.Common.{◌≤◌, length}
 use Rattle.plain_run.specs.Views.{program_of}
 use Rattle.plain_run.proofs.TypedLaws.{few_slots, few_totals}
-use Rattle.plain_run.proofs.sparse.bare_env.Goals as goal
+use Rattle.plain_run.proofs.scene.bare_env.Goals as goal
 
 pub no_values-requires : goal.no_values-requires
 no_values-requires c =

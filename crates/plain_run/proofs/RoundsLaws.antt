@@ -1,0 +1,61 @@
+-- The rounds of a run, one by one.
+use Rattle.std.proofs.Common.{◌≡◌, ◌≢◌, ℕ, zero, suc, ◌+◌, List, [], ◌∷◌, ◌++◌, refl, ap, sym, subst, ◌∙◌, append_assoc}
+use Rattle.std.proofs.lemmas.List.{append-nil}
+use Rattle.vert_base.specs.declared.value.Ruling.{Ruling}
+use Rattle.vert_base.specs.declared.value.Ruling.TheVariants as ruling
+use Rattle.vert_eval.specs.SourceRun.{Job, Run, Standing, by_ruling, next_standing, played_at, rounds_from, then_runs}
+use Rattle.plain_run.specs.Told.{Told, rounds_told, told_played}
+
+-- what was told and what is left make the whole
+pub record IsLeft (told : List Told) (left whole : Run) : Type 0 where
+  pub rows : left.last.rows ≡ whole.last.rows
+  pub rounds : told ++ rounds_told left ≡ rounds_told whole
+
+going : (r : Ruling) (ended going : Run) → r ≢ ruling.Stop → by_ruling r ended going ≡ going
+going ruling.Stop a b ne = absurd (ne refl)
+going ruling.Dense a b ne = refl
+going ruling.Sparse a b ne = refl
+
+-- a round that takes place
+pub left_more :
+    (j : Job) (fuel less round : ℕ) (s next : Standing) (told : List Told) (one : Told) (whole : Run) →
+    fuel ≡ suc less →
+    s.ruling ≢ ruling.Stop →
+    one ≡ told_played (played_at j round s) →
+    next ≡ next_standing j round s →
+    IsLeft told (rounds_from fuel j round s) whole →
+    IsLeft (told ++ one ∷ []) (rounds_from less j (round + 1) next) whole
+left_more j fuel less round s next told one whole e ne is here h =
+    let rest = rounds_from less j (round + 1) (next_standing j round s) in
+    let step : rounds_from fuel j round s ≡ then_runs (played_at j round s) rest =
+    ap (λ n. rounds_from n j round s) e ∙ going s.ruling (record { rounds = []; last = s }) (then_runs (played_at j round s) rest) ne in
+    let same : rounds_from less j (round + 1) next ≡ rest = ap (rounds_from less j (round + 1)) here in
+    record {
+      rows = ap (λ r. r.last.rows) same ∙ (ap (λ r. r.last.rows) (sym step) ∙ h.rows);
+      rounds =
+          ap (λ r. (told ++ one ∷ []) ++ rounds_told r) same
+          ∙ (ap (λ t. (told ++ t ∷ []) ++ rounds_told rest) is
+          ∙ (append_assoc told (told_played (played_at j round s) ∷ []) (rounds_told rest)
+          ∙ (ap (λ r. told ++ rounds_told r) (sym step) ∙ h.rounds)));
+    }
+
+stopped : (j : Job) (fuel round : ℕ) (s : Standing) → s.ruling ≡ ruling.Stop → rounds_from fuel j round s ≡ record { rounds = []; last = s }
+stopped j zero round s e = refl
+stopped j (suc less) round s e =
+    ap (λ r. by_ruling r (record { rounds = []; last = s }) (then_runs (played_at j round s) (rounds_from less j (round + 1) (next_standing j round s)))) e
+
+-- a run that has ended
+pub left_none : (j : Job) (round : ℕ) (s : Standing) (told : List Told) (left whole : Run) → left ≡ record { rounds = []; last = s } → IsLeft told left whole → IsLeft told (record { rounds = []; last = s }) whole
+left_none j round s told left whole e h = subst (λ (r : Run). IsLeft told r whole) e h
+
+pub rows_ended : (s : Standing) (told : List Told) (whole : Run) → IsLeft told (record { rounds = []; last = s }) whole → s.rows ≡ whole.last.rows
+rows_ended s told whole h = h.rows
+
+pub rounds_ended : (s : Standing) (told : List Told) (whole : Run) → IsLeft told (record { rounds = []; last = s }) whole → told ≡ rounds_told whole
+rounds_ended s told whole h = sym (append-nil told) ∙ h.rounds
+
+pub left_stopped : (j : Job) (fuel round : ℕ) (s : Standing) (told : List Told) (whole : Run) → s.ruling ≡ ruling.Stop → IsLeft told (rounds_from fuel j round s) whole → IsLeft told (record { rounds = []; last = s }) whole
+left_stopped j fuel round s told whole e h = left_none j round s told (rounds_from fuel j round s) whole (stopped j fuel round s e) h
+
+pub left_over : (j : Job) (fuel round : ℕ) (s : Standing) (told : List Told) (whole : Run) → fuel ≡ zero → IsLeft told (rounds_from fuel j round s) whole → IsLeft told (record { rounds = []; last = s }) whole
+left_over j fuel round s told whole e h = left_none j round s told (rounds_from fuel j round s) whole (ap (λ n. rounds_from n j round s) e) h
