@@ -1,0 +1,3 @@
+pub mod SmallTokens
+pub mod StripLaws
+pub mod TypedTrees

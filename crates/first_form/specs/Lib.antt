@@ -1,0 +1,4 @@
+pub mod FirstForm
+pub mod Spelling
+pub mod Trees
+pub mod Views
