@@ -1,12 +1,24 @@
 -- Texts that are written one after another.
-use Rattle.std.proofs.Common.{◌≡◌, ℕ, ◌+◌, ◌<◌, ◌≤◌, List, [], ◌∷◌, ◌++◌, length, take, drop, get_or, Option, Result, Ok, Err, flat_map, refl, sym, ap, subst, ◌∙◌, length-append, arith, append_assoc, append-nil}
+use Rattle.std.proofs.Common.{◌≡◌, ℕ, ◌+◌, ◌<◌, List, [], ◌∷◌, ◌++◌, length, take, drop, get_or, Option, Result, Ok, Err, flat_map, refl, sym, ap, subst, ◌∙◌, length-append, arith, append_assoc, append-nil}
 use Rattle.std.specs.Result.{IsErr}
 use Rattle.std.proofs.lemmas.Grind.{flat_map-append}
 use Rattle.std.proofs.lemmas.List.{take_more, take-append-drop}
-use Rattle.symple_face.specs.Bytes.{gained, GainedPart}
-use Rattle.symple_face.proofs.BytesLaws.{gained-gained, part_of_longer, part_after}
+use Rattle.symple_face.specs.Bytes.{gained}
+use Rattle.symple_face.proofs.BytesLaws.{gained-nothing, gained-gained, part_of_longer, part_after}
 use Rattle.symple_face.specs.declared.sink.SinkFault.{SinkFault}
 use Rattle.array_text.specs.Writes.{Writes}
+
+-- no text, and no call
+pub writes_nothing : {S : Type 0} (held : S → Option (List ℕ)) (faults spare : S → ℕ) (sink : S) → Writes held faults spare sink sink [] (Ok tt)
+writes_nothing held faults spare sink = record {
+  whole = sym (gained-nothing (held sink));
+  counted = refl;
+  part = tt;
+  failed = tt;
+  later = omega arith;
+  sure = tt;
+  spared = omega arith;
+}
 
 -- the same text
 pub writes_same : {S : Type 0} {held : S → Option (List ℕ)} {faults spare : S → ℕ} {old new : S} {text other : List ℕ} {result : Result (Unit {0}) SinkFault} → text ≡ other → Writes held faults spare old new text result → Writes held faults spare old new other result
@@ -51,9 +63,9 @@ writes_then {held = held} {old = old} {mid = mid} {new = new} {first = first} {s
 pub texts_split : {X : Type 0} (f : X → List ℕ) (xs : List X) (i : ℕ) (d : X) (part : List ℕ) → i < length xs → part ≡ f (get_or xs i d) → flat_map f (take i xs) ++ part ++ flat_map f (drop (i + 1) xs) ≡ flat_map f xs
 texts_split f xs i d part below is =
     let more : flat_map f (take (i + 1) xs) ≡ flat_map f (take i xs) ++ (f (get_or xs i d) ++ []) =
-        ap (flat_map f) (take_more xs i d below) ∙ flat_map-append f (take i xs) (get_or xs i d ∷ []) in
+    ap (flat_map f) (take_more xs i d below) ∙ flat_map-append f (take i xs) (get_or xs i d ∷ []) in
     let one : flat_map f (take i xs) ++ part ≡ flat_map f (take (i + 1) xs) =
-        ap (λ (text : List ℕ). flat_map f (take i xs) ++ text) (is ∙ sym (append-nil (f (get_or xs i d)))) ∙ sym more in
+    ap (λ (text : List ℕ). flat_map f (take i xs) ++ text) (is ∙ sym (append-nil (f (get_or xs i d)))) ∙ sym more in
     ap (λ (text : List ℕ). text ++ flat_map f (drop (i + 1) xs)) one
     ∙ sym (flat_map-append f (take (i + 1) xs) (drop (i + 1) xs))
     ∙ ap (flat_map f) (take-append-drop (i + 1) xs)

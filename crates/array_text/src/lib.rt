@@ -1,10 +1,14 @@
 //! The texts of the output, put piece by piece into a sink.
 #![tactic(auto)]
 
+mod header;
 mod put;
 mod round;
-mod table;
+mod row;
+#[cfg(test)]
+mod tests;
 
+pub use header::write_header;
 pub use put::put_all;
 pub use round::write_round;
-pub use table::{write_header, write_row};
+pub use row::write_row;

@@ -1,4 +1,4 @@
-use Rattle.std.proofs.Common.{length, ◌∙◌, arith}
+use Rattle.std.proofs.Common.{◌∙◌, arith}
 use Rattle.symple_face.proofs.BytesLaws.{gained_more}
 use Rattle.array_text.proofs.put.put_all.Goals as goal
 

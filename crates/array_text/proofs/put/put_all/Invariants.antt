@@ -1,4 +1,4 @@
-use Rattle.std.proofs.Common.{length, ◌-◌, ◌≡◌, ◌+◌, ◌≤◌, ℕ, take}
+use Rattle.std.proofs.Common.{length, ◌-◌, ◌≡◌, ◌+◌, ◌≤◌, take}
 use Rattle.symple_face.specs.Bytes.{gained}
 use Rattle.array_text.proofs.put.put_all.Given as goal
 

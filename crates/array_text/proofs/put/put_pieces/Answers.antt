@@ -1,4 +1,4 @@
-use Rattle.std.proofs.Common.{◌+◌, List, ℕ, flat_map, take, drop, get_or, Bor, refl, arith}
+use Rattle.std.proofs.Common.{◌+◌, List, ℕ, flat_map, drop, Bor, refl, arith}
 use Rattle.array_text.proofs.WritesLaws.{writes_same, writes_failed, writes_then, texts_split}
 use Rattle.array_text.proofs.put.put_pieces.Goals as goal
 

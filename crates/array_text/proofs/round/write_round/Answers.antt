@@ -1,5 +1,4 @@
-use Rattle.std.proofs.Common.{◌≡◌, ◌++◌, List, ℕ, [], ◌∷◌, codes, refl, ap, ◌∙◌, append-nil, append_assoc}
-use Rattle.array_text.specs.Rounds.{round_text}
+use Rattle.std.proofs.Common.{◌≡◌, ◌++◌, List, ℕ, [], codes, ◌∙◌, append_assoc}
 use Rattle.array_text.proofs.WritesLaws.{writes_same}
 use Rattle.array_text.proofs.round.write_round.Goals as goal
 

@@ -1,32 +1,12 @@
-ghost use Rattle.std.specs.Prelude.{◌≡◌, ◌++◌, codes, slice_get};
-ghost use Rattle.array_text.specs.Tables.{bytes_of, header_text, row_text, word_text, words_text};
+ghost use Rattle.std.specs.Prelude.{◌++◌, codes};
+ghost use Rattle.array_text.specs.Tables.{row_text, word_text, words_text};
 ghost use Rattle.array_text.specs.Writes.{Writes};
 
 use crate::put::{put_all, put_pieces};
 use itoa::Buffer;
 use symple_face::{Sink, SinkFault};
 use vert_base::{Row, ValueType, VertexId};
-use vert_tree::{Decl, Program, Typed};
-
-/// Puts the first line of the table.
-pub fn write_header<O: Sink>(typed: &Typed, out: &mut O) -> Result<(), SinkFault>
-    ensures { Writes O.held O.faults O.spare out.old out.new (header_text typed.now.program) result }
-{
-    put_all(out, b"vertex")?;
-    for field in &typed.program.fields {
-        put_pieces(out, &[b" ", name_of(&typed.program, field)])?;
-    }
-    put_all(out, b"\n")
-}
-
-fn name_of<'a>(program: &'a Program, field: &Decl) -> &'a [u8]
-    ensures { result.now ≡ bytes_of (slice_get program.now.names.items field.now.name.name) }
-{
-    match program.names.get(field.name.name as usize) {
-        Some(name) => name.as_bytes(),
-        None => b"",
-    }
-}
+use vert_tree::{Decl, Typed};
 
 /// Puts the line of a vertex: its id and the words of its fields.
 pub fn write_row<O: Sink>(
@@ -46,13 +26,14 @@ pub fn write_row<O: Sink>(
 fn put_words<O: Sink>(fields: &[Decl], words: &[i64], out: &mut O) -> Result<(), SinkFault>
     ensures { Writes O.held O.faults O.spare out.old out.new (words_text fields.now words.now) result }
 {
-    match (fields, words) {
-        ([field, other_fields @ ..], [word, other_words @ ..]) => {
-            put_word(field.kind, *word, out)?;
-            put_words(other_fields, other_words, out)
-        }
-        _ => Ok(()),
-    }
+    let Some(field) = fields.first() else {
+        return Ok(());
+    };
+    let Some(word) = words.first() else {
+        return Ok(());
+    };
+    put_word(field.kind, *word, out)?;
+    put_words(&fields[1..], &words[1..], out)
 }
 
 fn put_word<O: Sink>(kind: ValueType, word: i64, out: &mut O) -> Result<(), SinkFault>
