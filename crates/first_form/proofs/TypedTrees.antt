@@ -1,5 +1,5 @@
 -- The tree of a sound form is that of a typed program.
-use Rattle.std.proofs.Common.{◌≡◌, ℕ, Bool, true, false, not, ◌&&◌, ◌||◌, List, [], ◌∷◌, map, length, Option, Some, None, refl, sym, ap, ◌∙◌}
+use Rattle.std.proofs.Common.{◌≡◌, ℕ, Bool, true, false, not, ◌&&◌, ◌||◌, List, [], ◌∷◌, length, Option, Some, None, refl, sym, ap, ◌∙◌}
 use Rattle.std.proofs.lemmas.Bool.{and_parts}
 use Rattle.std.proofs.lemmas.List.{length-map}
 use Rattle.std.specs.Cmp.Derive.{both_true}
@@ -9,7 +9,6 @@ use Rattle.std.specs.Str.{bytes_eq}
 use Rattle.std.specs.String.{string_bytes}
 use Rattle.vert_base.specs.declared.value.ValueType.{ValueType}
 use Rattle.vert_base.specs.declared.value.ValueType.TheVariants as kind
-use Rattle.vert_tree.specs.declared.expression.Builtin.TheVariants as word
 use Rattle.vert_tree.specs.declared.expression.Node.{Node}
 use Rattle.vert_tree.specs.declared.expression.Node.TheVariants as node
 use Rattle.vert_tree.specs.declared.name.Ident.{Ident}
@@ -18,7 +17,6 @@ use Rattle.vert_tree.specs.declared.name.What.TheVariants as what
 use Rattle.vert_tree.specs.declared.program.Decl.{Decl}
 use Rattle.vert_tree.specs.declared.program.Dense.{Dense}
 use Rattle.vert_tree.specs.declared.program.Program.{Program}
-use Rattle.vert_tree.specs.declared.program.SlotDecl.{SlotDecl}
 use Rattle.vert_tree.specs.declared.program.Sparse.{Sparse}
 use Rattle.vert_tree.specs.declared.program.TotalDecl.{TotalDecl}
 use Rattle.vert_tree.specs.declared.expression.Expr.{Expr}
@@ -28,7 +26,7 @@ use Rattle.vert_tree.specs.declared.statement.Stmt.{Stmt}
 use Rattle.vert_tree.specs.declared.statement.Stmt.TheFolds.{fold-roll-Stmt}
 use Rattle.vert_tree.specs.declared.statement.Stmt.TheOpen as level
 use Rattle.vert_tree.specs.declared.statement.Stmt.TheVariants.{Assign, Emit, rolls-Assign, rolls-Emit}
-use Rattle.vert_tree.specs.Kinds.{Kinds, assign_typed, body_typed, dense_typed, expr_has, field_kinds, has_kind, is_kinded, kinds_of, lets_typed, level_typed, name_kind, node_kind, other_kind, sparse_typed, stmt_typed, word_kind}
+use Rattle.vert_tree.specs.Kinds.{Kinds, assign_typed, dense_typed, expr_has, field_kinds, has_kind, is_kinded, kinds_of, lets_typed, level_typed, name_kind, node_kind, other_kind, sparse_typed, stmt_typed, word_kind}
 use Rattle.vert_tree.specs.Limits.{decls_shallow, dense_shallow, expr_shallow, is_known, is_limited, is_shallow, level_depth, mode_stands, names_stand, node_depth, sparse_shallow, stmt_depth, version_stands}
 use Rattle.vert_tree.specs.Places.{Counts, Rights, dense_placed, expr_placed, is_named, is_other_field, is_placed, is_slot, is_target, lets_placed, level_placed, loop_rights, no_counts, node_placed, option_all, round_counts, row_counts, sparse_placed, stmt_placed, stop_counts, tail_rights, update_rights}
 use Rattle.vert_tree.specs.Typed.{is_typed}
