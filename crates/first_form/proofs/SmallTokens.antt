@@ -1,5 +1,5 @@
 -- The tokens of a text, and the expressions among them, have no number above the greatest.
-use Rattle.std.proofs.Common.{◌≡◌, ◌≤◌, ◌+◌, ℕ, zero, suc, Bool, true, false, not, List, [], ◌∷◌, map, length, take, Option, Some, None, subst, refl, sym, nat_eq, arith}
+use Rattle.std.proofs.Common.{◌≡◌, ◌+◌, ℕ, zero, suc, Bool, true, false, not, List, [], ◌∷◌, map, length, take, Option, Some, None, subst, refl, sym, nat_eq}
 use Rattle.std.proofs.lemmas.Bool.{ltb-false}
 use Rattle.std.specs.Prelude.{if◌then◌else◌, pred, nat_lt, slice_get, Result, Ok, Err}
 use Rattle.std.specs.Str.{bytes_eq}
@@ -12,7 +12,7 @@ use Rattle.vert_lex.specs.declared.token.LexFault.TheVariants.{BadNumber}
 use Rattle.vert_lex.specs.Text.{Placed, after, followed, is_blank, is_comment, judged, origin, tokens_at, tokens_of}
 use Rattle.vert_lex.specs.View.{plain_tokens}
 use Rattle.vert_lex.specs.Tokens.{Kind, Reserved, Mark, Number, Name, kind_of, longest}
-use Rattle.first_form.specs.FirstForm.{Atom, Literal, Id, Count, Weight, Field, Local, OtherField, SlotValue, atom_in, atom_length, loop_atom, name_in, op_in, op_length, update_atom, is_mark, is_word, parts_of, word_atom}
+use Rattle.first_form.specs.FirstForm.{Atom, atom_in, atom_length, loop_atom, name_in, op_in, op_length, update_atom, is_mark, is_word, parts_of, word_atom}
 use Rattle.first_form.specs.Views.{AreSmall, IsSmallAtom, IsSmallForm, IsSmallKind, kinds_of}
 
 abbrev IsSmallAnswer : Result (List Placed) LexFault → Type 0

@@ -1,5 +1,5 @@
 -- The tree of a sound form is that of a typed program.
-use Rattle.std.proofs.Common.{◌≡◌, ℕ, Bool, true, false, not, ◌&&◌, ◌||◌, List, [], ◌∷◌, map, length, Option, Some, None, refl, sym, ap, ◌∙◌}
+use Rattle.std.proofs.Common.{◌≡◌, ℕ, Bool, true, false, not, ◌&&◌, ◌||◌, List, [], ◌∷◌, ◌++◌, map, length, Option, Some, None, refl, sym, ap, ◌∙◌}
 use Rattle.std.proofs.lemmas.Bool.{and_parts}
 use Rattle.std.proofs.lemmas.List.{length-map}
 use Rattle.std.specs.Cmp.Derive.{both_true}
@@ -9,7 +9,6 @@ use Rattle.std.specs.Str.{bytes_eq}
 use Rattle.std.specs.String.{string_bytes}
 use Rattle.vert_base.specs.declared.value.ValueType.{ValueType}
 use Rattle.vert_base.specs.declared.value.ValueType.TheVariants as kind
-use Rattle.vert_tree.specs.declared.expression.Builtin.TheVariants as word
 use Rattle.vert_tree.specs.declared.expression.Node.{Node}
 use Rattle.vert_tree.specs.declared.expression.Node.TheVariants as node
 use Rattle.vert_tree.specs.declared.name.Ident.{Ident}
@@ -28,9 +27,11 @@ use Rattle.vert_tree.specs.declared.statement.Stmt.{Stmt}
 use Rattle.vert_tree.specs.declared.statement.Stmt.TheFolds.{fold-roll-Stmt}
 use Rattle.vert_tree.specs.declared.statement.Stmt.TheOpen as level
 use Rattle.vert_tree.specs.declared.statement.Stmt.TheVariants.{Assign, Emit, rolls-Assign, rolls-Emit}
-use Rattle.vert_tree.specs.Kinds.{Kinds, assign_typed, body_typed, dense_typed, expr_has, field_kinds, has_kind, is_kinded, kinds_of, lets_typed, level_typed, name_kind, node_kind, other_kind, sparse_typed, stmt_typed, word_kind}
+use Rattle.vert_tree.specs.Kinds.{Kinds, assign_typed, dense_typed, expr_has, field_kinds, has_kind, is_kinded, kinds_of, lets_typed, level_typed, name_kind, node_kind, other_kind, sparse_typed, stmt_typed, word_kind}
 use Rattle.vert_tree.specs.Limits.{decls_shallow, dense_shallow, expr_shallow, is_known, is_limited, is_shallow, level_depth, mode_stands, names_stand, node_depth, sparse_shallow, stmt_depth, version_stands}
 use Rattle.vert_tree.specs.Places.{Counts, Rights, dense_placed, expr_placed, is_named, is_other_field, is_placed, is_slot, is_target, lets_placed, level_placed, loop_rights, no_counts, node_placed, option_all, round_counts, row_counts, sparse_placed, stmt_placed, stop_counts, tail_rights, update_rights}
+use Rattle.vert_tree.specs.Readable as reading
+use Rattle.vert_tree.specs.Readable.{Readable, all_differ, declares_once, decls_read, dense_read, expr_read, is_readable, is_total_op, let_names, level_read, names_of, node_read, send_names, sparse_read, stmt_read, totals_combine, word_read}
 use Rattle.vert_tree.specs.Typed.{is_typed}
 use Rattle.first_form.specs.FirstForm.{Atom, Literal, Id, Count, Weight, Field, Local, OtherField, SlotValue, Form, in_let, in_loop, in_tail, in_update, is_sound, reads_no_name}
 use Rattle.first_form.specs.Trees.{IsAssign, IsDecl, IsDense, IsEmit, IsFormTree, IsNamed, IsOne, IsSomeDense, IsSumSlot, SaysAtom, SaysTrue}
@@ -381,6 +382,127 @@ module _ (f : Form) (p : Program) (sound : Sound f) (tree : IsFormTree f p) wher
   form_moded : mode_stands p.mode (is_some p.dense) (is_some p.sparse) ≡ true
   form_moded = ap (λ m. mode_stands m (is_some p.dense) (is_some p.sparse)) tree.mode ∙ dense_is_some f p.dense tree.dense
 
+-- what may be read where an expression stands
+abbrev may_read : Readable → Atom → Bool
+may_read r Id = r.own
+may_read r Weight = r.weight
+may_read r OtherField = r.others
+may_read r SlotValue = r.slots
+may_read r _ = true
+
+field_read : (a : Atom) → reads_no_name a ≡ true → may_read reading.in_fields a ≡ true
+field_read Weight may = may
+field_read OtherField may = may
+field_read SlotValue may = may
+field_read _ may = refl
+
+let_read : (a : Atom) → in_let a ≡ true → may_read reading.in_tests a ≡ true
+let_read Weight may = may
+let_read OtherField may = may
+let_read SlotValue may = may
+let_read _ may = refl
+
+tail_read : (a : Atom) → in_tail a ≡ true → may_read reading.in_tests a ≡ true
+tail_read Weight may = may
+tail_read OtherField may = may
+tail_read SlotValue may = may
+tail_read _ may = refl
+
+loop_read : (a : Atom) → in_loop a ≡ true → may_read reading.in_loop a ≡ true
+loop_read SlotValue may = may
+loop_read _ may = refl
+
+update_read : (a : Atom) → in_update a ≡ true → may_read reading.in_update a ≡ true
+update_read Weight may = may
+update_read OtherField may = may
+update_read _ may = refl
+
+says_read : (r : Readable) (a : Atom) (n : Node) → SaysAtom a n → may_read r a ≡ true → node_read r n ≡ true
+says_read r (Literal value) (node.Int x) says may = refl
+says_read r Id (node.Word w) says may = ap (word_read r) says ∙ may
+says_read r Count (node.Word w) says may = ap (word_read r) says
+says_read r Weight (node.Word w) says may = ap (word_read r) says ∙ may
+says_read r Field (node.Name name) says may = refl
+says_read r Local (node.Name name) says may = refl
+says_read r OtherField (node.OtherField name) says may = may
+says_read r SlotValue (node.Value name) says may = may
+says_read r _ _ says may = absurd says
+
+true_read : (r : Readable) (n : Node) → SaysTrue n → node_read r n ≡ true
+true_read r (node.Bool b) says = refl
+true_read r _ says = absurd says
+
+assign_read : (r : Readable) (number : ℕ) (w : What) (op : AssignOp) (a : Atom) (s : Stmt) → IsAssign number w op a s → may_read r a ≡ true → stmt_read r s ≡ true
+assign_read r number w op a (Assign target how e) is may =
+    ap (stmt_read r) (sym (rolls-Assign target how e)) ∙ fold-roll-Stmt Bool (level_read r) (level.Assign target how e)
+    ∙ says_read r a e.node is.2 may
+assign_read r number w op a _ is may = absurd is
+
+emit_read : (r : Readable) (a : Atom) (s : Stmt) → IsEmit a s → may_read r a ≡ true → stmt_read r s ≡ true
+emit_read r a (Emit at slot e) is may =
+    ap (stmt_read r) (sym (rolls-Emit at slot e)) ∙ fold-roll-Stmt Bool (level_read r) (level.Emit at slot e)
+    ∙ says_read r a e.node is.1 may
+emit_read r a _ is may = absurd is
+
+one_read : (r : Readable) (number : ℕ) (w : What) (a : Atom) (ds : List Decl) → IsOne (IsDecl number w a) ds → may_read r a ≡ true → decls_read r ds ≡ true
+one_read r number w a ds one may = one_all (IsDecl number w a) (λ d. expr_read r d.value) ds one (λ d is. says_read r a d.value.node is.value may)
+
+dense_is_read : (f : Form) → Sound f → (d : Dense) → IsDense f d → dense_read d ≡ true
+dense_is_read f sound d is =
+    both_true (true_read reading.in_tests d.when_test.node is.test)
+    (both_true (one_read reading.in_tests 2 (what.Local 0) f.local_value d.lets.items is.lets (let_read f.local_value sound.local_value))
+    (both_true (one_all (IsAssign 2 (what.Local 0) assign.Add f.added) (stmt_read reading.in_loop) d.body.items is.body
+    (λ s one. assign_read reading.in_loop 2 (what.Local 0) assign.Add f.added s one (loop_read f.added sound.added)))
+    (one_all (IsEmit f.emitted) (stmt_read reading.in_tests) d.tail.items is.tail
+    (λ s one. emit_read reading.in_tests f.emitted s one (tail_read f.emitted sound.emitted)))))
+
+-- the names that are declared
+one_name : (number : ℕ) (w : What) (a : Atom) (ds : List Decl) → IsOne (IsDecl number w a) ds → names_of ds ≡ number ∷ []
+one_name number w a [] one = absurd one
+one_name number w a (d ∷ []) one = ap (λ n. n ∷ []) one.name.number_is
+one_name number w a (d ∷ e ∷ ds) one = absurd one
+
+slot_names : (ss : List SlotDecl) → IsOne IsSumSlot ss → map (λ s. s.name.name) ss ≡ 1 ∷ []
+slot_names [] one = absurd one
+slot_names (s ∷ []) one = ap (λ n. n ∷ []) one.name.number_is
+slot_names (s ∷ t ∷ ss) one = absurd one
+
+dense_names : (f : Form) (dense : Option Dense) → IsSomeDense f dense → let_names dense ≡ 2 ∷ []
+dense_names f (Some d) is = one_name 2 (what.Local 0) f.local_value d.lets.items is.lets
+dense_names f None is = absurd is
+
+three_differ : (a b c d e : List ℕ) → a ≡ 0 ∷ [] → b ≡ 1 ∷ [] → c ≡ [] → d ≡ 2 ∷ [] → e ≡ [] → all_differ (a ++ (b ++ (c ++ (d ++ e)))) ≡ true
+three_differ a b c d e first second third fourth fifth =
+    ap (λ (ns : List ℕ). all_differ (ns ++ (b ++ (c ++ (d ++ e))))) first
+    ∙ ap (λ (ns : List ℕ). all_differ (0 ∷ (ns ++ (c ++ (d ++ e))))) second
+    ∙ ap (λ (ns : List ℕ). all_differ (0 ∷ 1 ∷ (ns ++ (d ++ e)))) third
+    ∙ ap (λ (ns : List ℕ). all_differ (0 ∷ 1 ∷ (ns ++ e))) fourth
+    ∙ ap (λ (ns : List ℕ). all_differ (0 ∷ 1 ∷ 2 ∷ ns)) fifth
+
+module _ (f : Form) (p : Program) (sound : Sound f) (tree : IsFormTree f p) where
+  form_readable : is_readable p ≡ true
+  form_readable =
+      both_true (one_read reading.in_fields 0 (what.Field 0) f.field_value p.fields.items tree.fields (field_read f.field_value sound.field_value))
+      (both_true (ap (list_all (λ (t : TotalDecl). expr_read reading.in_tests t.value)) tree.totals)
+      (both_true (true_read reading.in_fields p.start.node tree.start)
+      (both_true (some_dense f dense_read p.dense tree.dense (dense_is_read f sound))
+      (both_true (ap (option_all sparse_read) tree.sparse)
+      (both_true (one_all (IsAssign 0 (what.Field 0) f.op f.updated) (stmt_read reading.in_update) p.update.items tree.update
+      (λ s is. assign_read reading.in_update 0 (what.Field 0) f.op f.updated s is (update_read f.updated sound.updated)))
+      (ap (option_all (expr_read reading.in_stop)) tree.stop))))))
+
+  form_once : declares_once p ≡ true
+  form_once =
+      three_differ (names_of p.fields.items) (map (λ s. s.name.name) p.slots.items) (map (λ t. t.name.name) p.totals.items) (let_names p.dense) (send_names p.sparse)
+      (one_name 0 (what.Field 0) f.field_value p.fields.items tree.fields)
+      (slot_names p.slots.items tree.slots)
+      (ap (map (λ (t : TotalDecl). t.name.name)) tree.totals)
+      (dense_names f p.dense tree.dense)
+      (ap send_names tree.sparse)
+
+  form_combined : totals_combine p ≡ true
+  form_combined = ap (list_all (λ (t : TotalDecl). is_total_op t.op)) tree.totals
+
 pub form_typed : (f : Form) (p : Program) → is_sound f ≡ true → IsFormTree f p → is_typed p ≡ true
 form_typed f p holds tree =
     let sound = sound_parts f holds in
@@ -389,4 +511,7 @@ form_typed f p holds tree =
     (both_true (form_limited f p sound tree)
     (both_true (form_shallow f p sound tree)
     (both_true (form_named f p sound tree)
-    (both_true (form_versioned f p sound tree) (form_moded f p sound tree))))))
+    (both_true (form_versioned f p sound tree)
+    (both_true (form_moded f p sound tree)
+    (both_true (form_readable f p sound tree)
+    (both_true (form_once f p sound tree) (form_combined f p sound tree)))))))))

@@ -1,10 +1,9 @@
 -- The rounds of a run, one by one.
-use Rattle.std.proofs.Common.{◌≡◌, ◌≢◌, ℕ, zero, suc, ◌+◌, ◌-◌, List, [], ◌∷◌, ◌++◌, map, refl, ap, sym, subst, ◌∙◌, arith, append_assoc}
+use Rattle.std.proofs.Common.{◌≡◌, ◌≢◌, ℕ, zero, suc, ◌+◌, List, [], ◌∷◌, ◌++◌, refl, ap, sym, subst, ◌∙◌, append_assoc}
 use Rattle.std.proofs.lemmas.List.{append-nil}
-use Rattle.vert_base.specs.declared.value.Row.{Row}
 use Rattle.vert_base.specs.declared.value.Ruling.{Ruling}
 use Rattle.vert_base.specs.declared.value.Ruling.TheVariants as ruling
-use Rattle.vert_eval.specs.SourceRun.{Job, Played, Run, Standing, by_ruling, next_standing, played_at, rounds_from, then_runs}
+use Rattle.vert_eval.specs.SourceRun.{Job, Run, Standing, by_ruling, next_standing, played_at, rounds_from, then_runs}
 use Rattle.plain_run.specs.Told.{Told, rounds_told, told_played}
 
 -- what was told and what is left make the whole

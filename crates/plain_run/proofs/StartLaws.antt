@@ -1,7 +1,6 @@
 -- What stands before the first round, and what is worked out between rounds.
-use Rattle.std.proofs.Common.{◌≡◌, ℕ, ℤ, ◌+◌, ◌<◌, ◌≤◌, Bool, true, false, List, [], ◌∷◌, ◌++◌, map, length, fold, get_or, take, refl, ap, sym, ◌∙◌, arith, Option, Some, None}
-use Rattle.std.specs.Prelude.{◌==◌, ◌||◌, if◌then◌else◌, nat_lt}
-use Rattle.std.specs.List.{All, range_with_len, list_all}
+use Rattle.std.proofs.Common.{◌≡◌, ℕ, ℤ, ◌+◌, ◌<◌, Bool, false, List, [], ◌∷◌, ◌++◌, map, length, fold, get_or, take, ap, sym, ◌∙◌, arith}
+use Rattle.std.specs.List.{All, range_with_len}
 use Rattle.std.proofs.lemmas.List.{map-append, take_more}
 use Rattle.std.proofs.lemmas.List.Elements.{All-same}
 use Rattle.std.proofs.lemmas.List.Sums.{fold-append}
@@ -10,11 +9,8 @@ use Rattle.std.proofs.Math.ListN.{length-map}
 use Rattle.vert_base.specs.declared.value.Combine.{Combine}
 use Rattle.vert_base.specs.declared.value.Row.{Row}
 use Rattle.vert_base.specs.declared.value.Ruling.{Ruling}
-use Rattle.vert_base.specs.declared.value.Ruling.TheVariants as ruling
 use Rattle.vert_tree.specs.declared.expression.Expr.{Expr}
-use Rattle.vert_tree.specs.declared.program.Decl.{Decl}
 use Rattle.vert_tree.specs.declared.program.Program.{Program}
-use Rattle.vert_tree.specs.declared.program.TotalDecl.{TotalDecl}
 use Rattle.vert_tree.specs.Places.{Counts, row_counts, stop_counts}
 use Rattle.slot_merge.specs.Combine.{combined_of, neutral}
 use Rattle.vert_eval.specs.declared.environment.Env.{Env}

@@ -1,4 +1,4 @@
-use Rattle.std.proofs.Common.{sym, ◌∙◌, drop, arith, length, ◌<◌}
+use Rattle.std.proofs.Common.{sym, ◌∙◌, drop, arith}
 use Rattle.std.proofs.lemmas.List.{length-drop}
 use Rattle.first_form.proofs.StripLaws.{strip_short}
 use Rattle.first_form.proofs.spelling.strip.Goals as goal

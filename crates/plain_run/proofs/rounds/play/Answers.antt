@@ -1,5 +1,4 @@
-use Rattle.std.proofs.Common.{◌≡◌, length, ap, ◌∙◌}
-use Rattle.plain_run.specs.Views.{scene_of}
+use Rattle.std.proofs.Common.{length, ap, ◌∙◌}
 use Rattle.plain_run.proofs.StartLaws.{rows_after-length}
 use Rattle.plain_run.proofs.rounds.play.Goals as goal
 

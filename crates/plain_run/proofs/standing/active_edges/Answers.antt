@@ -1,8 +1,8 @@
-use Rattle.std.proofs.Common.{◌≡◌, ◌+◌, ◌<◌, length, get_or, ap, sym, ◌∙◌, arith}
+use Rattle.std.proofs.Common.{◌+◌, ◌<◌, length, get_or, arith}
 use Rattle.std.proofs.lemmas.List.{get_or_default}
 use Rattle.vert_eval.specs.Rounds.{empty_row}
 use Rattle.plain_run.specs.Views.{graph_of}
-use Rattle.plain_run.proofs.ActiveLaws.{active_sum, active_sum-le, active_sum-off, active_sum-on}
+use Rattle.plain_run.proofs.ActiveLaws.{active_sum-le, active_sum-off, active_sum-on}
 use Rattle.plain_run.proofs.standing.active_edges.Goals as goal
 use Rattle.plain_run.proofs.standing.active_edges.Goals.{then-rows-v, else-rows-v}
 

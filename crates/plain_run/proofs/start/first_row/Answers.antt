@@ -1,4 +1,4 @@
-use Rattle.std.proofs.Common.{◌≡◌, [], map, length, ap, ◌∙◌, arith}
+use Rattle.std.proofs.Common.{[], map, length, ap, ◌∙◌, arith}
 use Rattle.std.specs.List.{list_all}
 use Rattle.std.proofs.Math.ListN.{length-map}
 use Rattle.vert_tree.specs.Places.{expr_placed}

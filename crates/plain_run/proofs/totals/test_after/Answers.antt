@@ -1,5 +1,5 @@
-use Rattle.std.proofs.Common.{◌≡◌, [], length, ap, ◌∙◌, arith}
-use Rattle.vert_tree.specs.Places.{expr_placed, stop_counts}
+use Rattle.std.proofs.Common.{[], ap, ◌∙◌, arith}
+use Rattle.vert_tree.specs.Places.{expr_placed}
 use Rattle.vert_eval.specs.Rounds.{env_at}
 use Rattle.vert_eval.specs.SourceRun.{scene_of}
 use Rattle.vert_eval.specs.Values.{counts_of}

@@ -1,4 +1,4 @@
-use Rattle.std.proofs.Common.{◌≡◌, ◌∙◌, arith, rules, w64}
+use Rattle.std.proofs.Common.{◌∙◌, arith, rules, w64}
 use Rattle.std.proofs.lemmas.Int.{to_z-of_z}
 use Rattle.vert_eval.specs.SourceRun.{total_after}
 use Rattle.plain_run.specs.Jobs.{job_of}

@@ -1,4 +1,4 @@
-use Rattle.std.proofs.Common.{◌≡◌, length, ap, ◌∙◌, arith}
+use Rattle.std.proofs.Common.{length, ap, ◌∙◌, arith}
 use Rattle.std.specs.List.{list_all}
 use Rattle.vert_tree.specs.Places.{expr_placed, row_counts}
 use Rattle.plain_run.proofs.TypedLaws.{few_totals, totals_placed}
