@@ -1,2 +1,4 @@
 pub mod LineLaws
+pub mod LoadLaws
+pub mod ProgramLaws
 pub mod RowsLaws

@@ -1,5 +1,5 @@
 -- What a command leaves.
-use Rattle.std.specs.Prelude.{◌≡◌, ◌⊎◌, ⊤, ℕ, List, [], ◌∷◌, Option, Some, None}
+use Rattle.std.specs.Prelude.{◌≡◌, ◌⊎◌, ℕ, List, [], ◌∷◌, Option, Some, None}
 use Rattle.array_text.specs.Tables.{table_text}
 use Rattle.edge_reader.specs.EdgeList as edges
 use Rattle.symple_face.specs.Bytes.{gained, GainedPart}
@@ -47,17 +47,17 @@ pub record Failed (text : List ℕ) (c : Change) : Type 0 where
 
 -- what stands under a name, where the files are told
 abbrev pub IsUnder : Option (List File) → List ℕ → Option (List ℕ) → Type 0
-IsUnder None name file = ⊤
+IsUnder None name file = Unit {0}
 IsUnder (Some files) name file = file_named name files ≡ file
 
 -- these stand under the names of a line
 abbrev pub AreUnder : Option (List File) → line.Line → Option (List ℕ) → Option (List ℕ) → Type 0
-AreUnder files (line.RunLine program_name graph_name) program graph = IsUnder files program_name program × IsUnder files graph_name graph
-AreUnder files _ program graph = ⊤
+AreUnder files (line.RunOf program_name graph_name) program graph = IsUnder files program_name program × IsUnder files graph_name graph
+AreUnder files _ program graph = Unit {0}
 
 -- a name that a line loads
 abbrev pub IsLoaded : line.Line → List ℕ → Type 0
-IsLoaded (line.RunLine program graph) name = (name ≡ program) ⊎ (name ≡ graph)
+IsLoaded (line.RunOf program graph) name = (name ≡ program) ⊎ (name ≡ graph)
 IsLoaded _ name = ⊥
 
 -- the line runs a program on a graph, and its output is this text
@@ -72,7 +72,7 @@ pub record Prints (words : line.Line) (program_file graph_file : Option (List �
 -- the shelf tells its files
 abbrev pub IsTold : Option (List File) → Type 0
 IsTold None = ⊥
-IsTold (Some files) = ⊤
+IsTold (Some files) = Unit {0}
 
 -- how a line ends over these files: with no fault, or with one
 abbrev pub Ends : Option (List File) → Option Fault → line.Line → Option (List ℕ) → Option (List ℕ) → ℕ → ℕ → Change → Type 0

@@ -6,7 +6,7 @@ use Rattle.std.specs.Str.{bytes_eq}
 pub data Line : Type 0 where
   NoCommand : Line
   BadWords : Line
-  RunLine : (program graph : List ℕ) → Line
+  RunOf : (program graph : List ℕ) → Line
 
 -- a word that isn't empty and doesn't begin with `-`
 abbrev pub is_name : List ℕ → Bool
@@ -17,7 +17,7 @@ is_name (b ∷ bs) = not (b == 45)
 abbrev pub run_line : List (List ℕ) → Line
 run_line (program ∷ graph ∷ option ∷ machines ∷ []) =
     if is_name program && (is_name graph && (bytes_eq option (codes "--machines") && bytes_eq machines (codes "1")))
-    then RunLine program graph
+    then RunOf program graph
     else BadWords
 run_line _ = BadWords
 

@@ -1,5 +1,5 @@
 -- What loading and reading a program or a graph gives.
-use Rattle.std.specs.Prelude.{◌≡◌, ◌⊎◌, ⊤, ℕ, false, List, Option, Some, None, Result, Ok, Err}
+use Rattle.std.specs.Prelude.{◌≡◌, ◌⊎◌, ℕ, false, List, Option, Some, None, Result, Ok, Err}
 use Rattle.edge_reader.specs.declared.edges.Edges.{Edges}
 use Rattle.edge_reader.specs.declared.fault.EdgeFault.TheVariants as edge
 use Rattle.edge_reader.specs.EdgeText.{reading_of_text}
@@ -22,7 +22,7 @@ use Rattle.vert_tree.specs.declared.typed.Typed.{Typed}
 abbrev pub ReadsProgram : List ℕ → Result Typed ProgramFault → Type 0
 ReadsProgram text (Ok typed) = (program_refusal text ≡ None) × Says text typed.program
 ReadsProgram text (Err (fault.Refused refusal)) = program_refusal text ≡ Some refusal
-ReadsProgram text (Err fault.Want) = ⊤
+ReadsProgram text (Err fault.Want) = Unit {0}
 
 abbrev pub token_fault : LexFault → ProgramFault
 token_fault (lex.BadByte span) = fault.Refused (record { stage = Tokens; number = 1; span = span })
@@ -37,11 +37,11 @@ NotLoaded files loads loads_after file = (IsTold files × (file ≡ None)) ⊎ R
 -- the program in a file, where there is one
 abbrev pub ProgramIn : Option (List File) → ℕ → ℕ → List ℕ → Option (List ℕ) → Result Typed Failure → Type 0
 ProgramIn files loads loads_after name file (Err (failure.Load unread)) = (unread.now ≡ name) × NotLoaded files loads loads_after file
-ProgramIn files loads loads_after name None (Err failure.Memory) = ⊤
+ProgramIn files loads loads_after name None (Err failure.Memory) = Unit {0}
 ProgramIn files loads loads_after name None result = ⊥
 ProgramIn files loads loads_after name (Some text) (Ok typed) = (program_refusal text ≡ None) × Says text typed.program
 ProgramIn files loads loads_after name (Some text) (Err (failure.Program refusal)) = program_refusal text ≡ Some refusal
-ProgramIn files loads loads_after name (Some text) (Err failure.Memory) = ⊤
+ProgramIn files loads loads_after name (Some text) (Err failure.Memory) = Unit {0}
 ProgramIn files loads loads_after name (Some text) (Err _) = ⊥
 
 -- some file stands under the name, and this is what it gives
@@ -55,13 +55,13 @@ abbrev pub ReadsGraph : List ℕ → Result Edges Failure → Type 0
 ReadsGraph bytes (Ok edges) = reading_of_text None false bytes ≡ Ok (graph_of_edges edges)
 ReadsGraph bytes (Err (failure.GraphLine code line)) = reading_of_text None false bytes ≡ Err (edge.Line code line)
 ReadsGraph bytes (Err (failure.GraphByte code at)) = reading_of_text None false bytes ≡ Err (edge.Byte code at)
-ReadsGraph bytes (Err failure.Memory) = ⊤
+ReadsGraph bytes (Err failure.Memory) = Unit {0}
 ReadsGraph bytes (Err _) = ⊥
 
 -- the graph in a file, where there is one
 abbrev pub GraphIn : Option (List File) → ℕ → ℕ → List ℕ → Option (List ℕ) → Result Edges Failure → Type 0
 GraphIn files loads loads_after name file (Err (failure.Load unread)) = (unread.now ≡ name) × NotLoaded files loads loads_after file
-GraphIn files loads loads_after name None (Err failure.Memory) = ⊤
+GraphIn files loads loads_after name None (Err failure.Memory) = Unit {0}
 GraphIn files loads loads_after name None result = ⊥
 GraphIn files loads loads_after name (Some bytes) result = ReadsGraph bytes result
 

@@ -6,6 +6,6 @@ use Rattle.symple_run.specs.declared.line.WordFault.TheVariants.{Command, Words}
 use Rattle.symple_run.specs.Lines as line
 
 abbrev pub LineReads : line.Line → Result RunLine WordFault → Type 0
-LineReads words (Ok read) = words ≡ line.RunLine read.program.now read.graph.now
+LineReads words (Ok read) = words ≡ line.RunOf read.program.now read.graph.now
 LineReads words (Err Command) = words ≡ line.NoCommand
 LineReads words (Err Words) = words ≡ line.BadWords

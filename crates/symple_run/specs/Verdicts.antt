@@ -66,4 +66,4 @@ by_program program graph (Some text) file = by_refusal graph text (program_refus
 abbrev pub verdict_of : line.Line → Option (List ℕ) → Option (List ℕ) → Verdict
 verdict_of line.NoCommand program graph = Fails NoCommand
 verdict_of line.BadWords program graph = Fails BadWords
-verdict_of (line.RunLine program_name graph_name) program graph = by_program program_name graph_name program graph
+verdict_of (line.RunOf program_name graph_name) program graph = by_program program_name graph_name program graph

@@ -83,7 +83,8 @@ pub(crate) fn load_program<'a, H: Shelf>(
         Ok(text) => text,
         Err(LoadFault::TooLong) => return Err(Failure::Program(TOO_LONG)),
         Err(LoadFault::Want) => return Err(Failure::Memory),
-        Err(LoadFault::Failed | LoadFault::Missing) => return Err(Failure::Load(name)),
+        Err(LoadFault::Failed) => return Err(Failure::Load(name)),
+        Err(LoadFault::Missing) => return Err(Failure::Load(name)),
     };
     match read_program(alloc, &text) {
         Ok(typed) => Ok(typed),
@@ -112,7 +113,8 @@ pub(crate) fn load_graph<'a, H: Shelf>(
             });
         }
         Err(LoadFault::Want) => return Err(Failure::Memory),
-        Err(LoadFault::Failed | LoadFault::Missing) => return Err(Failure::Load(name)),
+        Err(LoadFault::Failed) => return Err(Failure::Load(name)),
+        Err(LoadFault::Missing) => return Err(Failure::Load(name)),
     };
     match read_text(alloc, &bytes, None, false) {
         Ok(edges) => Ok(edges),

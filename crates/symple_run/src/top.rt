@@ -3,7 +3,7 @@ ghost use Rattle.std.specs.String.{string_bytes};
 ghost use Rattle.edge_reader.specs.Gives.{graph_of_edges};
 ghost use Rattle.symple_run.specs.Answers.{Answers, output_text};
 ghost use Rattle.symple_run.specs.Endings.{EndsBy, Plays};
-ghost use Rattle.symple_run.specs.Lines.{RunLine, line_of};
+ghost use Rattle.symple_run.specs.Lines.{RunOf, line_of};
 
 use crate::failure::{Failure, write_note};
 use crate::line::{RunLine, WordFault, read_line};
@@ -23,7 +23,7 @@ fn run<'a, H: Shelf, O: Sink>(
     shelf: &mut H,
     out: &mut O,
 ) -> Result<(), Failure<'a>>
-    ensures ends { EndsBy (H.files shelf.old) (RunLine line.entry.program.now line.entry.graph.now) (H.loads shelf.old) (H.loads shelf.new)
+    ensures ends { EndsBy (H.files shelf.old) (RunOf line.entry.program.now line.entry.graph.now) (H.loads shelf.old) (H.loads shelf.new)
         (record { held = O.held out.old; held_after = O.held out.new; faults = O.faults out.old; faults_after = O.faults out.new }) result }
     ensures files { H.files shelf.new ≡ H.files shelf.old }
     ensures stores { H.stores shelf.new ≡ H.stores shelf.old }
