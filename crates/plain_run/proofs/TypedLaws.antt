@@ -10,6 +10,7 @@ use Rattle.vert_tree.specs.declared.program.Sparse.{Sparse}
 use Rattle.vert_tree.specs.Kinds.{is_kinded}
 use Rattle.vert_tree.specs.Limits.{is_limited, is_shallow, mode_stands, names_stand, version_stands}
 use Rattle.vert_tree.specs.Places.{body_placed, dense_placed, expr_placed, is_placed, no_counts, option_all, round_counts, row_counts, sparse_placed, stop_counts, update_rights}
+use Rattle.vert_tree.specs.Readable.{declares_once, is_readable, totals_combine}
 use Rattle.vert_tree.specs.Typed.{is_typed}
 
 -- each of seven tests is true where all are
@@ -45,9 +46,13 @@ six a b c d e f h =
 there : {X : Type 0} (test : X → Bool) (o : Option X) (x : X) → o ≡ Some x → option_all test o ≡ true → test x ≡ true
 there test o x e h = ap (option_all test) (sym e) ∙ h
 
+-- the tests of a typed program after the first six
+abbrev mode_and_reads : Program → Bool
+mode_and_reads p = mode_stands p.mode (is_some p.dense) (is_some p.sparse) && (is_readable p && (declares_once p && totals_combine p))
+
 module _ (p : Program) (typed : is_typed p ≡ true) where
-  all : All7 (is_placed p) (is_kinded p) (is_limited p) (is_shallow p) (names_stand p) (version_stands p) (mode_stands p.mode (is_some p.dense) (is_some p.sparse))
-  all = seven (is_placed p) (is_kinded p) (is_limited p) (is_shallow p) (names_stand p) (version_stands p) (mode_stands p.mode (is_some p.dense) (is_some p.sparse)) typed
+  all : All7 (is_placed p) (is_kinded p) (is_limited p) (is_shallow p) (names_stand p) (version_stands p) (mode_and_reads p)
+  all = seven (is_placed p) (is_kinded p) (is_limited p) (is_shallow p) (names_stand p) (version_stands p) (mode_and_reads p) typed
 
   abbrev Places : Type 0
   Places = All7 (list_all (λ d. expr_placed no_counts d.value) p.fields.items) (list_all (λ t. expr_placed (row_counts p) t.value) p.totals.items) (expr_placed (row_counts p) p.start) (option_all (dense_placed (round_counts p)) p.dense) (option_all (sparse_placed (round_counts p)) p.sparse) (body_placed update_rights (round_counts p) p.update.items) (option_all (expr_placed (stop_counts p)) p.stop)

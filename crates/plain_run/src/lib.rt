@@ -16,3 +16,6 @@ mod start;
 mod totals;
 
 pub use rounds::{PlainRun, PlayedRound, run_plainly};
+
+#[cfg(test)]
+mod tests;

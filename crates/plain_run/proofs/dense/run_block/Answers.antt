@@ -1,11 +1,17 @@
 use Rattle.std.proofs.Common.{◌≡◌, length, map, take, sym, ap, ◌∙◌}
 use Rattle.vert_base.specs.Neighbours.{source}
-use Rattle.vert_tree.specs.Places.{body_placed, loop_rights, tail_rights}
+use Rattle.vert_tree.specs.Places.{body_placed, lets_placed, loop_rights, tail_rights}
 use Rattle.vert_eval.specs.Rounds.{members_of}
 use Rattle.vert_eval.specs.Values.{counts_of}
 use Rattle.plain_run.specs.Views.{counts_in, graph_of, scene_of}
 use Rattle.plain_run.proofs.BlockLaws.{block_partials, block_reads, counts_after, dense_parts}
 use Rattle.plain_run.proofs.dense.run_block.Goals as goal
+
+pub run_lets-requires-clause-names : goal.run_lets-requires-clause-names
+run_lets-requires-clause-names c =
+    let counts = counts_in c.args.scene.now in
+    let parts = dense_parts counts c.args.dense.now c.requires.placed in
+    ap (lets_placed (counts_of c.args.env.now)) c.deref.ensures.value ∙ ap (λ k. lets_placed k c.args.dense.now.lets.items) c.requires.start ∙ parts.lets
 
 pub run_loop-read-requires-clause-names : goal.run_loop-read-requires-clause-names
 run_loop-read-requires-clause-names c =
