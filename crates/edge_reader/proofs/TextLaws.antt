@@ -1,7 +1,8 @@
 use Rattle.std.proofs.Common.{ℕ, ◌<◌, ◌≤◌, List, [], ◌∷◌, arith}
 use Rattle.std.proofs.lemmas.List.Elements.{All-cons, All-nil}
 use Rattle.vert_base.specs.declared.graph.Edge.{Edge}
-use Rattle.edge_reader.specs.EdgeList.{AreBelow, bound_of}
+use Rattle.edge_reader.specs.EdgeList.{bound_of}
+use Rattle.vert_base.specs.Neighbours.{AreBelow}
 
 -- both ids are below n
 abbrev pub IsBelow : ℕ → Edge → Type 0

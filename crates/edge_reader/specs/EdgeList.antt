@@ -1,11 +1,6 @@
 -- Lists of edges.
-use Rattle.std.specs.Prelude.{ℕ, ◌+◌, ◌<◌, List, [], ◌∷◌, max}
-use Rattle.std.specs.List.{All}
+use Rattle.std.specs.Prelude.{ℕ, ◌+◌, List, [], ◌∷◌, max}
 use Rattle.vert_base.specs.declared.graph.Edge.{Edge}
-
--- the ids of the edges are below n
-abbrev pub AreBelow : ℕ → List Edge → Type 0
-AreBelow n edges = All (λ edge. (edge.from.0 < n) × (edge.to.0 < n)) edges
 
 -- the same edge the other way round
 abbrev pub reversed : Edge → Edge

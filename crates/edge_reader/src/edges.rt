@@ -1,6 +1,6 @@
 ghost use Rattle.std.specs.Prelude.{◌≤◌, length};
 ghost use Rattle.vert_base.specs.declared.limits.TheConstants.{EDGES, VERTICES};
-ghost use Rattle.edge_reader.specs.EdgeList.{AreBelow};
+ghost use Rattle.vert_base.specs.Neighbours.{AreBelow};
 
 use vert_base::Edge;
 

@@ -1,6 +1,7 @@
 ghost use Rattle.std.specs.Prelude.{◌≡◌, ◌≤◌, ◌++◌, length, OnOk};
 ghost use Rattle.std.specs.Option.{ForSome};
-ghost use Rattle.edge_reader.specs.EdgeList.{AreBelow, bound_of};
+ghost use Rattle.edge_reader.specs.EdgeList.{bound_of};
+ghost use Rattle.vert_base.specs.Neighbours.{AreBelow};
 ghost use Rattle.edge_reader.specs.EdgeText.{code_of, edges_of, limit_of, vertices_of, reading_of_text};
 ghost use Rattle.edge_reader.specs.Gives.{Gives};
 

@@ -5,6 +5,8 @@ mod graph;
 pub mod limits;
 mod message;
 mod place;
+#[cfg(test)]
+mod tests;
 mod text;
 mod value;
 

@@ -1,6 +1,6 @@
 use Rattle.std.proofs.Common.{◌≡◌, ◌≤◌, ◌+◌, [], length, map}
 use Rattle.edge_reader.specs.declared.fault.EdgeFault.TheVariants.{Line}
-use Rattle.edge_reader.specs.EdgeList.{AreBelow}
+use Rattle.vert_base.specs.Neighbours.{AreBelow}
 use Rattle.edge_reader.specs.Lines.{lines_of, entry_of_line}
 use Rattle.edge_reader.specs.EdgeText.{limit_of, edges_from}
 use Rattle.edge_reader.proofs.text.read_text.Given as goal
