@@ -32,19 +32,3 @@ pub enum Flow {
     Going,
     Broke,
 }
-
-impl Flow {
-    ghost use Rattle.std.specs.Prelude.{◌≡◌, ◌↔◌, IsTrue, List};
-    ghost use Rattle.vert_tree.specs.declared.statement.Stmt.{Stmt};
-    ghost use Rattle.vert_eval.specs.Rounds.{Scene};
-    ghost use Rattle.vert_eval.specs.Splits.{SplitsInTwo, SplitsInParts};
-
-    /// Whether a loop that ends so over one part of a list goes on over the next part.
-    pub fn goes_on(self) -> bool
-        ensures going { IsTrue result ↔ (self ≡ Flow.Going) }
-        ensures two { (s : Scene) → (body : List Stmt) → SplitsInTwo s body }
-        ensures parts { (s : Scene) → (body : List Stmt) → SplitsInParts s body }
-    {
-        self == Flow::Going
-    }
-}

@@ -4,6 +4,7 @@
 
 mod cells;
 mod environment;
+mod laws;
 #[cfg(test)]
 mod tests;
 mod value;
@@ -11,5 +12,6 @@ mod words;
 
 pub use cells::{put, word_in};
 pub use environment::{Env, Flow};
+pub use laws::split_loops;
 pub use value::{builtin_word, eval, other_word};
 pub use words::{apply, assign, negated, truth, word};

@@ -2,7 +2,7 @@ ghost use Rattle.std.specs.Prelude.{IsTrue, ◌≡◌};
 ghost use Rattle.vert_tree.specs.Places.{Counts, expr_placed};
 ghost use Rattle.vert_eval.specs.Values.{CanDraw, counts_of};
 
-use super::{Env, Flow, apply, assign, eval, negated, put, truth, word, word_in};
+use super::{Env, apply, assign, eval, negated, put, truth, word, word_in};
 use arrayvec::ArrayVec;
 use draw_source::draw;
 use std::process::Abort;
@@ -228,9 +228,5 @@ fn places_hold_what_is_put(rt: HostRuntime) {
     assert_eq!(rt;
         [word_in(&env.row.words, 0), word_in(&env.row.words, 1)],
         [10, 12]
-    );
-    assert_eq!(rt;
-        [Flow::Going.goes_on(), Flow::Broke.goes_on()],
-        [true, false]
     );
 }

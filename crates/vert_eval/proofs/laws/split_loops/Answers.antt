@@ -1,5 +1,5 @@
 use Rattle.vert_eval.proofs.RunLaws.{loop-append, loop-parts}
-use Rattle.vert_eval.proofs.environment.Flow.goes_on.Goals as goal
+use Rattle.vert_eval.proofs.laws.split_loops.Goals as goal
 
 pub returns-clause-two : goal.returns-clause-two
 returns-clause-two c = loop-append
