@@ -11,6 +11,8 @@ mod read;
 mod status;
 mod streams;
 mod table;
+#[cfg(test)]
+mod tests;
 mod top;
 
 use files::FileShelf;
