@@ -247,7 +247,10 @@ fn wrap(alloc: Global) -> Result<Typed, AllocError> {
     let test = Box::new(alloc, expr(Node::Binary(BinOp::Eq, id, none)))?;
     let most = Box::new(alloc, expr(Node::Int(i64::MAX)))?;
     let one = Box::new(alloc, expr(Node::Int(1)))?;
-    let fields = Vec::from_array(alloc, [decl(0, ValueType::Int, Node::Cond(test, most, one))])?;
+    let fields = Vec::from_array(
+        alloc,
+        [decl(0, ValueType::Int, Node::Cond(test, most, one))],
+    )?;
     let id = Box::new(alloc, expr(Node::Word(Builtin::Id)))?;
     let two = Box::new(alloc, expr(Node::Int(2)))?;
     let dense = Dense {

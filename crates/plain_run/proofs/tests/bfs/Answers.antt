@@ -33,8 +33,8 @@ invariant_of-result c =
     let kinded : field_kinds p ≡ kinds = ap field_kinds is ∙ simp field.kinds in
     record {
       typed = typed_from
-        p
-        (placed_from
+          p
+          (placed_from
           p
           totals
           stop
@@ -47,7 +47,7 @@ invariant_of-result c =
           (ap (λ (x : Program). option_all (dense_placed places) x.dense) is ∙ dense.placed)
           sparse.placed
           (ap (λ (x : Program). body_placed update_rights places x.update.items) is ∙ update.placed))
-        (kinded_from
+          (kinded_from
           p
           totals
           stop
@@ -58,8 +58,8 @@ invariant_of-result c =
           (ap (λ (x : Program). option_all (dense_typed kinds) x.dense) is ∙ dense.typed)
           sparse.typed
           (ap (λ (x : Program). body_typed kinds x.update.items) is ∙ update.typed))
-        (ap is_limited is ∙ simp (field.count, c.in_ok-slots.ensures, c.new-totals.ensures.items, dense.lets, sparse.sends))
-        (shallow_from
+          (ap is_limited is ∙ simp (field.count, c.in_ok-slots.ensures, c.new-totals.ensures.items, dense.lets, sparse.sends))
+          (shallow_from
           p
           totals
           stop
@@ -68,10 +68,10 @@ invariant_of-result c =
           (ap (λ (x : Program). option_all dense_shallow x.dense) is ∙ dense.shallow)
           sparse.shallow
           (ap (λ (x : Program). body_shallow x.update.items) is ∙ update.shallow))
-        (ap names_stand is ∙ simp (c.in_ok-names.ensures, field.known, c.in_ok-slots.ensures, c.new-totals.ensures.items, dense.lets, sparse.sends))
-        (ap version_stands is ∙ simp c.new-totals.ensures.items)
-        (ap (λ (x : Program). mode_stands x.mode (is_some x.dense) (is_some x.sparse)) is)
-        (readable_from
+          (ap names_stand is ∙ simp (c.in_ok-names.ensures, field.known, c.in_ok-slots.ensures, c.new-totals.ensures.items, dense.lets, sparse.sends))
+          (ap version_stands is ∙ simp c.new-totals.ensures.items)
+          (ap (λ (x : Program). mode_stands x.mode (is_some x.dense) (is_some x.sparse)) is)
+          (readable_from
           p
           totals
           stop
@@ -80,6 +80,6 @@ invariant_of-result c =
           (ap (λ (x : Program). option_all dense_read x.dense) is ∙ dense.read)
           sparse.read
           (ap (λ (x : Program). body_read in_update x.update.items) is ∙ update.read))
-        (ap declares_once is ∙ simp (field.named, c.in_ok-slots.ensures, c.new-totals.ensures.items, dense.lets, sparse.sends))
-        (ap (list_all (λ (t : TotalDecl). is_total_op t.op)) totals);
+          (ap declares_once is ∙ simp (field.named, c.in_ok-slots.ensures, c.new-totals.ensures.items, dense.lets, sparse.sends))
+          (ap (list_all (λ (t : TotalDecl). is_total_op t.op)) totals);
     }

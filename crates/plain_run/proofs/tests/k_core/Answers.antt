@@ -29,8 +29,8 @@ invariant_of-result c =
     let kinded : field_kinds p ≡ kinds = ap field_kinds is ∙ simp field in
     record {
       typed = typed_from
-        p
-        (placed_from
+          p
+          (placed_from
           p
           totals
           stop
@@ -43,7 +43,7 @@ invariant_of-result c =
           (ap (λ (x : Program). option_all (dense_placed places) x.dense) is ∙ dense.placed)
           (ap (λ (x : Program). option_all (sparse_placed places) x.sparse) is)
           (ap (λ (x : Program). body_placed update_rights places x.update.items) is ∙ update.placed))
-        (kinded_from
+          (kinded_from
           p
           totals
           stop
@@ -54,8 +54,8 @@ invariant_of-result c =
           (ap (λ (x : Program). option_all (dense_typed kinds) x.dense) is ∙ dense.typed)
           (ap (λ (x : Program). option_all (sparse_typed kinds) x.sparse) is)
           (ap (λ (x : Program). body_typed kinds x.update.items) is ∙ update.typed))
-        (ap is_limited is ∙ simp (field, c.in_ok-slots.ensures, c.new-totals.ensures.items, dense.lets))
-        (shallow_from
+          (ap is_limited is ∙ simp (field, c.in_ok-slots.ensures, c.new-totals.ensures.items, dense.lets))
+          (shallow_from
           p
           totals
           stop
@@ -64,10 +64,10 @@ invariant_of-result c =
           (ap (λ (x : Program). option_all dense_shallow x.dense) is ∙ dense.shallow)
           (ap (λ (x : Program). option_all sparse_shallow x.sparse) is)
           (ap (λ (x : Program). body_shallow x.update.items) is ∙ update.shallow))
-        (ap names_stand is ∙ simp (c.in_ok-names.ensures, field, c.in_ok-slots.ensures, c.new-totals.ensures.items, dense.lets))
-        (ap version_stands is ∙ simp c.new-totals.ensures.items)
-        (ap (λ (x : Program). mode_stands x.mode (is_some x.dense) (is_some x.sparse)) is)
-        (readable_from
+          (ap names_stand is ∙ simp (c.in_ok-names.ensures, field, c.in_ok-slots.ensures, c.new-totals.ensures.items, dense.lets))
+          (ap version_stands is ∙ simp c.new-totals.ensures.items)
+          (ap (λ (x : Program). mode_stands x.mode (is_some x.dense) (is_some x.sparse)) is)
+          (readable_from
           p
           totals
           stop
@@ -76,6 +76,6 @@ invariant_of-result c =
           (ap (λ (x : Program). option_all dense_read x.dense) is ∙ dense.read)
           (ap (λ (x : Program). option_all sparse_read x.sparse) is)
           (ap (λ (x : Program). body_read in_update x.update.items) is ∙ update.read))
-        (ap declares_once is ∙ simp (field, c.in_ok-slots.ensures, c.new-totals.ensures.items, dense.lets))
-        (ap (list_all (λ (t : TotalDecl). is_total_op t.op)) totals);
+          (ap declares_once is ∙ simp (field, c.in_ok-slots.ensures, c.new-totals.ensures.items, dense.lets))
+          (ap (list_all (λ (t : TotalDecl). is_total_op t.op)) totals);
     }
