@@ -11,5 +11,6 @@ pub mod RunLaws
 pub mod SlotLaws
 pub mod SortLaws
 pub mod StartLaws
+pub mod TreeLaws
 pub mod TurnLaws
 pub mod TypedLaws

@@ -1,5 +1,10 @@
-ghost use Rattle.std.specs.Prelude.{◌≡◌, ◌≤◌, IfOk, length, true};
+ghost use Rattle.std.specs.Prelude.{◌≡◌, ◌≤◌, ◌∷◌, [], IfOk, length, nat_lt, pos, true};
+ghost use Rattle.std.specs.List.{list_all};
 ghost use Rattle.vert_base.specs.Neighbours.{AreBelow};
+ghost use Rattle.vert_tree.specs.Kinds.{body_typed, dense_typed, expr_has, kinds_of, sparse_typed};
+ghost use Rattle.vert_tree.specs.Limits.{body_shallow, decls_shallow, dense_shallow, expr_shallow, sparse_shallow};
+ghost use Rattle.vert_tree.specs.Places.{body_placed, dense_placed, expr_placed, no_counts, sparse_placed, update_rights};
+ghost use Rattle.vert_tree.specs.Readable.{body_read, decls_read, dense_read, expr_read, in_fields, in_update, names_of, sparse_read};
 
 use crate::{PlainRun, run_plainly};
 use std::alloc::{AllocError, Global};
@@ -26,35 +31,54 @@ fn ident(what: What) -> Ident
     }
 }
 
+fn declared(name: u32) -> Ident
+    ensures { result ≡ record { span = AT; name = name; what = What.Unread } }
+{
+    Ident {
+        span: AT,
+        name,
+        what: What::Unread,
+    }
+}
+
 fn expr(node: Node) -> Expr
     ensures { result ≡ record { span = AT; node = node } }
 {
     Expr { span: AT, node }
 }
 
-fn decl(kind: ValueType, node: Node) -> Decl
-    ensures { result ≡ record { name = record { span = AT; name = 0; what = What.Unread }; kind = kind; value = record { span = AT; node = node } } }
+fn decl(name: u32, kind: ValueType, node: Node) -> Decl
+    ensures { result ≡ record { name = record { span = AT; name = name; what = What.Unread }; kind = kind; value = record { span = AT; node = node } } }
 {
     Decl {
-        name: ident(What::Unread),
+        name: declared(name),
         kind,
         value: expr(node),
     }
 }
 
 fn slot(op: Combine) -> SlotDecl
-    ensures { result ≡ record { name = record { span = AT; name = 0; what = What.Unread }; op = op } }
+    ensures { result ≡ record { name = record { span = AT; name = 2; what = What.Unread }; op = op } }
 {
     SlotDecl {
-        name: ident(What::Unread),
+        name: declared(2),
         op,
     }
 }
 
+fn one_slot(alloc: Global, op: Combine) -> Result<Vec<SlotDecl>, AllocError>
+    ensures { IfOk result (λ slots. slots.items ≡ record { name = record { span = AT; name = 2; what = What.Unread }; op = op } ∷ []) }
+{
+    Ok(Vec::from_array(alloc, [slot(op)])?)
+}
+
 fn names(alloc: Global) -> Result<Vec<String>, AllocError>
-    ensures { IfOk result (λ names. length names.items ≡ 1) }
+    ensures { IfOk result (λ names. length names.items ≡ 4) }
 {
     let mut names = Vec::new(alloc);
+    names.push(String::new(alloc))?;
+    names.push(String::new(alloc))?;
+    names.push(String::new(alloc))?;
     names.push(String::new(alloc))?;
     Ok(names)
 }
@@ -158,7 +182,7 @@ fn first(alloc: Global, limit: u64) -> Result<Typed, AllocError>
     };
     let held = Vec::from_array(alloc, [set(What::Field(0), value())])?;
     let update = Vec::from_array(alloc, [Stmt::If(AT, expr(got()), held, None)])?;
-    let fields = Vec::from_array(alloc, [decl(ValueType::Int, Node::Int(-1))])?;
+    let fields = Vec::from_array(alloc, [decl(0, ValueType::Int, Node::Int(-1))])?;
     let slots = Vec::from_array(alloc, [slot(Combine::First)])?;
     let program = plain(
         limit,
@@ -181,7 +205,7 @@ fn heavy(alloc: Global) -> Result<Typed, AllocError> {
     };
     let held = Vec::from_array(alloc, [set(What::Field(0), value())])?;
     let update = Vec::from_array(alloc, [Stmt::If(AT, expr(got()), held, None)])?;
-    let fields = Vec::from_array(alloc, [decl(ValueType::Int, Node::Int(-1))])?;
+    let fields = Vec::from_array(alloc, [decl(0, ValueType::Int, Node::Int(-1))])?;
     let slots = Vec::from_array(alloc, [slot(Combine::First)])?;
     let program = plain(
         1,
@@ -198,12 +222,12 @@ fn heavy(alloc: Global) -> Result<Typed, AllocError> {
 fn sum(alloc: Global) -> Result<Typed, AllocError> {
     let dense = Dense {
         when_test: expr(Node::Bool(true)),
-        lets: Vec::from_array(alloc, [decl(ValueType::Int, Node::Int(0))])?,
+        lets: Vec::from_array(alloc, [decl(3, ValueType::Int, Node::Int(0))])?,
         body: Vec::from_array(alloc, [add(What::Local(0), Node::Word(Builtin::Weight))])?,
         tail: Vec::from_array(alloc, [emit(name(What::Local(0)))])?,
     };
     let update = Vec::from_array(alloc, [set(What::Field(0), value())])?;
-    let fields = Vec::from_array(alloc, [decl(ValueType::Int, Node::Int(0))])?;
+    let fields = Vec::from_array(alloc, [decl(0, ValueType::Int, Node::Int(0))])?;
     let slots = Vec::from_array(alloc, [slot(Combine::Sum)])?;
     let program = plain(
         1,
@@ -223,7 +247,10 @@ fn wrap(alloc: Global) -> Result<Typed, AllocError> {
     let test = Box::new(alloc, expr(Node::Binary(BinOp::Eq, id, none)))?;
     let most = Box::new(alloc, expr(Node::Int(i64::MAX)))?;
     let one = Box::new(alloc, expr(Node::Int(1)))?;
-    let fields = Vec::from_array(alloc, [decl(ValueType::Int, Node::Cond(test, most, one))])?;
+    let fields = Vec::from_array(
+        alloc,
+        [decl(0, ValueType::Int, Node::Cond(test, most, one))],
+    )?;
     let id = Box::new(alloc, expr(Node::Word(Builtin::Id)))?;
     let two = Box::new(alloc, expr(Node::Int(2)))?;
     let dense = Dense {
@@ -255,7 +282,7 @@ fn zero(alloc: Global) -> Result<Typed, AllocError> {
         tail: Vec::new(alloc),
     };
     let update = Vec::from_array(alloc, [set(What::Field(0), got())])?;
-    let fields = Vec::from_array(alloc, [decl(ValueType::Bool, Node::Bool(false))])?;
+    let fields = Vec::from_array(alloc, [decl(0, ValueType::Bool, Node::Bool(false))])?;
     let slots = Vec::from_array(alloc, [slot(Combine::Sum)])?;
     let program = plain(
         1,
@@ -276,7 +303,7 @@ fn dice(alloc: Global) -> Result<Typed, AllocError> {
         body: Vec::new(alloc),
         tail: Vec::new(alloc),
     };
-    let fields = Vec::from_array(alloc, [decl(ValueType::Int, Node::Draw(54))])?;
+    let fields = Vec::from_array(alloc, [decl(0, ValueType::Int, Node::Draw(54))])?;
     let program = plain(
         0,
         names(alloc)?,
@@ -303,10 +330,10 @@ fn halve(alloc: Global) -> Result<Typed, AllocError> {
             Stmt::SetActive(AT, expr(Node::Bool(true))),
         ],
     )?;
-    let fields = Vec::from_array(alloc, [decl(ValueType::Int, Node::Int(1))])?;
+    let fields = Vec::from_array(alloc, [decl(0, ValueType::Int, Node::Int(1))])?;
     let slots = Vec::from_array(alloc, [slot(Combine::Sum)])?;
     let total = TotalDecl {
-        name: ident(What::Unread),
+        name: declared(3),
         op: Combine::Sum,
         value: expr(name(What::Field(0))),
     };
@@ -319,7 +346,13 @@ fn halve(alloc: Global) -> Result<Typed, AllocError> {
     Ok(Typed { program })
 }
 
-fn k_core(alloc: Global) -> Result<Typed, AllocError> {
+fn k_dense(alloc: Global) -> Result<Dense, AllocError>
+    ensures placed { IfOk result (λ dense. dense_placed (record { fields = 1; locals = 0; sends = 0; slots = 1; totals = 0; other_fields = 1 }) dense ≡ true) }
+    ensures typed { IfOk result (λ dense. dense_typed (record { fields = ValueType.Bool ∷ []; locals = []; sends = [] }) dense ≡ true) }
+    ensures shallow { IfOk result (λ dense. dense_shallow dense ≡ true) }
+    ensures read { IfOk result (λ dense. dense_read dense ≡ true) }
+    ensures lets { IfOk result (λ dense. dense.lets.items ≡ record { name = record { span = AT; name = 3; what = What.Unread }; kind = ValueType.Int; value = record { span = AT; node = Node.Int (pos 0) } } ∷ []) }
+{
     let count = Box::new(alloc, expr(name(What::Local(0))))?;
     let two = Box::new(alloc, expr(Node::Int(2)))?;
     let enough = expr(Node::Binary(BinOp::Ge, count, two));
@@ -335,12 +368,20 @@ fn k_core(alloc: Global) -> Result<Typed, AllocError> {
     let two = Box::new(alloc, expr(Node::Int(2)))?;
     let few = expr(Node::Binary(BinOp::Lt, count, two));
     let weak = Vec::from_array(alloc, [emit(Node::Int(1))])?;
-    let dense = Dense {
+    Ok(Dense {
         when_test: expr(name(What::Field(0))),
-        lets: Vec::from_array(alloc, [decl(ValueType::Int, Node::Int(0))])?,
+        lets: Vec::from_array(alloc, [decl(3, ValueType::Int, Node::Int(0))])?,
         body: Vec::from_array(alloc, [Stmt::If(AT, expr(other(0)), counted, None)])?,
         tail: Vec::from_array(alloc, [Stmt::If(AT, few, weak, None)])?,
-    };
+    })
+}
+
+fn k_update(alloc: Global) -> Result<Vec<Stmt>, AllocError>
+    ensures placed { IfOk result (λ update. body_placed update_rights (record { fields = 1; locals = 0; sends = 0; slots = 1; totals = 0; other_fields = 1 }) update.items ≡ true) }
+    ensures typed { IfOk result (λ update. body_typed (record { fields = ValueType.Bool ∷ []; locals = []; sends = [] }) update.items ≡ true) }
+    ensures shallow { IfOk result (λ update. body_shallow update.items ≡ true) }
+    ensures read { IfOk result (λ update. body_read in_update update.items ≡ true) }
+{
     let removed = Vec::from_array(
         alloc,
         [
@@ -348,22 +389,32 @@ fn k_core(alloc: Global) -> Result<Typed, AllocError> {
             Stmt::SetActive(AT, expr(Node::Bool(true))),
         ],
     )?;
-    let update = Vec::from_array(alloc, [Stmt::If(AT, expr(got()), removed, None)])?;
-    let fields = Vec::from_array(alloc, [decl(ValueType::Bool, Node::Bool(true))])?;
-    let slots = Vec::from_array(alloc, [slot(Combine::Sum)])?;
-    let program = plain(
-        100,
-        names(alloc)?,
-        fields,
-        slots,
-        Vec::new(alloc),
-        dense,
-        update,
-    );
+    Ok(Vec::from_array(alloc, [Stmt::If(AT, expr(got()), removed, None)])?)
+}
+
+fn k_fields(alloc: Global) -> Result<Vec<Decl>, AllocError>
+    ensures { IfOk result (λ fields. fields.items ≡ record { name = record { span = AT; name = 0; what = What.Unread }; kind = ValueType.Bool; value = record { span = AT; node = Node.Bool true } } ∷ []) }
+{
+    Ok(Vec::from_array(alloc, [decl(0, ValueType::Bool, Node::Bool(true))])?)
+}
+
+fn k_core(alloc: Global) -> Result<Typed, AllocError> {
+    let dense = k_dense(alloc)?;
+    let update = k_update(alloc)?;
+    let fields = k_fields(alloc)?;
+    let slots = one_slot(alloc, Combine::Sum)?;
+    let totals = Vec::new(alloc);
+    let program = plain(100, names(alloc)?, fields, slots, totals, dense, update);
     Ok(Typed { program })
 }
 
-fn bfs_dense(alloc: Global) -> Result<Dense, AllocError> {
+fn bfs_dense(alloc: Global) -> Result<Dense, AllocError>
+    ensures placed { IfOk result (λ dense. dense_placed (record { fields = 2; locals = 0; sends = 0; slots = 1; totals = 0; other_fields = 2 }) dense ≡ true) }
+    ensures typed { IfOk result (λ dense. dense_typed (record { fields = ValueType.Int ∷ ValueType.Int ∷ []; locals = []; sends = [] }) dense ≡ true) }
+    ensures shallow { IfOk result (λ dense. dense_shallow dense ≡ true) }
+    ensures read { IfOk result (λ dense. dense_read dense ≡ true) }
+    ensures lets { IfOk result (λ dense. dense.lets.items ≡ []) }
+{
     let distance = Box::new(alloc, expr(name(What::Field(0))))?;
     let none = Box::new(alloc, expr(Node::Int(0)))?;
     let claim = Vec::from_array(alloc, [emit(Node::OtherWord(Builtin::Id)), Stmt::Break(AT)])?;
@@ -376,32 +427,30 @@ fn bfs_dense(alloc: Global) -> Result<Dense, AllocError> {
     })
 }
 
-fn bfs_sparse(alloc: Global) -> Result<Sparse, AllocError> {
+fn bfs_sparse(alloc: Global) -> Result<Sparse, AllocError>
+    ensures placed { IfOk result (λ sparse. sparse_placed (record { fields = 2; locals = 0; sends = 0; slots = 1; totals = 0; other_fields = 2 }) sparse ≡ true) }
+    ensures typed { IfOk result (λ sparse. sparse_typed (record { fields = ValueType.Int ∷ ValueType.Int ∷ []; locals = []; sends = [] }) sparse ≡ true) }
+    ensures shallow { IfOk result (λ sparse. sparse_shallow sparse ≡ true) }
+    ensures read { IfOk result (λ sparse. sparse_read sparse ≡ true) }
+    ensures sends { IfOk result (λ sparse. sparse.sends.items ≡ record { name = record { span = AT; name = 3; what = What.Unread }; kind = ValueType.Int; value = record { span = AT; node = Node.Word Builtin.Id } } ∷ []) }
+{
     let distance = Box::new(alloc, expr(name(What::Field(0))))?;
     let none = Box::new(alloc, expr(Node::Int(0)))?;
     let unreached = expr(Node::Binary(BinOp::Lt, distance, none));
     let claim = Vec::from_array(alloc, [emit(name(What::Send(0)))])?;
     Ok(Sparse {
         when_test: expr(Node::Bool(true)),
-        sends: Vec::from_array(alloc, [decl(ValueType::Int, Node::Word(Builtin::Id))])?,
+        sends: Vec::from_array(alloc, [decl(3, ValueType::Int, Node::Word(Builtin::Id))])?,
         body: Vec::from_array(alloc, [Stmt::If(AT, unreached, claim, None)])?,
     })
 }
 
-fn bfs_fields(alloc: Global) -> Result<Vec<Decl>, AllocError> {
-    let id = Box::new(alloc, expr(Node::Word(Builtin::Id)))?;
-    let root = Box::new(alloc, expr(Node::Int(0)))?;
-    let test = Box::new(alloc, expr(Node::Binary(BinOp::Eq, id, root)))?;
-    let none = Box::new(alloc, expr(Node::Int(0)))?;
-    let unreached = Box::new(alloc, expr(Node::Int(-1)))?;
-    let fields = [
-        decl(ValueType::Int, Node::Cond(test, none, unreached)),
-        decl(ValueType::Int, Node::Int(-1)),
-    ];
-    Ok(Vec::from_array(alloc, fields)?)
-}
-
-fn bfs_update(alloc: Global) -> Result<Vec<Stmt>, AllocError> {
+fn bfs_update(alloc: Global) -> Result<Vec<Stmt>, AllocError>
+    ensures placed { IfOk result (λ update. body_placed update_rights (record { fields = 2; locals = 0; sends = 0; slots = 1; totals = 0; other_fields = 2 }) update.items ≡ true) }
+    ensures typed { IfOk result (λ update. body_typed (record { fields = ValueType.Int ∷ ValueType.Int ∷ []; locals = []; sends = [] }) update.items ≡ true) }
+    ensures shallow { IfOk result (λ update. body_shallow update.items ≡ true) }
+    ensures read { IfOk result (λ update. body_read in_update update.items ≡ true) }
+{
     let reached = Vec::from_array(
         alloc,
         [
@@ -413,25 +462,50 @@ fn bfs_update(alloc: Global) -> Result<Vec<Stmt>, AllocError> {
     Ok(Vec::from_array(alloc, [Stmt::If(AT, expr(got()), reached, None)])?)
 }
 
+fn bfs_fields(alloc: Global) -> Result<Vec<Decl>, AllocError>
+    ensures placed { IfOk result (λ fields. list_all (λ d. expr_placed no_counts d.value) fields.items ≡ true) }
+    ensures typed { IfOk result (λ fields. list_all (λ d. expr_has (record { fields = ValueType.Int ∷ ValueType.Int ∷ []; locals = []; sends = [] }) d.kind d.value) fields.items ≡ true) }
+    ensures shallow { IfOk result (λ fields. decls_shallow fields.items ≡ true) }
+    ensures read { IfOk result (λ fields. decls_read in_fields fields.items ≡ true) }
+    ensures kinds { IfOk result (λ fields. kinds_of fields.items ≡ ValueType.Int ∷ ValueType.Int ∷ []) }
+    ensures count { IfOk result (λ fields. length fields.items ≡ 2) }
+    ensures named { IfOk result (λ fields. names_of fields.items ≡ 0 ∷ 1 ∷ []) }
+    ensures known { IfOk result (λ fields. list_all (λ d. nat_lt d.name.name 4) fields.items ≡ true) }
+{
+    let id = Box::new(alloc, expr(Node::Word(Builtin::Id)))?;
+    let root = Box::new(alloc, expr(Node::Int(0)))?;
+    let test = Box::new(alloc, expr(Node::Binary(BinOp::Eq, id, root)))?;
+    let none = Box::new(alloc, expr(Node::Int(0)))?;
+    let unreached = Box::new(alloc, expr(Node::Int(-1)))?;
+    let fields = [
+        decl(0, ValueType::Int, Node::Cond(test, none, unreached)),
+        decl(1, ValueType::Int, Node::Int(-1)),
+    ];
+    Ok(Vec::from_array(alloc, fields)?)
+}
+
+fn bfs_start(alloc: Global) -> Result<Expr, AllocError>
+    ensures placed { IfOk result (λ start. expr_placed (record { fields = 2; locals = 0; sends = 0; slots = 0; totals = 0; other_fields = 2 }) start ≡ true) }
+    ensures typed { IfOk result (λ start. expr_has (record { fields = ValueType.Int ∷ ValueType.Int ∷ []; locals = []; sends = [] }) ValueType.Bool start ≡ true) }
+    ensures shallow { IfOk result (λ start. expr_shallow start ≡ true) }
+    ensures read { IfOk result (λ start. expr_read in_fields start ≡ true) }
+{
+    let id = Box::new(alloc, expr(Node::Word(Builtin::Id)))?;
+    let root = Box::new(alloc, expr(Node::Int(0)))?;
+    Ok(expr(Node::Binary(BinOp::Eq, id, root)))
+}
+
 fn bfs(alloc: Global) -> Result<Typed, AllocError> {
     let dense = bfs_dense(alloc)?;
     let sparse = bfs_sparse(alloc)?;
     let update = bfs_update(alloc)?;
     let fields = bfs_fields(alloc)?;
-    let slots = Vec::from_array(alloc, [slot(Combine::First)])?;
-    let id = Box::new(alloc, expr(Node::Word(Builtin::Id)))?;
-    let root = Box::new(alloc, expr(Node::Int(0)))?;
-    let mut program = plain(
-        100,
-        names(alloc)?,
-        fields,
-        slots,
-        Vec::new(alloc),
-        dense,
-        update,
-    );
+    let start = bfs_start(alloc)?;
+    let slots = one_slot(alloc, Combine::First)?;
+    let totals = Vec::new(alloc);
+    let mut program = plain(100, names(alloc)?, fields, slots, totals, dense, update);
     program.mode = Mode::Auto;
-    program.start = expr(Node::Binary(BinOp::Eq, id, root));
+    program.start = start;
     program.sparse = Some(sparse);
     Ok(Typed { program })
 }
@@ -527,30 +601,11 @@ fn source_runs(rt: HostRuntime) -> Result<(), Fail> {
         ],
     };
     assert!(rt; agrees(alloc, &tree, &case)?, "bfs-one-machine");
+    let mut arcs = [(1, 2, 0); 20];
+    arcs[0] = (0, 1, 0);
     let case = Case {
         vertices: 3,
-        arcs: &[
-            (0, 1, 0),
-            (1, 2, 0),
-            (1, 2, 0),
-            (1, 2, 0),
-            (1, 2, 0),
-            (1, 2, 0),
-            (1, 2, 0),
-            (1, 2, 0),
-            (1, 2, 0),
-            (1, 2, 0),
-            (1, 2, 0),
-            (1, 2, 0),
-            (1, 2, 0),
-            (1, 2, 0),
-            (1, 2, 0),
-            (1, 2, 0),
-            (1, 2, 0),
-            (1, 2, 0),
-            (1, 2, 0),
-            (1, 2, 0),
-        ],
+        arcs: &arcs,
         ends: &[3],
         rows: &[&[0, -1], &[1, 0], &[2, 1]],
         rounds: &[
