@@ -1,12 +1,10 @@
 -- A program of version 1 without totals is typed where its parts are.
-use Rattle.std.proofs.Common.{◌≡◌, ℕ, Bool, true, false, List, [], length, ap, ◌∙◌, Option, None}
+use Rattle.std.proofs.Common.{◌≡◌, ℕ, Bool, true, false, List, [], length, ap, ◌∙◌, None}
 use Rattle.std.specs.Prelude.{◌&&◌, is_some}
 use Rattle.std.specs.List.{list_all}
 use Rattle.vert_base.specs.declared.value.ValueType.TheVariants as kind
 use Rattle.vert_tree.specs.declared.program.Decl.{Decl}
-use Rattle.vert_tree.specs.declared.program.Dense.{Dense}
 use Rattle.vert_tree.specs.declared.program.Program.{Program}
-use Rattle.vert_tree.specs.declared.program.Sparse.{Sparse}
 use Rattle.vert_tree.specs.declared.program.TotalDecl.{TotalDecl}
 use Rattle.vert_tree.specs.Kinds.{Kinds, body_typed, dense_typed, expr_has, field_kinds, is_kinded, sparse_typed}
 use Rattle.vert_tree.specs.Limits.{body_shallow, decls_shallow, dense_shallow, expr_shallow, is_limited, is_shallow, mode_stands, names_stand, sparse_shallow, version_stands}

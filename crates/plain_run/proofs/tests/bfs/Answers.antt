@@ -1,4 +1,4 @@
-use Rattle.std.proofs.Common.{◌≡◌, ℕ, [], ◌∷◌, length, ap, ◌∙◌, Some}
+use Rattle.std.proofs.Common.{◌≡◌, [], ◌∷◌, length, ap, ◌∙◌, Some}
 use Rattle.std.specs.Prelude.{is_some}
 use Rattle.std.specs.List.{list_all}
 use Rattle.vert_base.specs.declared.value.Mode.TheVariants.{Auto}
@@ -6,10 +6,10 @@ use Rattle.vert_base.specs.declared.value.ValueType.TheVariants as kind
 use Rattle.vert_tree.specs.declared.program.Decl.{Decl}
 use Rattle.vert_tree.specs.declared.program.Program.{Program}
 use Rattle.vert_tree.specs.declared.program.TotalDecl.{TotalDecl}
-use Rattle.vert_tree.specs.Kinds.{Kinds, body_typed, dense_typed, expr_has, field_kinds, kinds_of, sparse_typed}
-use Rattle.vert_tree.specs.Limits.{body_shallow, decls_shallow, dense_shallow, expr_shallow, is_limited, mode_stands, names_stand, sparse_shallow, version_stands}
-use Rattle.vert_tree.specs.Places.{Counts, body_placed, dense_placed, expr_placed, no_counts, option_all, sparse_placed, update_rights}
-use Rattle.vert_tree.specs.Readable.{body_read, declares_once, decls_read, dense_read, expr_read, in_fields, in_update, is_total_op, sparse_read}
+use Rattle.vert_tree.specs.Kinds.{Kinds, body_typed, dense_typed, expr_has, field_kinds}
+use Rattle.vert_tree.specs.Limits.{body_shallow, decls_shallow, dense_shallow, is_limited, mode_stands, names_stand, version_stands}
+use Rattle.vert_tree.specs.Places.{Counts, body_placed, dense_placed, expr_placed, no_counts, option_all, update_rights}
+use Rattle.vert_tree.specs.Readable.{body_read, declares_once, decls_read, dense_read, in_fields, in_update, is_total_op}
 use Rattle.plain_run.proofs.TreeLaws.{counts_from, kinded_from, placed_from, readable_from, rows_from, shallow_from, typed_from}
 use Rattle.plain_run.proofs.tests.bfs.Goals as goal
 

@@ -5,7 +5,7 @@ use Rattle.vert_base.specs.declared.value.ValueType.TheVariants as kind
 use Rattle.vert_tree.specs.declared.program.Decl.{Decl}
 use Rattle.vert_tree.specs.declared.program.Program.{Program}
 use Rattle.vert_tree.specs.declared.program.TotalDecl.{TotalDecl}
-use Rattle.vert_tree.specs.Kinds.{Kinds, body_typed, dense_typed, expr_has, field_kinds, kinds_of, sparse_typed}
+use Rattle.vert_tree.specs.Kinds.{Kinds, body_typed, dense_typed, expr_has, field_kinds, sparse_typed}
 use Rattle.vert_tree.specs.Limits.{body_shallow, decls_shallow, dense_shallow, expr_shallow, is_limited, mode_stands, names_stand, sparse_shallow, version_stands}
 use Rattle.vert_tree.specs.Places.{Counts, body_placed, dense_placed, expr_placed, no_counts, option_all, sparse_placed, update_rights}
 use Rattle.vert_tree.specs.Readable.{body_read, declares_once, decls_read, dense_read, expr_read, in_fields, in_update, is_total_op, sparse_read}
