@@ -16,7 +16,7 @@ use Rattle.vert_eval.specs.declared.environment.Env.{Env}
 use Rattle.vert_eval.specs.Values.{counts_of}
 use Rattle.vert_eval.specs.Runs.{run}
 use Rattle.vert_eval.specs.Rounds.{Scene, dense_block, loop, with_lets}
-use Rattle.plain_run.proofs.ReadLaws.{run_reads}
+use Rattle.vert_eval.proofs.FrameLaws.{run_reads}
 
 -- the parts of a dense block whose names all have a place
 pub record DenseParts (c : Counts) (d : Dense) : Type 0 where

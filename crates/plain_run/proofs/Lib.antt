@@ -5,7 +5,6 @@ pub mod EnvLaws
 pub mod GraphLaws
 pub mod MemberLaws
 pub mod OrderLaws
-pub mod ReadLaws
 pub mod RoundsLaws
 pub mod RunLaws
 pub mod SlotLaws

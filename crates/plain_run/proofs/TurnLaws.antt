@@ -8,7 +8,7 @@ use Rattle.vert_eval.specs.declared.environment.Env.{Env}
 use Rattle.vert_eval.specs.declared.environment.Flow.TheVariants.{Going, Broke}
 use Rattle.vert_eval.specs.Rounds.{Scene, at_member, loop, member_act}
 use Rattle.vert_eval.proofs.RunLaws.{turn_going, turn_broke}
-use Rattle.plain_run.proofs.ReadLaws.{run_reads}
+use Rattle.vert_eval.proofs.FrameLaws.{run_reads}
 
 -- an edge, where a list has none
 abbrev pub some_edge : Edge
