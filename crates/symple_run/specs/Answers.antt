@@ -9,7 +9,7 @@ use Rattle.symple_run.specs.declared.status.Status.{Status}
 use Rattle.symple_run.specs.declared.status.Status.TheVariants.{Done}
 use Rattle.symple_run.specs.Lines as line
 use Rattle.symple_run.specs.Notes.{Fault, NoCommand, BadWords, NoLoad, BadProgram, BadLine, BadByte, NoWrite, NoMemory, note_text, status_of}
-use Rattle.symple_run.specs.Verdicts.{Fails, Runs, Says, verdict_of}
+use Rattle.symple_run.specs.Verdicts.{Fails, Runs, Says, Verdict, verdict_of}
 use Rattle.vert_eval.specs.SourceRun.{Job, source_run}
 use Rattle.vert_tree.specs.declared.program.Program.{Program}
 
@@ -101,3 +101,8 @@ pub record Answers (files : Option (List File)) (words : line.Line) (loads loads
   pub ends : Ends files fault words program graph loads loads_after out
   pub status_is : status ≡ status_after fault
   pub noted : Noted fault notes
+
+-- the verdict of a line over the files of a shelf
+abbrev pub verdict_over : List File → line.Line → Verdict
+verdict_over files (line.RunOf program graph) = verdict_of (line.RunOf program graph) (file_named program files) (file_named graph files)
+verdict_over files words = verdict_of words None None

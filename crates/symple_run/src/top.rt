@@ -1,9 +1,14 @@
-ghost use Rattle.std.specs.Prelude.{◌≡◌, ◌≤◌, map, Some, None};
+ghost use Rattle.std.specs.Prelude.{◌≡◌, ◌≤◌, ◌⊎◌, ℕ, List, map, Some, None};
 ghost use Rattle.std.specs.String.{string_bytes};
+ghost use Rattle.edge_reader.specs.EdgeList.{Graph};
 ghost use Rattle.edge_reader.specs.Gives.{graph_of_edges};
-ghost use Rattle.symple_run.specs.Answers.{Answers, output_text};
+ghost use Rattle.symple_face.specs.Causes.{Rose};
+ghost use Rattle.symple_face.specs.Files.{File};
+ghost use Rattle.symple_run.specs.Answers.{Answers, output_text, verdict_over};
 ghost use Rattle.symple_run.specs.Endings.{EndsBy, Plays};
 ghost use Rattle.symple_run.specs.Lines.{RunOf, line_of};
+ghost use Rattle.symple_run.specs.Notes.{Fault, status_of};
+ghost use Rattle.symple_run.specs.Verdicts.{Fails, Runs};
 
 use crate::failure::{Failure, write_note};
 use crate::line::{RunLine, WordFault, read_line};
@@ -96,6 +101,16 @@ pub fn symple<H: Shelf, I: Source, O: Sink, N: Sink>(
         (record { held = O.held out.old; held_after = O.held out.new; faults = O.faults out.old; faults_after = O.faults out.new })
         (record { held = N.held notes.old; held_after = N.held notes.new; faults = N.faults notes.old; faults_after = N.faults notes.new })
         result }
+
+    // What is refused is refused, and what isn't is printed, but for want of memory and counts that rose.
+    ensures refused { (files : List File) → (fault : Fault) → H.files shelf.old ≡ Some files
+        → verdict_over files (line_of (map string_bytes words.now)) ≡ Fails fault
+        → ¬ (Rose (H.loads shelf.old) (H.loads shelf.new)) → (result ≡ status_of fault) ⊎ (result ≡ Status.Memory) }
+    ensures complete { (files : List File) → (text : List ℕ) → (graph : Graph) → H.files shelf.old ≡ Some files
+        → verdict_over files (line_of (map string_bytes words.now)) ≡ Runs text graph
+        → ¬ (Rose (H.loads shelf.old) (H.loads shelf.new)) → ¬ (Rose (O.faults out.old) (O.faults out.new))
+        → (result ≡ Status.Done) ⊎ (result ≡ Status.Memory) }
+
     ensures files { H.files shelf.new ≡ H.files shelf.old }
     ensures stores { H.stores shelf.new ≡ H.stores shelf.old }
     ensures loads { H.loads shelf.old ≤ H.loads shelf.new }
