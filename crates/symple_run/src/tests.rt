@@ -20,6 +20,19 @@ const RUN: &[&str] = &["run", "sum", "g1", "--machines", "1"];
 
 const TABLE: &str = "vertex mass\n0 0\n1 1\n2 1\n3 2\n";
 
+/// The texts of the tests that change the shelf and the sinks.
+static THE_WORDS: &[&str] = RUN;
+
+static THE_PROGRAM: &str = SUM;
+
+static THE_GRAPH: &str = DIAMOND;
+
+static THE_TABLE: &str = TABLE;
+
+static NO_COMMAND: &[&str] = &["fly"];
+
+static NO_WRITE: &str = "symple: cannot write\n";
+
 /// Words over a program and a graph, with the status, what is printed and the note.
 struct Case {
     words: &'static [&'static str],
@@ -171,45 +184,58 @@ fn commands(rt: HostRuntime) -> Result<(), Fail> {
 
 /// A shelf whose call 1 stores the graph, and that fails at these calls.
 fn counting(rt: &impl Abort, alloc: Global, fails: Vec<u64>) -> Result<MemShelf, Fail> {
-    let mut shelf = MemShelf::new(alloc, vec![in alloc; program(alloc, SUM)?]?, fails);
-    assert_eq!(rt; shelf.store("g1", DIAMOND.as_bytes()), Ok(()));
+    let mut shelf = MemShelf::new(alloc, vec![in alloc; program(alloc, THE_PROGRAM)?]?, fails);
+    assert_eq!(rt; shelf.store("g1", THE_GRAPH.as_bytes()), Ok(()));
     Ok(shelf)
+}
+
+/// The call that fails, and the note.
+static LOADS: &[(u64, &str)] = &[
+    (2, "symple: cannot read sum\n"),
+    (3, "symple: cannot read g1\n"),
+];
+
+fn fails_at(rt: &impl Abort, alloc: Global, call: u64, note: &str) -> Result<(), Fail> {
+    let mut shelf = counting(rt, alloc, vec![in alloc; call]?)?;
+    let mut out = FirmSink::new(alloc, 1000)?;
+    let mut notes = FirmSink::new(alloc, 1000)?;
+    let status = performed(alloc, THE_WORDS, &mut shelf, &mut out, &mut notes)?;
+    assert_eq!(rt; status, Status::ReadFault);
+    assert_eq!(rt; out.bytes().len(), 0);
+    assert_eq!(rt; notes.bytes(), note.as_bytes());
+    Ok(())
 }
 
 #[test]
 fn loads_that_fail(rt: HostRuntime) -> Result<(), Fail> {
-    let alloc = rt.alloc();
-    for (call, note) in [
-        (2, "symple: cannot read sum\n"),
-        (3, "symple: cannot read g1\n"),
-    ] {
-        let mut shelf = counting(&rt, alloc, vec![in alloc; call]?)?;
-        let mut out = FirmSink::new(alloc, 1000)?;
-        let mut notes = FirmSink::new(alloc, 1000)?;
-        let status = performed(alloc, RUN, &mut shelf, &mut out, &mut notes)?;
-        assert_eq!(rt; status, Status::ReadFault);
-        assert_eq!(rt; out.bytes(), b"".as_slice());
-        assert_eq!(rt; notes.bytes(), note.as_bytes());
+    for (call, note) in LOADS {
+        fails_at(&rt, rt.alloc(), *call, note)?;
     }
     Ok(())
 }
 
 #[test]
-fn sinks_that_fail_and_drip(rt: HostRuntime) -> Result<(), Fail> {
+fn a_sink_that_fails(rt: HostRuntime) -> Result<(), Fail> {
     let alloc = rt.alloc();
     let mut shelf = counting(&rt, alloc, Vec::new(alloc))?;
-    let mut notes = FirmSink::new(alloc, 1000)?;
-
     let mut out = MemSink::new(alloc, 1000, vec![in alloc; 1]?)?;
-    let status = performed(alloc, RUN, &mut shelf, &mut out, &mut notes)?;
+    let mut notes = FirmSink::new(alloc, 1000)?;
+    let status = performed(alloc, THE_WORDS, &mut shelf, &mut out, &mut notes)?;
     assert_eq!(rt; status, Status::WriteFault);
-    assert_eq!(rt; out.bytes(), b"".as_slice());
-    assert_eq!(rt; notes.bytes(), b"symple: cannot write\n".as_slice());
+    assert_eq!(rt; out.bytes().len(), 0);
+    assert_eq!(rt; notes.bytes(), NO_WRITE.as_bytes());
+    Ok(())
+}
 
+#[test]
+fn a_sink_that_drips(rt: HostRuntime) -> Result<(), Fail> {
+    let alloc = rt.alloc();
+    let mut shelf = counting(&rt, alloc, Vec::new(alloc))?;
     let mut out = DripSink::new(alloc, 1000)?;
-    let status = performed(alloc, RUN, &mut shelf, &mut out, &mut notes)?;
+    let mut notes = FirmSink::new(alloc, 1000)?;
+    let status = performed(alloc, THE_WORDS, &mut shelf, &mut out, &mut notes)?;
     assert_eq!(rt; status, Status::Done);
-    assert_eq!(rt; out.bytes(), TABLE.as_bytes());
+    assert_eq!(rt; out.bytes(), THE_TABLE.as_bytes());
     Ok(())
 }
 
@@ -219,8 +245,8 @@ fn notes_that_fail(rt: HostRuntime) -> Result<(), Fail> {
     let mut shelf = counting(&rt, alloc, Vec::new(alloc))?;
     let mut out = FirmSink::new(alloc, 1000)?;
     let mut notes = MemSink::new(alloc, 1000, vec![in alloc; 1]?)?;
-    let status = performed(alloc, &["fly"], &mut shelf, &mut out, &mut notes)?;
+    let status = performed(alloc, NO_COMMAND, &mut shelf, &mut out, &mut notes)?;
     assert_eq!(rt; status, Status::Usage);
-    assert_eq!(rt; notes.bytes(), b"".as_slice());
+    assert_eq!(rt; notes.bytes().len(), 0);
     Ok(())
 }
