@@ -157,12 +157,12 @@ fn draws_are_those_of_the_place(rt: HostRuntime) {
     gives(
         &rt,
         &env,
-        Node::Draw(54),
+        Node::Draw(AT, 54),
         i64::from(draw(42, 2, VertexId(3), 54)),
     );
     env.round = 0;
     env.id = VertexId(0);
-    gives(&rt, &env, Node::Draw(54), 0xa15c02b7);
+    gives(&rt, &env, Node::Draw(AT, 54), 0xa15c02b7);
 }
 
 #[test]

@@ -23,7 +23,7 @@ pub fn eval(e: &Expr, env: &Env) -> i64
         Node::Value(name) => slot_word(name.what, env).unwrap_or(0),
         Node::OtherField(name) => other_named(name.what, env),
         Node::OtherWord(builtin) => other_word(*builtin, env),
-        Node::Draw(tag) => drawn(*tag, env),
+        Node::Draw(_, tag) => drawn(*tag, env),
         Node::Neg(a) => negated(eval(a, env)),
         Node::Not(a) => word(!truth(eval(a, env))),
         Node::Binary(op, a, b) => {

@@ -1,5 +1,9 @@
 pub mod Kinds
 pub mod Limits
 pub mod Places
+pub mod Plain
+pub mod Printed
 pub mod Readable
+pub mod Trees
 pub mod Typed
+pub mod Views

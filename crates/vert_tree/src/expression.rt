@@ -39,7 +39,8 @@ pub struct Expr {
     pub node: Node,
 }
 
-/// What an expression is made of. `Group` is an expression in parentheses.
+/// What an expression is made of. `Group` is an expression in parentheses. A draw keeps the place of
+/// its number, where a number that is too great is told.
 #[cycle(expr)]
 #[derive(Drop)]
 pub enum Node {
@@ -51,7 +52,7 @@ pub enum Node {
     Value(Ident),
     OtherField(Ident),
     OtherWord(Builtin),
-    Draw(u64),
+    Draw(Span, u64),
     Neg(Box<Expr>),
     Not(Box<Expr>),
     Binary(BinOp, Box<Expr>, Box<Expr>),
