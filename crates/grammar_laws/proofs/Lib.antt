@@ -1,0 +1,15 @@
+pub mod Readers
+pub mod Signs
+pub mod Lists
+pub mod Many
+pub mod Laws
+pub mod Either
+pub mod Operators
+pub mod Trees
+pub mod Atoms
+pub mod Unary
+pub mod Chains
+pub mod Choices
+pub mod Exprs
+pub mod Refusals
+pub mod ExpressionLaws

@@ -1,0 +1,9 @@
+pub mod Again
+pub mod Found
+pub mod Gaps
+pub mod Lays
+pub mod Lexing
+pub mod Reread
+pub mod Smallness
+pub mod Spelled
+pub mod Texts

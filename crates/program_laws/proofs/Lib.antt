@@ -1,0 +1,12 @@
+pub mod Parts
+pub mod Words
+pub mod Simple
+pub mod Blocks
+pub mod Statements
+pub mod Declarations
+pub mod Sections
+pub mod Versions
+pub mod Programs
+pub mod Enough
+pub mod Refusals
+pub mod Readings
