@@ -1,0 +1,13 @@
+pub mod AtomLaws
+pub mod Steps
+pub mod Blocks
+pub mod Shrinks
+pub mod Loops
+pub mod Ends
+pub mod Counting
+pub mod Adding
+pub mod Turns
+pub mod Renames
+pub mod Within
+pub mod Named
+pub mod SmallTokens
