@@ -1,0 +1,17 @@
+pub mod Dictionaries
+pub mod Firsts
+pub mod Starts
+pub mod Rules
+pub mod StatementLaws
+pub mod FillLaws
+pub mod TableLaws
+pub mod Definitions
+pub mod GoodLaws
+pub mod FineLaws
+pub mod PartLaws
+pub mod SameLaws
+pub mod DeclaredLaws
+pub mod NameLaws
+pub mod TellLaws
+pub mod ProgramLaws
+pub mod CheckLaws

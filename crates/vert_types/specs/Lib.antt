@@ -1,0 +1,6 @@
+pub mod Filled
+pub mod Findings
+pub mod Parsed
+pub mod Scopes
+pub mod Tables
+pub mod Typing
