@@ -1,0 +1,4 @@
+pub mod Accepted
+pub mod Answers
+pub mod Faults
+pub mod Laws
