@@ -1,4 +1,5 @@
 pub mod WordLaws
 pub mod LineLaws
 pub mod EntryLaws
-pub mod TextLaws
+pub mod GatherLaws
+pub mod UnitLaws

@@ -1,4 +1,4 @@
--- What the text of an edge file says: a graph, or the first fault and its place.
+-- What the entries of an edge file say: a graph, or the first fault and its place. A text's entries are its lines.
 use Rattle.std.specs.Prelude.{ℕ, ◌+◌, nat_le, nat_lt, Bool, ◌||◌, if◌then◌else◌, List, [], ◌∷◌, ◌++◌, length, map, Option, Some, None, Result, Ok, Err}
 use Rattle.std.specs.Option.{option_map}
 use Rattle.vert_base.specs.declared.graph.Edge.{Edge}

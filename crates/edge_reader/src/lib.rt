@@ -4,12 +4,15 @@
 mod edges;
 mod entry;
 mod fault;
+mod gather;
 mod line;
+mod pairs;
 mod text;
 mod words;
 
 pub use edges::Edges;
 pub use fault::EdgeFault;
+pub use pairs::read_pairs;
 pub use text::read_text;
 
 #[cfg(test)]

@@ -1,6 +1,6 @@
 use Rattle.std.proofs.Common.{◌≡◌, ◌≤◌, drop, max}
 use Rattle.edge_reader.specs.EdgeList.{bound_of}
-use Rattle.edge_reader.proofs.text.bound.Given as goal
+use Rattle.edge_reader.proofs.gather.bound.Given as goal
 
 abbrev pub invariant-loop-edge : goal.invariant-loop-edge
 invariant-loop-edge l = record {
