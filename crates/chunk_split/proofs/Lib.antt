@@ -1,0 +1,4 @@
+pub mod ReachLaws
+pub mod EndLaws
+pub mod BoundLaws
+pub mod ChunkLaws

@@ -1,0 +1,10 @@
+//! The chunks of a graph's vertices, one for each machine.
+#![tactic(auto)]
+
+mod bounds;
+mod cuts;
+#[cfg(test)]
+mod tests;
+
+pub use bounds::cuts_of;
+pub use cuts::Cuts;

@@ -1,0 +1,4 @@
+pub mod OrderLaws
+pub mod StartLaws
+pub mod SortLaws
+pub mod TableLaws

@@ -1,0 +1,4 @@
+pub mod Sides
+pub mod Starts
+pub mod Tables
+pub mod Inside
