@@ -1,0 +1,13 @@
+pub mod Choices
+pub mod CircleLaws
+pub mod CountLaws
+pub mod EarlyLaws
+pub mod GiftLaws
+pub mod Members
+pub mod NeedLaws
+pub mod ReadingLaws
+pub mod RoundLaws
+pub mod SkeletonRows
+pub mod SpanLaws
+pub mod StandingLaws
+pub mod TableLaws

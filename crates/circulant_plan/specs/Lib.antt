@@ -1,0 +1,9 @@
+pub mod Counts
+pub mod Deliveries
+pub mod Laws
+pub mod Names
+pub mod Ring
+pub mod Skeleton
+pub mod Spots
+pub mod Standing
+pub mod Table
