@@ -1,0 +1,10 @@
+pub mod TextLaws
+pub mod NumberLaws
+pub mod BuildLaws
+pub mod TallyLaws
+pub mod TableLaws
+pub mod StepLaws
+pub mod WalkLaws
+pub mod EndLaws
+pub mod FormLaws
+pub mod RangeLaws

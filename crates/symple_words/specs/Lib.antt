@@ -1,0 +1,10 @@
+pub mod Texts
+pub mod Spelling
+pub mod Numbers
+pub mod Commands
+pub mod Lines
+pub mod Views
+pub mod Asked
+pub mod Answers
+pub mod Readings
+pub mod Ranges
