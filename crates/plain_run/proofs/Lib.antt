@@ -10,6 +10,5 @@ pub mod RunLaws
 pub mod SlotLaws
 pub mod SortLaws
 pub mod StartLaws
-pub mod TreeLaws
 pub mod TurnLaws
 pub mod TypedLaws
