@@ -1,78 +1,115 @@
--- What is refused and what is printed, by the verdict over the files of a shelf.
-use Rattle.std.proofs.Common.{◌≡◌, ◌⊎◌, inl, inr, ℕ, List, Option, Some, None, Result, refl, sym, ap, subst, ◌∙◌}
+-- What is refused and what is printed, by what is asked over the files of a shelf.
+use Rattle.std.proofs.Common.{◌≡◌, ◌⊎◌, inl, inr, ℕ, List, Option, Some, None, Result, Ok, Err, refl, sym, ap, subst, ◌∙◌}
 use Rattle.edge_reader.specs.EdgeList.{Graph}
 use Rattle.symple_face.specs.Causes.{Rose}
 use Rattle.symple_face.specs.Files.{File, file_named}
 use Rattle.symple_run.specs.declared.status.Status.{Status}
 use Rattle.symple_run.specs.declared.status.Status.TheVariants as status
 use Rattle.symple_run.specs.declared.failure.Failure.{Failure}
+use Rattle.program_reader.specs.declared.refusal.Refusal.{Refusal}
 use Rattle.symple_run.specs.Endings.{EndsBy, fault_after}
-use Rattle.symple_run.specs.Answers.{AreUnder, Change, Ends, status_after, verdict_over}
-use Rattle.symple_run.specs.Lines.{Line, NoCommand, BadWords, RunOf}
+use Rattle.symple_run.specs.Answers.{AreUnder, Change, Ends, IsLoaded, status_after}
+use Rattle.symple_run.specs.Lines.{Line, NoCommand, BadWords, PlanOf, RunOf, RunWords}
 use Rattle.symple_run.specs.Notes as note
-use Rattle.symple_run.specs.Verdicts.{Fails, Runs, Verdict, verdict_of}
+use Rattle.symple_run.specs.Verdicts.{Absent, Accepted, Asks, AsksOver, Fails, Judged, Judgement, Puts, Refused, Verdict, graph_in, of_graph, run_verdict}
+use Rattle.program_reader.proofs.AcceptLaws.{has_one_refusal, says_none_refused}
 
--- what stands under the names of a line gives its verdict
-under_gives : (files : List File) (words : Line) (program graph : Option (List ℕ)) → AreUnder (Some files) words program graph → verdict_of words program graph ≡ verdict_over files words
-under_gives files NoCommand program graph under = refl
-under_gives files BadWords program graph under = refl
-under_gives files (RunOf p g) program graph under =
-    ap (λ (f : Option (List ℕ)). verdict_of (RunOf p g) f graph) (sym under.0) ∙ ap (λ (f : Option (List ℕ)). verdict_of (RunOf p g) (file_named p files) f) (sym under.1)
+-- the fault of a verdict, where it has one
+abbrev fault_in : Verdict → Option note.Fault
+fault_in (Fails fault) = Some fault
+fault_in (Puts text) = None
 
-same_fault : (f g : note.Fault) → Fails f ≡ Fails g → f ≡ g
-same_fault f g same = cc
+of_graph_fault : (read : Result Graph note.Fault) (s t : Graph → List ℕ) → fault_in (of_graph read s) ≡ fault_in (of_graph read t)
+of_graph_fault (Ok graph) s t = refl
+of_graph_fault (Err fault) s t = refl
 
-no_run : {A : Type 0} (f : note.Fault) (text : List ℕ) (graph : Graph) → Fails f ≡ Runs text graph → A
-no_run f text graph same = cc
+-- two judgements of one file are of one sort
+judged_once : (r : RunWords) (graph file : Option (List ℕ)) (i j : Judgement) → Judged file i → Judged file j → fault_in (run_verdict r i graph) ≡ fault_in (run_verdict r j graph)
+judged_once r graph None i j is js = ap (λ (k : Judgement). fault_in (run_verdict r k graph)) (is ∙ sym js)
+judged_once r graph (Some text) Absent j is js = absurd is
+judged_once r graph (Some text) (Refused why) Absent is js = absurd js
+judged_once r graph (Some text) (Accepted program) Absent is js = absurd js
+judged_once r graph (Some text) (Refused why) (Refused other) is js = ap (λ (q : Refusal). Some (note.BadProgram q)) (has_one_refusal text why other is js)
+judged_once r graph (Some text) (Refused why) (Accepted program) is js = absurd (says_none_refused text why program is js)
+judged_once r graph (Some text) (Accepted program) (Refused why) is js = absurd (says_none_refused text why program js is)
+judged_once r graph (Some text) (Accepted program) (Accepted other) is js = of_graph_fault (graph_in r.form r.graph graph) _ _
+
+-- a line asks for one fault, or for none
+asked_once : (words : Line) (program graph : Option (List ℕ)) (v w : Verdict) → Asks words program graph v → Asks words program graph w → fault_in v ≡ fault_in w
+asked_once NoCommand program graph v w vs ws = ap fault_in (vs ∙ sym ws)
+asked_once BadWords program graph v w vs ws = ap fault_in (vs ∙ sym ws)
+asked_once (PlanOf l) program graph v w vs ws = ap fault_in (vs ∙ sym ws)
+asked_once (RunOf r) program graph v w (i, is, vs) (j, js, ws) = ap fault_in vs ∙ judged_once r graph program i j is js ∙ ap fault_in (sym ws)
+
+-- what is asked over the files is asked of what stands under the names
+under_asks :
+    (files : List File) (words : Line) (program graph : Option (List ℕ)) (v : Verdict) → AreUnder (Some files) words program graph → AsksOver files words v → Asks words program graph v
+under_asks files NoCommand program graph v under asks = asks
+under_asks files BadWords program graph v under asks = asks
+under_asks files (RunOf r) program graph v under asks =
+    let P : Option (List ℕ) → Type 0 = λ f. Asks (RunOf r) f (file_named r.graph files) v in
+    let Q : Option (List ℕ) → Type 0 = λ f. Asks (RunOf r) program f v in
+    subst Q under.1 (subst P under.0 asks)
+under_asks files (PlanOf l) program graph v under asks =
+    let Q : Option (List ℕ) → Type 0 = λ f. Asks (PlanOf l) program f v in
+    subst Q under asks
 
 module _ (files : List File) (words : Line) (program graph : Option (List ℕ)) (l la : ℕ) (out : Change) (calm : Rose l la → ⊥) where
+  same_fault : (f g : note.Fault) → Asks words program graph (Fails f) → Asks words program graph (Fails g) → f ≡ g
+  same_fault f g fs gs = let q : Some f ≡ Some g = asked_once words program graph (Fails f) (Fails g) fs gs in cc
+
+  not_both : {A : Type 0} (f : note.Fault) (text : List ℕ) → Asks words program graph (Fails f) → Asks words program graph (Puts text) → A
+  not_both f text fs ps = let q : Some f ≡ None = asked_once words program graph (Fails f) (Puts text) fs ps in cc
+
   -- a fault that the files give is the one that is answered, but for want of memory
   refused_at :
-      (fault : note.Fault) → verdict_of words program graph ≡ Fails fault → (answered : Option note.Fault) → Ends (Some files) answered words program graph l la out →
+      (fault : note.Fault) → Asks words program graph (Fails fault) → (answered : Option note.Fault) → Ends (Some files) (Asks words program graph) (IsLoaded words) answered l la out →
       (status_after answered ≡ note.status_of fault) ⊎ (status_after answered ≡ status.Memory)
-  refused_at fault is None (text, prints, gained) = no_run fault prints.source prints.graph (sym is ∙ prints.runs)
-  refused_at fault is (Some note.NoWrite) (text, prints, failed) = no_run fault prints.source prints.graph (sym is ∙ prints.runs)
+  refused_at fault is None (text, asks, gained) = not_both fault text is asks
+  refused_at fault is (Some note.NoWrite) (text, asks, failed) = not_both fault text is asks
   refused_at fault is (Some note.NoMemory) ends = inr refl
-  refused_at fault is (Some (note.NoLoad name)) ((inl told), stayed) = inl (ap note.status_of (same_fault (note.NoLoad name) fault (sym told.1 ∙ is)))
+  refused_at fault is (Some (note.NoLoad name)) ((inl told), stayed) = inl (ap note.status_of (same_fault (note.NoLoad name) fault told.1 is))
   refused_at fault is (Some (note.NoLoad name)) ((inr rose), stayed) = absurd (calm rose.0)
-  refused_at fault is (Some note.NoCommand) ends = inl (ap note.status_of (same_fault note.NoCommand fault (sym ends.0 ∙ is)))
-  refused_at fault is (Some note.BadWords) ends = inl (ap note.status_of (same_fault note.BadWords fault (sym ends.0 ∙ is)))
-  refused_at fault is (Some (note.BadProgram refusal)) ends = inl (ap note.status_of (same_fault (note.BadProgram refusal) fault (sym ends.0 ∙ is)))
-  refused_at fault is (Some (note.BadLine code line)) ends = inl (ap note.status_of (same_fault (note.BadLine code line) fault (sym ends.0 ∙ is)))
-  refused_at fault is (Some (note.BadByte code at)) ends = inl (ap note.status_of (same_fault (note.BadByte code at) fault (sym ends.0 ∙ is)))
+  refused_at fault is (Some note.NoCommand) ends = inl (ap note.status_of (same_fault note.NoCommand fault ends.0 is))
+  refused_at fault is (Some note.BadWords) ends = inl (ap note.status_of (same_fault note.BadWords fault ends.0 is))
+  refused_at fault is (Some (note.BadProgram refusal)) ends = inl (ap note.status_of (same_fault (note.BadProgram refusal) fault ends.0 is))
+  refused_at fault is (Some (note.BadLine code line)) ends = inl (ap note.status_of (same_fault (note.BadLine code line) fault ends.0 is))
+  refused_at fault is (Some (note.BadByte code at)) ends = inl (ap note.status_of (same_fault (note.BadByte code at) fault ends.0 is))
 
-  -- a run is done, but for want of memory and a sink that failed
+  -- a text that is asked for is put, but for want of memory and a sink that failed
   completed_at :
-      (text : List ℕ) (edges : Graph) → verdict_of words program graph ≡ Runs text edges → (Rose out.faults out.faults_after → ⊥) → (answered : Option note.Fault) →
-      Ends (Some files) answered words program graph l la out → (status_after answered ≡ status.Done) ⊎ (status_after answered ≡ status.Memory)
-  completed_at text edges is fine None ends = inl refl
-  completed_at text edges is fine (Some note.NoWrite) (printed, prints, failed) = absurd (fine failed.rose)
-  completed_at text edges is fine (Some note.NoMemory) ends = inr refl
-  completed_at text edges is fine (Some (note.NoLoad name)) ((inl told), stayed) = no_run (note.NoLoad name) text edges (sym told.1 ∙ is)
-  completed_at text edges is fine (Some (note.NoLoad name)) ((inr rose), stayed) = absurd (calm rose.0)
-  completed_at text edges is fine (Some note.NoCommand) ends = no_run note.NoCommand text edges (sym ends.0 ∙ is)
-  completed_at text edges is fine (Some note.BadWords) ends = no_run note.BadWords text edges (sym ends.0 ∙ is)
-  completed_at text edges is fine (Some (note.BadProgram refusal)) ends = no_run (note.BadProgram refusal) text edges (sym ends.0 ∙ is)
-  completed_at text edges is fine (Some (note.BadLine code line)) ends = no_run (note.BadLine code line) text edges (sym ends.0 ∙ is)
-  completed_at text edges is fine (Some (note.BadByte code at)) ends = no_run (note.BadByte code at) text edges (sym ends.0 ∙ is)
+      (text : List ℕ) → Asks words program graph (Puts text) → (Rose out.faults out.faults_after → ⊥) → (answered : Option note.Fault) →
+      Ends (Some files) (Asks words program graph) (IsLoaded words) answered l la out → (status_after answered ≡ status.Done) ⊎ (status_after answered ≡ status.Memory)
+  completed_at text is fine None ends = inl refl
+  completed_at text is fine (Some note.NoWrite) (printed, asks, failed) = absurd (fine failed.rose)
+  completed_at text is fine (Some note.NoMemory) ends = inr refl
+  completed_at text is fine (Some (note.NoLoad name)) ((inl told), stayed) = not_both (note.NoLoad name) text told.1 is
+  completed_at text is fine (Some (note.NoLoad name)) ((inr rose), stayed) = absurd (calm rose.0)
+  completed_at text is fine (Some note.NoCommand) ends = not_both note.NoCommand text ends.0 is
+  completed_at text is fine (Some note.BadWords) ends = not_both note.BadWords text ends.0 is
+  completed_at text is fine (Some (note.BadProgram refusal)) ends = not_both (note.BadProgram refusal) text ends.0 is
+  completed_at text is fine (Some (note.BadLine code line)) ends = not_both (note.BadLine code line) text ends.0 is
+  completed_at text is fine (Some (note.BadByte code at)) ends = not_both (note.BadByte code at) text ends.0 is
 
 pub refused_by :
     (told : Option (List File)) (words : Line) (l la : ℕ) (out : Change) (ended : Result (Unit {0}) Failure) → EndsBy told words l la out ended →
     (result : Status) → result ≡ status_after (fault_after ended) →
-    (files : List File) (fault : note.Fault) → told ≡ Some files → verdict_over files words ≡ Fails fault → (Rose l la → ⊥) → (result ≡ note.status_of fault) ⊎ (result ≡ status.Memory)
-refused_by told words l la out ended ends result status_is files fault is verdict calm =
+    (files : List File) (fault : note.Fault) → told ≡ Some files → AsksOver files words (Fails fault) → (Rose l la → ⊥) → (result ≡ note.status_of fault) ⊎ (result ≡ status.Memory)
+refused_by told words l la out ended ends result status_is files fault is asks calm =
     let P : Option (List File) → Type 0 = λ t. EndsBy t words l la out ended in
     let b = subst P is ends in
     let Q : Status → Type 0 = λ s. (s ≡ note.status_of fault) ⊎ (s ≡ status.Memory) in
-    subst Q (sym status_is) (refused_at files words b.program b.graph l la out calm fault (under_gives files words b.program b.graph b.under ∙ verdict) (fault_after ended) b.ends)
+    subst Q (sym status_is)
+    (refused_at files words b.program b.graph l la out calm fault (under_asks files words b.program b.graph (Fails fault) b.under asks) (fault_after ended) b.ends)
 
 pub completed_by :
     (told : Option (List File)) (words : Line) (l la : ℕ) (out : Change) (ended : Result (Unit {0}) Failure) → EndsBy told words l la out ended →
     (result : Status) → result ≡ status_after (fault_after ended) →
-    (files : List File) (text : List ℕ) (edges : Graph) → told ≡ Some files → verdict_over files words ≡ Runs text edges → (Rose l la → ⊥) → (Rose out.faults out.faults_after → ⊥) →
+    (files : List File) (text : List ℕ) → told ≡ Some files → AsksOver files words (Puts text) → (Rose l la → ⊥) → (Rose out.faults out.faults_after → ⊥) →
     (result ≡ status.Done) ⊎ (result ≡ status.Memory)
-completed_by told words l la out ended ends result status_is files text edges is verdict calm fine =
+completed_by told words l la out ended ends result status_is files text is asks calm fine =
     let P : Option (List File) → Type 0 = λ t. EndsBy t words l la out ended in
     let b = subst P is ends in
     let Q : Status → Type 0 = λ s. (s ≡ status.Done) ⊎ (s ≡ status.Memory) in
-    subst Q (sym status_is) (completed_at files words b.program b.graph l la out calm text edges (under_gives files words b.program b.graph b.under ∙ verdict) fine (fault_after ended) b.ends)
+    subst Q (sym status_is)
+    (completed_at files words b.program b.graph l la out calm text (under_asks files words b.program b.graph (Puts text) b.under asks) fine (fault_after ended) b.ends)

@@ -1,20 +1,26 @@
 -- What a load tells of the file under a name.
-use Rattle.std.proofs.Common.{◌≡◌, ◌⊎◌, inl, inr, ℕ, ◌+◌, ◌<◌, ◌≤◌, true, false, List, length, Option, Some, None, Result, Ok, Err, refl, ap, ◌∙◌, arith, replicate, Bor}
+use Rattle.std.proofs.Common.{◌≡◌, ◌⊎◌, inl, inr, ℕ, ◌+◌, ◌<◌, ◌≤◌, Bool, true, false, List, length, Option, Some, None, Result, Ok, Err, refl, ap, ◌∙◌, arith, replicate, Bor}
 use Rattle.std.specs.Prelude.{IsSomeAnd, if◌then◌else◌, nat_lt}
 use Rattle.std.proofs.lemmas.Bool.{lt-ltb}
 use Rattle.std.proofs.lemmas.List.{length-replicate}
 use Rattle.edge_reader.specs.declared.fault.EdgeFault.TheVariants as edge
-use Rattle.edge_reader.specs.EdgeText.{edges_from, graph_of, reading_of_text}
+use Rattle.edge_reader.specs.declared.edges.Edges.{Edges}
+use Rattle.edge_reader.specs.EdgePairs.{reading_of_pairs}
+use Rattle.edge_reader.specs.EdgeText.{reading_of_text}
+use Rattle.edge_reader.specs.Gives.{Gives, graph_of_edges}
 use Rattle.symple_face.specs.Causes.{Rose}
 use Rattle.symple_face.specs.Files.{File, file_named}
 use Rattle.symple_run.specs.declared.failure.Failure.{Failure}
 use Rattle.symple_run.specs.declared.failure.Failure.TheVariants as failure
-use Rattle.symple_run.specs.declared.failure.Stage.TheVariants.{Tokens}
+use Rattle.program_reader.specs.declared.refusal.Stage.TheVariants.{Tokens}
 use Rattle.symple_run.specs.Answers.{IsTold, IsUnder}
-use Rattle.symple_run.specs.Loads.{GivesGraph, GivesProgram, GraphIn, NotLoaded, ProgramIn, ReadsGraph}
-use Rattle.symple_run.specs.Verdicts.{Says, program_refusal, token_refusal}
+use Rattle.symple_run.specs.Loads.{GivesGraph, GivesProgram, NotLoaded}
+use Rattle.symple_run.specs.Notes.{BadByte, BadLine}
+use Rattle.program_reader.specs.Accepted.{Refuses}
+use Rattle.symple_run.specs.Verdicts.{graph_in, graph_of, graph_read}
+use Rattle.symple_words.specs.declared.line.GraphForm.{GraphForm}
 use Rattle.vert_lex.specs.declared.token.LexFault.TheVariants as lexes
-use Rattle.vert_lex.specs.Text.{origin, tokens_at, tokens_of}
+use Rattle.vert_lex.specs.Text.{origin, tokens_at}
 
 -- some file, or none, stands under a name
 pub record Under (files : Option (List File)) (name : List ℕ) : Type 0 where
@@ -64,78 +70,70 @@ lacks (Some told) loads loads_after name missing untold = record { under = (miss
 
 -- ---- programs
 
-pub long_program : (text : List ℕ) → 65536 < length text → program_refusal text ≡ Some (record { stage = Tokens; number = 3; span = origin })
-long_program text longer = ap (λ b. token_refusal (if b then Err lexes.TooLong else tokens_at false 0 origin text)) (lt-ltb 65536 (length text) longer)
-
-program_unread : (files : Option (List File)) (loads loads_after : ℕ) (name : List ℕ) (file : Option (List ℕ)) → ProgramIn files loads loads_after name file (Err failure.Memory)
-program_unread files loads loads_after name None = tt
-program_unread files loads loads_after name (Some text) = tt
+pub long_program : (text : List ℕ) → 65536 < length text → Refuses text (record { stage = Tokens; number = 3; span = origin })
+long_program text longer =
+    inl (record { fault = lexes.TooLong; tokens = ap (λ b. if b then Err lexes.TooLong else tokens_at false 0 origin text) (lt-ltb 65536 (length text) longer); refused = refl })
 
 pub program_want : (files : Option (List File)) (loads loads_after : ℕ) (name : List ℕ) → GivesProgram files loads loads_after name (Err failure.Memory)
 program_want files loads loads_after name =
     let u = some_under files name in
-    record { file = u.file; under = u.under; given = program_unread files loads loads_after name u.file }
+    record { file = u.file; under = u.under; given = tt }
 
 pub program_long :
     (files : Option (List File)) (loads loads_after : ℕ) (name : List ℕ) → LongUnder files name 65536 →
     GivesProgram files loads loads_after name (Err (failure.Program (record { stage = Tokens; number = 3; span = origin })))
 program_long files loads loads_after name long = record { file = Some long.bytes; under = long.under; given = long_program long.bytes long.longer }
 
--- ---- graphs
-
-pub long_graph : (bytes : List ℕ) → 268435456 < length bytes → reading_of_text None false bytes ≡ Err (edge.Byte 7 268435456)
-long_graph bytes longer = search (lt-ltb 268435456 (length bytes) longer)
-
-graph_unread : (files : Option (List File)) (loads loads_after : ℕ) (name : List ℕ) (file : Option (List ℕ)) → GraphIn files loads loads_after name file (Err failure.Memory)
-graph_unread files loads loads_after name None = tt
-graph_unread files loads loads_after name (Some bytes) = tt
-
-pub graph_want : (files : Option (List File)) (loads loads_after : ℕ) (name : List ℕ) → GivesGraph files loads loads_after name (Err failure.Memory)
-graph_want files loads loads_after name =
-    let u = some_under files name in
-    record { file = u.file; under = u.under; given = graph_unread files loads loads_after name u.file }
-
-pub graph_long :
-    (files : Option (List File)) (loads loads_after : ℕ) (name : List ℕ) → LongUnder files name 268435456 →
-    GivesGraph files loads loads_after name (Err (failure.GraphByte 7 268435456))
-graph_long files loads loads_after name long = record { file = Some long.bytes; under = long.under; given = long_graph long.bytes long.longer }
-
--- ---- a file that could not be loaded
-
-program_unloaded :
-    (files : Option (List File)) (loads loads_after : ℕ) (name : List ℕ) (unread : Bor (List ℕ)) (file : Option (List ℕ)) → unread.now ≡ name → NotLoaded files loads loads_after file →
-    ProgramIn files loads loads_after name file (Err (failure.Load unread))
-program_unloaded files loads loads_after name unread None same cause = (same, cause)
-program_unloaded files loads loads_after name unread (Some text) same cause = (same, cause)
-
 pub program_failed :
     (files : Option (List File)) (loads loads_after : ℕ) (unread : Bor (List ℕ)) → Rose loads loads_after →
     GivesProgram files loads loads_after unread.now (Err (failure.Load unread))
 program_failed files loads loads_after unread rose =
     let u = some_under files unread.now in
-    record { file = u.file; under = u.under; given = program_unloaded files loads loads_after unread.now unread u.file refl (inr rose) }
+    record { file = u.file; under = u.under; given = (refl, inr rose) }
 
 pub program_missing :
     (files : Option (List File)) (loads loads_after : ℕ) (unread : Bor (List ℕ)) → Lacks files loads loads_after unread.now →
     GivesProgram files loads loads_after unread.now (Err (failure.Load unread))
-program_missing files loads loads_after unread l =
-    record { file = None; under = l.under; given = program_unloaded files loads loads_after unread.now unread None refl l.cause }
+program_missing files loads loads_after unread l = record { file = None; under = l.under; given = (refl, l.cause) }
 
-graph_unloaded :
-    (files : Option (List File)) (loads loads_after : ℕ) (name : List ℕ) (unread : Bor (List ℕ)) (file : Option (List ℕ)) → unread.now ≡ name → NotLoaded files loads loads_after file →
-    GraphIn files loads loads_after name file (Err (failure.Load unread))
-graph_unloaded files loads loads_after name unread None same cause = (same, cause)
-graph_unloaded files loads loads_after name unread (Some bytes) same cause = (same, cause)
+-- ---- graphs
+
+long_reading : (binary weighted both : Bool) (vertices : Option ℕ) (bytes : List ℕ) → 268435456 < length bytes →
+    (if binary then reading_of_pairs weighted both bytes else reading_of_text vertices both bytes) ≡ Err (edge.Byte 7 268435456)
+long_reading true weighted both vertices bytes longer = search (lt-ltb 268435456 (length bytes) longer)
+long_reading false weighted both vertices bytes longer = search (lt-ltb 268435456 (length bytes) longer)
+
+pub long_graph : (form : GraphForm) (name bytes : List ℕ) → 268435456 < length bytes → graph_in form name (Some bytes) ≡ Err (BadByte 7 268435456)
+long_graph form name bytes longer = ap graph_read (long_reading form.binary form.weighted form.both form.vertices bytes longer)
+
+pub graph_want : (files : Option (List File)) (loads loads_after : ℕ) (form : GraphForm) (name : List ℕ) → GivesGraph files loads loads_after form name (Err failure.Memory)
+graph_want files loads loads_after form name =
+    let u = some_under files name in
+    record { file = u.file; under = u.under; given = tt }
+
+pub graph_long :
+    (files : Option (List File)) (loads loads_after : ℕ) (form : GraphForm) (name : List ℕ) → LongUnder files name 268435456 →
+    GivesGraph files loads loads_after form name (Err (failure.GraphByte 7 268435456))
+graph_long files loads loads_after form name long = record { file = Some long.bytes; under = long.under; given = long_graph form name long.bytes long.longer }
 
 pub graph_failed :
-    (files : Option (List File)) (loads loads_after : ℕ) (unread : Bor (List ℕ)) → Rose loads loads_after →
-    GivesGraph files loads loads_after unread.now (Err (failure.Load unread))
-graph_failed files loads loads_after unread rose =
+    (files : Option (List File)) (loads loads_after : ℕ) (form : GraphForm) (unread : Bor (List ℕ)) → Rose loads loads_after →
+    GivesGraph files loads loads_after form unread.now (Err (failure.Load unread))
+graph_failed files loads loads_after form unread rose =
     let u = some_under files unread.now in
-    record { file = u.file; under = u.under; given = graph_unloaded files loads loads_after unread.now unread u.file refl (inr rose) }
+    record { file = u.file; under = u.under; given = (refl, inr rose) }
 
 pub graph_missing :
-    (files : Option (List File)) (loads loads_after : ℕ) (unread : Bor (List ℕ)) → Lacks files loads loads_after unread.now →
-    GivesGraph files loads loads_after unread.now (Err (failure.Load unread))
-graph_missing files loads loads_after unread l =
-    record { file = None; under = l.under; given = graph_unloaded files loads loads_after unread.now unread None refl l.cause }
+    (files : Option (List File)) (loads loads_after : ℕ) (form : GraphForm) (unread : Bor (List ℕ)) → Lacks files loads loads_after unread.now →
+    GivesGraph files loads loads_after form unread.now (Err (failure.Load unread))
+graph_missing files loads loads_after form unread l = record { file = None; under = l.under; given = (refl, l.cause) }
+
+-- what a file's bytes give
+pub graph_given : (form : GraphForm) (name bytes : List ℕ) (edges : Edges) → Gives (graph_of form bytes) (Ok edges) → graph_in form name (Some bytes) ≡ Ok (graph_of_edges edges)
+graph_given form name bytes edges given = ap graph_read given
+
+pub line_given : (form : GraphForm) (name bytes : List ℕ) (code line : ℕ) → Gives (graph_of form bytes) (Err (edge.Line code line)) → graph_in form name (Some bytes) ≡ Err (BadLine code line)
+line_given form name bytes code line given = ap graph_read given
+
+pub byte_given : (form : GraphForm) (name bytes : List ℕ) (code at : ℕ) → Gives (graph_of form bytes) (Err (edge.Byte code at)) → graph_in form name (Some bytes) ≡ Err (BadByte code at)
+byte_given form name bytes code at given = ap graph_read given

@@ -1,7 +1,5 @@
 -- What a command leaves.
-use Rattle.std.specs.Prelude.{◌≡◌, ◌⊎◌, ℕ, List, [], ◌∷◌, Option, Some, None}
-use Rattle.array_text.specs.Tables.{table_text}
-use Rattle.edge_reader.specs.EdgeList as edges
+use Rattle.std.specs.Prelude.{◌≡◌, ◌⊎◌, ℕ, List, Option, Some, None}
 use Rattle.symple_face.specs.Bytes.{gained, GainedPart}
 use Rattle.symple_face.specs.Causes.{Rose}
 use Rattle.symple_face.specs.Files.{File, file_named}
@@ -9,21 +7,7 @@ use Rattle.symple_run.specs.declared.status.Status.{Status}
 use Rattle.symple_run.specs.declared.status.Status.TheVariants.{Done}
 use Rattle.symple_run.specs.Lines as line
 use Rattle.symple_run.specs.Notes.{Fault, NoCommand, BadWords, NoLoad, BadProgram, BadLine, BadByte, NoWrite, NoMemory, note_text, status_of}
-use Rattle.symple_run.specs.Verdicts.{Fails, Runs, Says, Verdict, verdict_of}
-use Rattle.vert_eval.specs.SourceRun.{Job, source_run}
-use Rattle.vert_tree.specs.declared.program.Program.{Program}
-
--- one machine runs the program on the whole graph, with the draws number 0
-abbrev pub job_of : Program → edges.Graph → Job
-job_of program graph = record {
-  program = program;
-  graph = record { vertices = graph.vertices; ends = graph.vertices ∷ []; edges = graph.list };
-  draws = 0;
-}
-
--- the output of a run: the table of the source run's last rows
-abbrev pub output_text : Program → edges.Graph → List ℕ
-output_text program graph = table_text program (source_run (job_of program graph)).last.rows
+use Rattle.symple_run.specs.Verdicts.{Asks, Fails, Puts, Verdict}
 
 -- bytes that are held and faults that were counted, before and after
 pub record Change : Type 0 where
@@ -52,36 +36,30 @@ IsUnder (Some files) name file = file_named name files ≡ file
 
 -- these stand under the names of a line
 abbrev pub AreUnder : Option (List File) → line.Line → Option (List ℕ) → Option (List ℕ) → Type 0
-AreUnder files (line.RunOf program_name graph_name) program graph = IsUnder files program_name program × IsUnder files graph_name graph
+AreUnder files (line.RunOf r) program graph = IsUnder files r.program program × IsUnder files r.graph graph
+AreUnder files (line.PlanOf l) program graph = IsUnder files l.graph graph
 AreUnder files _ program graph = Unit {0}
 
 -- a name that a line loads
 abbrev pub IsLoaded : line.Line → List ℕ → Type 0
-IsLoaded (line.RunOf program graph) name = (name ≡ program) ⊎ (name ≡ graph)
+IsLoaded (line.RunOf r) name = (name ≡ r.program) ⊎ (name ≡ r.graph)
+IsLoaded (line.PlanOf l) name = name ≡ l.graph
 IsLoaded _ name = ⊥
-
--- the line runs a program on a graph, and its output is this text
-pub record Prints (words : line.Line) (program_file graph_file : Option (List ℕ)) (text : List ℕ) : Type 0 where
-  pub source : List ℕ
-  pub graph : edges.Graph
-  pub program : Program
-  pub runs : verdict_of words program_file graph_file ≡ Runs source graph
-  pub says : Says source program
-  pub output : text ≡ output_text program graph
 
 -- the shelf tells its files
 abbrev pub IsTold : Option (List File) → Type 0
 IsTold None = ⊥
 IsTold (Some files) = Unit {0}
 
--- how a line ends over these files: with no fault, or with one
-abbrev pub Ends : Option (List File) → Option Fault → line.Line → Option (List ℕ) → Option (List ℕ) → ℕ → ℕ → Change → Type 0
-Ends files None words program graph loads loads_after out = (text : List ℕ) × Prints words program graph text × Gained text out
-Ends files (Some NoWrite) words program graph loads loads_after out = (text : List ℕ) × Prints words program graph text × Failed text out
-Ends files (Some NoMemory) words program graph loads loads_after out = Stayed out
-Ends files (Some (NoLoad name)) words program graph loads loads_after out =
-    ((IsTold files × (verdict_of words program graph ≡ Fails (NoLoad name))) ⊎ (Rose loads loads_after × IsLoaded words name)) × Stayed out
-Ends files (Some fault) words program graph loads loads_after out = (verdict_of words program graph ≡ Fails fault) × Stayed out
+-- What was asked of the files, which are told or not, and the names that are loaded: how it ends, with
+-- no fault or with one.
+abbrev pub Ends : Option (List File) → (Verdict → Type 0) → (List ℕ → Type 0) → Option Fault → ℕ → ℕ → Change → Type 0
+Ends files asked loaded None loads loads_after out = (text : List ℕ) × asked (Puts text) × Gained text out
+Ends files asked loaded (Some NoWrite) loads loads_after out = (text : List ℕ) × asked (Puts text) × Failed text out
+Ends files asked loaded (Some NoMemory) loads loads_after out = Stayed out
+Ends files asked loaded (Some (NoLoad name)) loads loads_after out =
+    ((IsTold files × asked (Fails (NoLoad name))) ⊎ (Rose loads loads_after × loaded name)) × Stayed out
+Ends files asked loaded (Some fault) loads loads_after out = asked (Fails fault) × Stayed out
 
 abbrev pub status_after : Option Fault → Status
 status_after None = Done
@@ -98,11 +76,6 @@ pub record Answers (files : Option (List File)) (words : line.Line) (loads loads
   pub graph : Option (List ℕ)
   pub fault : Option Fault
   pub under : AreUnder files words program graph
-  pub ends : Ends files fault words program graph loads loads_after out
+  pub ends : Ends files (Asks words program graph) (IsLoaded words) fault loads loads_after out
   pub status_is : status ≡ status_after fault
   pub noted : Noted fault notes
-
--- the verdict of a line over the files of a shelf
-abbrev pub verdict_over : List File → line.Line → Verdict
-verdict_over files (line.RunOf program graph) = verdict_of (line.RunOf program graph) (file_named program files) (file_named graph files)
-verdict_over files words = verdict_of words None None

@@ -4,5 +4,6 @@ pub mod Faults
 pub mod Lines
 pub mod Loads
 pub mod Notes
+pub mod Outputs
 pub mod Reads
 pub mod Verdicts

@@ -1,26 +1,59 @@
--- The words of a command line.
-use Rattle.std.specs.Prelude.{ℕ, Bool, false, not, ◌&&◌, ◌==◌, List, [], ◌∷◌, codes, if◌then◌else◌}
+-- What the words of a command line ask for, of the commands and options that there are.
+use Rattle.std.specs.Prelude.{ℕ, Bool, ◌||◌, List, [], ◌∷◌, Option, Some, None, is_some, Result, Ok, Err, codes, if◌then◌else◌}
 use Rattle.std.specs.Str.{bytes_eq}
+use Rattle.symple_words.specs.declared.line.GraphForm.{GraphForm}
+use Rattle.symple_words.specs.Lines as words
 
--- a line of words: no command, a command with words that it doesn't take, or `run`
+-- a program to run on a graph
+pub record RunWords : Type 0 where
+  pub program : List ℕ
+  pub graph : List ℕ
+  pub form : GraphForm
+  pub rounds : Bool
+  pub draws : ℕ
+  pub machines : ℕ
+
+-- a graph to plan
+pub record PlanWords : Type 0 where
+  pub graph : List ℕ
+  pub form : GraphForm
+  pub machines : ℕ
+
 pub data Line : Type 0 where
   NoCommand : Line
   BadWords : Line
-  RunOf : (program graph : List ℕ) → Line
+  RunOf : (run : RunWords) → Line
+  PlanOf : (plan : PlanWords) → Line
 
--- a word that isn't empty and doesn't begin with `-`
-abbrev pub is_name : List ℕ → Bool
-is_name [] = false
-is_name (b ∷ bs) = not (b == 45)
+-- the commands that there are
+abbrev pub is_command : List ℕ → Bool
+is_command word = bytes_eq word (codes "run") || bytes_eq word (codes "plan")
 
--- the words after `run`: PROGRAM GRAPH --machines 1
-abbrev pub run_line : List (List ℕ) → Line
-run_line (program ∷ graph ∷ option ∷ machines ∷ []) =
-    if is_name program && (is_name graph && (bytes_eq option (codes "--machines") && bytes_eq machines (codes "1")))
-    then RunOf program graph
-    else BadWords
-run_line _ = BadWords
+abbrev pub run_words : words.PlainJob → ℕ → RunWords
+run_words job machines = record {
+  program = job.program;
+  graph = job.graph;
+  form = job.form;
+  rounds = job.lines.rounds;
+  draws = job.draws;
+  machines = machines;
+}
+
+-- `run` with every option but `--reads`, `--log` and `--image`
+abbrev pub run_asked : words.PlainJob → ℕ → Option (List ℕ) → Line
+run_asked job machines image =
+    if job.lines.reads || (job.lines.log || is_some image) then BadWords else RunOf (run_words job machines)
+
+abbrev pub asked : words.PlainLine → Line
+asked (words.RunOf job machines image) = run_asked job machines image
+asked (words.PlanOf graph form machines) = PlanOf (record { graph = graph; form = form; machines = machines })
+asked _ = NoCommand
+
+abbrev pub asked_by : Result words.PlainLine words.LineFault → Line
+asked_by (Ok line) = asked line
+asked_by (Err words.NoCommand) = NoCommand
+asked_by (Err words.BadWords) = BadWords
 
 abbrev pub line_of : List (List ℕ) → Line
 line_of [] = NoCommand
-line_of (command ∷ words) = if bytes_eq command (codes "run") then run_line words else NoCommand
+line_of (command ∷ others) = if is_command command then asked_by (words.line_of (command ∷ others)) else NoCommand

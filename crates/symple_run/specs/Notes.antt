@@ -3,9 +3,9 @@ use Rattle.std.specs.Prelude.{ℕ, List, ◌++◌, codes, decimal}
 use Rattle.vert_base.specs.declared.text.Span.{Span}
 use Rattle.symple_run.specs.declared.status.Status.{Status}
 use Rattle.symple_run.specs.declared.status.Status.TheVariants as status
-use Rattle.symple_run.specs.declared.failure.Stage.{Stage}
-use Rattle.symple_run.specs.declared.failure.Stage.TheVariants.{Tokens, Grammar, Typing}
-use Rattle.symple_run.specs.declared.failure.Refusal.{Refusal}
+use Rattle.program_reader.specs.declared.refusal.Stage.{Stage}
+use Rattle.program_reader.specs.declared.refusal.Stage.TheVariants.{Tokens, Grammar, Typing}
+use Rattle.program_reader.specs.declared.refusal.Refusal.{Refusal}
 
 abbrev pub stage_letter : Stage → List ℕ
 stage_letter Tokens = codes "L"

@@ -1,69 +1,76 @@
--- What a line asks of the two files that it names: a refusal, or a program and a graph to run.
-use Rattle.std.specs.Prelude.{◌≡◌, ℕ, false, List, map, Option, Some, None, Result, Ok, Err, if◌then◌else◌}
+-- What a line asks of the files that it names: a refusal, or a text to put.
+use Rattle.std.specs.Prelude.{◌≡◌, ℕ, List, map, Option, Some, None, Result, Ok, Err, if◌then◌else◌}
 use Rattle.edge_reader.specs.declared.fault.EdgeFault.{EdgeFault}
 use Rattle.edge_reader.specs.declared.fault.EdgeFault.TheVariants.{Line as AtLine, Byte as AtByte, Want as EdgeWant}
 use Rattle.edge_reader.specs.EdgeList.{Graph}
 use Rattle.edge_reader.specs.EdgeText.{reading_of_text}
-use Rattle.first_form.specs.FirstForm.{is_first_form}
-use Rattle.first_form.specs.Trees.{IsTreeOf}
+use Rattle.edge_reader.specs.EdgePairs.{reading_of_pairs}
 use Rattle.symple_face.specs.Files.{File, file_named}
-use Rattle.symple_run.specs.declared.failure.Refusal.{Refusal}
-use Rattle.symple_run.specs.declared.failure.Stage.TheVariants.{Tokens, Grammar}
+use Rattle.program_reader.specs.declared.refusal.Refusal.{Refusal}
 use Rattle.symple_run.specs.Lines as line
 use Rattle.symple_run.specs.Notes.{Fault, NoCommand, BadWords, NoLoad, BadProgram, BadLine, BadByte, NoMemory}
-use Rattle.vert_lex.specs.declared.token.LexFault.{LexFault}
-use Rattle.vert_lex.specs.declared.token.LexFault.TheVariants as lex
-use Rattle.vert_lex.specs.Text.{Placed, origin, tokens_of}
+use Rattle.symple_run.specs.Outputs.{plan_text, run_text}
+use Rattle.program_reader.specs.Accepted.{Refuses, Says}
+use Rattle.symple_words.specs.declared.line.GraphForm.{GraphForm}
 use Rattle.vert_tree.specs.declared.program.Program.{Program}
 
--- tokens of another form are refused at the first place
-abbrev pub form_refusal : List Placed → Option Refusal
-form_refusal placed =
-    if is_first_form (map (λ t. t.kind) placed) then None else Some (record { stage = Grammar; number = 1; span = origin })
+-- what stands in the file of a program: nothing is there, a text that is refused, or a program
+pub data Judgement : Type 0 where
+  Absent : Judgement
+  Refused : (refusal : Refusal) → Judgement
+  Accepted : (program : Program) → Judgement
 
-abbrev pub token_refusal : Result (List Placed) LexFault → Option Refusal
-token_refusal (Ok placed) = form_refusal placed
-token_refusal (Err (lex.BadByte span)) = Some (record { stage = Tokens; number = 1; span = span })
-token_refusal (Err (lex.BadNumber span)) = Some (record { stage = Tokens; number = 2; span = span })
-token_refusal (Err lex.TooLong) = Some (record { stage = Tokens; number = 3; span = origin })
-token_refusal (Err lex.Want) = None
+abbrev pub Judged : Option (List ℕ) → Judgement → Type 0
+Judged None judgement = judgement ≡ Absent
+Judged (Some text) Absent = ⊥
+Judged (Some text) (Refused refusal) = Refuses text refusal
+Judged (Some text) (Accepted program) = Says text program
 
--- why and where a text is refused, if it is
-abbrev pub program_refusal : List ℕ → Option Refusal
-program_refusal text = token_refusal (tokens_of text)
+abbrev pub edge_fault : EdgeFault → Fault
+edge_fault (AtLine code line) = BadLine code line
+edge_fault (AtByte code at) = BadByte code at
+edge_fault EdgeWant = NoMemory
 
--- a text says this program
-pub record Says (text : List ℕ) (program : Program) : Type 0 where
-  pub placed : List Placed
-  pub tokens : tokens_of text ≡ Ok placed
-  pub tree : IsTreeOf (map (λ t. t.kind) placed) program
+-- the graph that some bytes say, or their first fault
+abbrev pub graph_of : GraphForm → List ℕ → Result Graph EdgeFault
+graph_of form bytes = if form.binary then reading_of_pairs form.weighted form.both bytes else reading_of_text form.vertices form.both bytes
 
--- a refusal, or the text of a program and a graph to run it on
+abbrev pub graph_read : Result Graph EdgeFault → Result Graph Fault
+graph_read (Ok graph) = Ok graph
+graph_read (Err fault) = Err (edge_fault fault)
+
+-- the graph in the file of a name, or why there is none
+abbrev pub graph_in : GraphForm → List ℕ → Option (List ℕ) → Result Graph Fault
+graph_in form name None = Err (NoLoad name)
+graph_in form name (Some bytes) = graph_read (graph_of form bytes)
+
+-- a refusal, or a text to put
 pub data Verdict : Type 0 where
   Fails : (fault : Fault) → Verdict
-  Runs : (text : List ℕ) (graph : Graph) → Verdict
+  Puts : (text : List ℕ) → Verdict
 
-abbrev pub by_reading : List ℕ → Result Graph EdgeFault → Verdict
-by_reading text (Ok graph) = Runs text graph
-by_reading text (Err (AtLine code line)) = Fails (BadLine code line)
-by_reading text (Err (AtByte code at)) = Fails (BadByte code at)
-by_reading text (Err EdgeWant) = Fails NoMemory
-
-abbrev pub by_graph : List ℕ → List ℕ → Option (List ℕ) → Verdict
-by_graph name text None = Fails (NoLoad name)
-by_graph name text (Some bytes) = by_reading text (reading_of_text None false bytes)
-
-abbrev pub by_refusal : List ℕ → List ℕ → Option Refusal → Option (List ℕ) → Verdict
-by_refusal name text (Some refusal) graph = Fails (BadProgram refusal)
-by_refusal name text None graph = by_graph name text graph
+abbrev pub of_graph : Result Graph Fault → (Graph → List ℕ) → Verdict
+of_graph (Ok graph) text = Puts (text graph)
+of_graph (Err fault) text = Fails fault
 
 -- the program is judged before the graph is looked at
-abbrev pub by_program : List ℕ → List ℕ → Option (List ℕ) → Option (List ℕ) → Verdict
-by_program program graph None file = Fails (NoLoad program)
-by_program program graph (Some text) file = by_refusal graph text (program_refusal text) file
+abbrev pub run_verdict : line.RunWords → Judgement → Option (List ℕ) → Verdict
+run_verdict r Absent graph = Fails (NoLoad r.program)
+run_verdict r (Refused refusal) graph = Fails (BadProgram refusal)
+run_verdict r (Accepted program) graph = of_graph (graph_in r.form r.graph graph) (run_text r program)
 
--- the verdict of a line, given what stands under the names of the program and of the graph
-abbrev pub verdict_of : line.Line → Option (List ℕ) → Option (List ℕ) → Verdict
-verdict_of line.NoCommand program graph = Fails NoCommand
-verdict_of line.BadWords program graph = Fails BadWords
-verdict_of (line.RunOf program_name graph_name) program graph = by_program program_name graph_name program graph
+abbrev pub plan_verdict : line.PlanWords → Option (List ℕ) → Verdict
+plan_verdict l graph = of_graph (graph_in l.form l.graph graph) (plan_text l.machines)
+
+-- what a line asks, given what stands under the names of the program and of the graph
+abbrev pub Asks : line.Line → Option (List ℕ) → Option (List ℕ) → Verdict → Type 0
+Asks line.NoCommand program graph verdict = verdict ≡ Fails NoCommand
+Asks line.BadWords program graph verdict = verdict ≡ Fails BadWords
+Asks (line.RunOf r) program graph verdict = (judgement : Judgement) × Judged program judgement × (verdict ≡ run_verdict r judgement graph)
+Asks (line.PlanOf l) program graph verdict = verdict ≡ plan_verdict l graph
+
+-- what a line asks over the files of a shelf
+abbrev pub AsksOver : List File → line.Line → Verdict → Type 0
+AsksOver files (line.RunOf r) verdict = Asks (line.RunOf r) (file_named r.program files) (file_named r.graph files) verdict
+AsksOver files (line.PlanOf l) verdict = Asks (line.PlanOf l) None (file_named l.graph files) verdict
+AsksOver files words verdict = Asks words None None verdict

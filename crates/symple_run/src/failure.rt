@@ -6,24 +6,8 @@ ghost use Rattle.symple_run.specs.Notes.{BadByte, BadLine, BadProgram, note_text
 use crate::status::Status;
 use array_text::{put_all, put_pieces};
 use itoa::Buffer;
+use program_reader::{Refusal, Stage};
 use symple_face::{Sink, SinkFault};
-use vert_base::Span;
-
-/// Which reader of programs refused one.
-#[derive(Clone, Copy)]
-pub(crate) enum Stage {
-    Tokens,
-    Grammar,
-    Typing,
-}
-
-/// The code of a refused program, as `L1`, and its place.
-#[derive(Clone, Copy)]
-pub(crate) struct Refusal {
-    pub stage: Stage,
-    pub number: u8,
-    pub span: Span,
-}
 
 /// Why a command didn't end well.
 #[derive(Clone, Copy)]

@@ -1,48 +1,70 @@
-ghost use Rattle.std.specs.Prelude.{◌≡◌, map};
+ghost use Rattle.std.specs.Prelude.{◌≡◌, None, map};
 ghost use Rattle.std.specs.String.{string_bytes};
-ghost use Rattle.symple_run.specs.Lines.{is_name, line_of};
+ghost use Rattle.symple_run.specs.Lines.{asked, is_command, line_of, run_asked};
 ghost use Rattle.symple_run.specs.Reads.{LineReads};
+ghost use Rattle.symple_words.specs.Ranges.{AreMachines, IsGraphForm, IsWithin};
+ghost use Rattle.symple_words.specs.Views.{job_view, line_view};
 
-/// Why the words are no line.
-#[derive(Clone, Copy)]
-pub(crate) enum WordFault {
-    /// No word, or a first word that is no command.
-    Command,
-    /// Words that the command doesn't take.
-    Words,
-}
+use crate::command::{Command, PlanLine, RunLine};
+use std::alloc::Global;
+use symple_words::{Job, Line, WordFault, read_words};
 
-/// The words of `run`: the names of the program's file and of the graph's.
-#[derive(Clone, Copy)]
-pub(crate) struct RunLine<'a> {
-    pub program: &'a str,
-    pub graph: &'a str,
-}
-
-/// Whether a word names a file.
-fn is_name(word: &str) -> bool
-    ensures { result ≡ is_name word.now }
+/// Whether a word is one of the commands.
+fn is_command(word: &str) -> bool
+    ensures { result ≡ is_command word.now }
 {
-    !matches!(word.as_bytes(), [] | [b'-', ..])
+    word == "run" || word == "plan"
 }
 
 /// Reads the words behind the program's own name.
-pub(crate) fn read_line(words: &[String]) -> Result<RunLine<'_>, WordFault>
+pub(crate) fn read_line(alloc: Global, words: &[String]) -> Result<Command, WordFault>
     ensures { LineReads (line_of (map string_bytes words.now)) result }
 {
-    let [command, rest @ ..] = words else {
+    let [command, ..] = words else {
         return Err(WordFault::Command);
     };
-    if command.as_str() != "run" {
+    if !is_command(command) {
         return Err(WordFault::Command);
     }
-    let [program, graph, option, machines] = rest else {
+    match read_words(alloc, words) {
+        Ok(line) => asked(line),
+        Err(fault) => Err(fault),
+    }
+}
+
+/// The line, where it asks for nothing that there isn't.
+fn asked(line: Line) -> Result<Command, WordFault>
+    requires { IsWithin (line_view line) }
+    ensures { LineReads (asked (line_view line)) result }
+{
+    match line {
+        Line::RunLine {
+            job,
+            machines,
+            image: None,
+        } => run_asked(job, machines),
+        Line::RunLine { .. } => Err(WordFault::Words),
+        Line::PlanLine {
+            graph,
+            form,
+            machines,
+        } => Ok(Command::Plan(PlanLine {
+            graph,
+            form,
+            machines,
+        })),
+        _ => Err(WordFault::Command),
+    }
+}
+
+/// The words of `run` without `--image`.
+fn run_asked(job: Job, machines: u8) -> Result<Command, WordFault>
+    requires form { IsGraphForm job.form }
+    requires few { AreMachines machines }
+    ensures { LineReads (run_asked (job_view job) machines None) result }
+{
+    if job.lines.reads || job.lines.log {
         return Err(WordFault::Words);
-    };
-    let (program, graph) = (program.as_str(), graph.as_str());
-    let named = is_name(program) && is_name(graph);
-    if named && option.as_str() == "--machines" && machines.as_str() == "1" {
-        return Ok(RunLine { program, graph });
     }
-    Err(WordFault::Words)
+    Ok(Command::Run(RunLine { job, machines }))
 }

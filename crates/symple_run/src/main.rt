@@ -1,16 +1,23 @@
 //! SympleGraph: runs vertex programs whose neighbour loops stop early.
 #![tactic(auto)]
 
+mod command;
 mod counts;
 mod failure;
 mod files;
 mod line;
 mod outside;
 mod pieces;
+mod plan;
 mod read;
+mod rounds;
 mod status;
 mod streams;
 mod table;
+#[cfg(test)]
+mod test_cases;
+#[cfg(test)]
+mod test_programs;
 #[cfg(test)]
 mod tests;
 mod top;

@@ -1,72 +1,29 @@
 ghost use Rattle.std.specs.Prelude.{◌≡◌, ◌≤◌};
-ghost use Rattle.symple_run.specs.Loads.{GivesGraph, GivesProgram, ReadsProgram, token_fault};
+ghost use Rattle.edge_reader.specs.Gives.{Gives};
+ghost use Rattle.symple_run.specs.Loads.{GivesGraph, GivesProgram};
+ghost use Rattle.symple_run.specs.Verdicts.{graph_of};
+ghost use Rattle.symple_words.specs.Ranges.{IsGraphForm};
 
-use crate::failure::{Failure, Refusal, Stage};
-use edge_reader::{EdgeFault, Edges, read_text};
-use first_form::{FormFault, read_form};
+use crate::failure::Failure;
+use edge_reader::{EdgeFault, Edges, read_pairs, read_text};
+use program_reader::{ProgramFault, Refusal, Stage, read_program};
 use std::alloc::Global;
 use symple_face::{LoadFault, Shelf};
+use symple_words::GraphForm;
 use vert_base::Span;
 use vert_base::limits::{GRAPH_BYTES, PROGRAM_BYTES};
-use vert_lex::{LexFault, lex};
 use vert_tree::Typed;
-
-/// The first place of a text.
-const ORIGIN: Span = Span {
-    at: 0,
-    line: 1,
-    column: 1,
-};
 
 /// What is said of a text that is too long.
 const TOO_LONG: Refusal = Refusal {
     stage: Stage::Tokens,
     number: 3,
-    span: ORIGIN,
+    span: Span {
+        at: 0,
+        line: 1,
+        column: 1,
+    },
 };
-
-/// Why a text gives no program.
-#[derive(Clone, Copy)]
-enum ProgramFault {
-    Refused(Refusal),
-    Want,
-}
-
-fn refused(stage: Stage, number: u8, span: Span) -> ProgramFault
-    ensures { result ≡ ProgramFault.Refused (record { stage = stage; number = number; span = span }) }
-{
-    ProgramFault::Refused(Refusal {
-        stage,
-        number,
-        span,
-    })
-}
-
-fn token_fault(fault: LexFault) -> ProgramFault
-    ensures { result ≡ token_fault fault }
-{
-    match fault {
-        LexFault::BadByte(span) => refused(Stage::Tokens, 1, span),
-        LexFault::BadNumber(span) => refused(Stage::Tokens, 2, span),
-        LexFault::TooLong => ProgramFault::Refused(TOO_LONG),
-        LexFault::Want => ProgramFault::Want,
-    }
-}
-
-/// Reads the text of a program.
-fn read_program(alloc: Global, text: &[u8]) -> Result<Typed, ProgramFault>
-    ensures { ReadsProgram text.now result }
-{
-    let tokens = match lex(alloc, text) {
-        Ok(tokens) => tokens,
-        Err(fault) => return Err(token_fault(fault)),
-    };
-    match read_form(alloc, &tokens) {
-        Ok(typed) => Ok(typed),
-        Err(FormFault::OtherForm) => Err(refused(Stage::Grammar, 1, ORIGIN)),
-        Err(FormFault::Want) => Err(ProgramFault::Want),
-    }
-}
 
 /// Loads and reads the program of that name.
 pub(crate) fn load_program<'a, H: Shelf>(
@@ -93,13 +50,27 @@ pub(crate) fn load_program<'a, H: Shelf>(
     }
 }
 
+/// Reads the bytes of a graph.
+fn read_graph(alloc: Global, form: &GraphForm, bytes: &[u8]) -> Result<Edges, EdgeFault>
+    requires { IsGraphForm form.now }
+    ensures { Gives (graph_of form.now bytes.now) result }
+{
+    if form.binary {
+        read_pairs(alloc, bytes, form.weighted, form.both)
+    } else {
+        read_text(alloc, bytes, form.vertices, form.both)
+    }
+}
+
 /// Loads and reads the graph of that name.
 pub(crate) fn load_graph<'a, H: Shelf>(
     alloc: Global,
     shelf: &mut H,
+    form: &GraphForm,
     name: &'a str,
 ) -> Result<Edges, Failure<'a>>
-    ensures graph { GivesGraph (H.files shelf.old) (H.loads shelf.old) (H.loads shelf.new) name.now result }
+    requires { IsGraphForm form.now }
+    ensures graph { GivesGraph (H.files shelf.old) (H.loads shelf.old) (H.loads shelf.new) form.now name.now result }
     ensures files { H.files shelf.new ≡ H.files shelf.old }
     ensures stores { H.stores shelf.new ≡ H.stores shelf.old }
     ensures later { H.loads shelf.old ≤ H.loads shelf.new }
@@ -116,7 +87,7 @@ pub(crate) fn load_graph<'a, H: Shelf>(
         Err(LoadFault::Failed) => return Err(Failure::Load(name)),
         Err(LoadFault::Missing) => return Err(Failure::Load(name)),
     };
-    match read_text(alloc, &bytes, None, false) {
+    match read_graph(alloc, form, &bytes) {
         Ok(edges) => Ok(edges),
         Err(EdgeFault::Line { code, line }) => Err(Failure::GraphLine { code, line }),
         Err(EdgeFault::Byte { code, at }) => Err(Failure::GraphByte { code, at }),

@@ -1,176 +1,71 @@
 use crate::status::Status;
+use crate::test_cases::{CASES, Case};
+use crate::test_programs::BFS;
 use crate::top::symple;
 use std::alloc::{AllocError, Global};
 use std::process::Abort;
 use std::test::Fail;
 use symple_face::{DripSink, FirmShelf, FirmSink, MemShelf, MemSink, MemSource, Shelf, Sink};
 
-const SUM: &str =
-    "vertex 1; mode dense; limit 1;\nfield mass: int = 0;\nslot acc: sum;\nstart true;\ndense when true {\n  let s: int = 0;\n  for u { s += w; }\n  emit acc s;\n}\nupdate { mass = acc.value; }\n";
+static DIAMOND: &[u8] = b"0 1\n0 2\n1 3\n2 3\n";
 
-const COUNTED: &str =
-    "vertex 1; mode dense; limit 1; field seen: int = id; slot acc: sum; start true; dense when true { let s: int = 1; for u { s += u.seen; } emit acc s; } update { seen += acc.value; }";
+static UNITS: &[u8] =
+    b"\x00\x00\x00\x00\x01\x00\x00\x00\x00\x00\x00\x00\x02\x00\x00\x00\x01\x00\x00\x00\x03\x00\x00\x00\x02\x00\x00\x00\x03\x00\x00\x00";
 
-const BFS: &str =
-    "vertex 1;\nmode auto;\nlimit 100;\nfield dist: int = id == 0 ? 0 : -1;\nfield parent: int = -1;\nslot claim: first;\nstart id == 0;\ndense when dist < 0 {\n  for u {\n    if u.active { emit claim u.id; break; }\n  }\n}\nsparse when true {\n  send from: int = id;\n  if dist < 0 { emit claim from; }\n}\nupdate {\n  if claim.got { dist = round; parent = claim.value; active = true; }\n}\n";
+static RUN: &str = "run p g --machines 1 --rounds";
 
-const DIAMOND: &str = "0 1\n0 2\n1 3\n2 3\n";
+static RUN_UNITS: &str = "run p g --machines 1 --binary";
 
-const RUN: &[&str] = &["run", "sum", "g1", "--machines", "1"];
+static PRINTED: &str =
+    "round 1 dense 1 2 4\nround 2 dense 2 2 1\nround 3 sparse 1 0 0\nvertex dist parent\n0 0 -1\n1 1 0\n2 1 0\n3 2 1\n";
 
-const TABLE: &str = "vertex mass\n0 0\n1 1\n2 1\n3 2\n";
+static THE_PROGRAM: &str = BFS;
 
-/// The texts of the tests that change the shelf and the sinks.
-static THE_WORDS: &[&str] = RUN;
-
-static THE_PROGRAM: &str = SUM;
-
-static THE_GRAPH: &str = DIAMOND;
-
-static THE_TABLE: &str = TABLE;
-
-static NO_COMMAND: &[&str] = &["fly"];
+static NO_COMMAND: &str = "fly";
 
 static NO_WRITE: &str = "symple: cannot write\n";
 
-/// Words over a program and a graph, with the status, what is printed and the note.
-struct Case {
-    words: &'static [&'static str],
-    program: &'static str,
-    graph: &'static str,
-    status: Status,
-    out: &'static str,
-    note: &'static str,
-}
-
-static CASES: &[Case] = &[
-    Case {
-        words: RUN,
-        program: SUM,
-        graph: DIAMOND,
-        status: Status::Done,
-        out: TABLE,
-        note: "",
-    },
-    Case {
-        words: RUN,
-        program: SUM,
-        graph: "",
-        status: Status::Done,
-        out: "vertex mass\n",
-        note: "",
-    },
-    Case {
-        words: RUN,
-        program: COUNTED,
-        graph: "# seen\r\n2 1 4\n0 1 9\n0 1 5",
-        status: Status::Done,
-        out: "vertex seen\n0 1\n1 4\n2 3\n",
-        note: "",
-    },
-    Case {
-        words: RUN,
-        program: BFS,
-        graph: DIAMOND,
-        status: Status::BadProgram,
-        out: "",
-        note: "symple: program: P1 at 1:1\n",
-    },
-    Case {
-        words: RUN,
-        program: "vertex 1;\nmode @",
-        graph: DIAMOND,
-        status: Status::BadProgram,
-        out: "",
-        note: "symple: program: L1 at 2:6\n",
-    },
-    Case {
-        words: RUN,
-        program: SUM,
-        graph: "0 1\n0 2\n1 3\n3 x\n",
-        status: Status::BadGraph,
-        out: "",
-        note: "symple: graph: E1 at line 4\n",
-    },
-    Case {
-        words: &["run", "sum", "g2", "--machines", "1"],
-        program: SUM,
-        graph: DIAMOND,
-        status: Status::ReadFault,
-        out: "",
-        note: "symple: cannot read g2\n",
-    },
-    Case {
-        words: &["fly"],
-        program: SUM,
-        graph: DIAMOND,
-        status: Status::Usage,
-        out: "",
-        note: "symple: unknown command\n",
-    },
-    Case {
-        words: &[],
-        program: SUM,
-        graph: DIAMOND,
-        status: Status::Usage,
-        out: "",
-        note: "symple: unknown command\n",
-    },
-    Case {
-        words: &["run", "sum", "g1"],
-        program: SUM,
-        graph: DIAMOND,
-        status: Status::Usage,
-        out: "",
-        note: "symple: bad arguments\n",
-    },
-    Case {
-        words: &["run", "sum", "-g1", "--machines", "1"],
-        program: SUM,
-        graph: DIAMOND,
-        status: Status::Usage,
-        out: "",
-        note: "symple: bad arguments\n",
-    },
-];
-
-fn words(alloc: Global, texts: &[&str]) -> Result<Vec<String>, AllocError> {
+/// The words of a line, which single spaces part.
+fn words(alloc: Global, line: &str) -> Result<Vec<String>, AllocError> {
     let mut words = Vec::new(alloc);
-    for text in texts {
-        words.push(String::from_str(alloc, text)?)?;
+    if line.is_empty() {
+        return Ok(words);
+    }
+    for word in line.split(' ') {
+        words.push(String::from_str(alloc, word)?)?;
     }
     Ok(words)
 }
 
-/// The program under the name `sum`.
+/// The program under the name `p`.
 fn program(alloc: Global, text: &str) -> Result<(String, Vec<u8>), AllocError> {
     Ok((
-        String::from_str(alloc, "sum")?,
+        String::from_str(alloc, "p")?,
         Vec::from_slice(alloc, text.as_bytes())?,
     ))
 }
 
 fn performed<H: Shelf, O: Sink, N: Sink>(
     alloc: Global,
-    texts: &[&str],
+    line: &str,
     shelf: &mut H,
     out: &mut O,
     notes: &mut N,
 ) -> Result<Status, AllocError> {
-    let words = words(alloc, texts)?;
+    let words = words(alloc, line)?;
     let mut input = MemSource::new(Vec::new(alloc), Vec::new(alloc));
     Ok(symple(alloc, &words, shelf, &mut input, out, notes))
 }
 
 fn check(rt: &impl Abort, alloc: Global, case: &Case) -> Result<(), Fail> {
     let mut shelf = FirmShelf::new(alloc, vec![in alloc; program(alloc, case.program)?]?);
-    assert_eq!(rt; shelf.store("g1", case.graph.as_bytes()), Ok(()));
+    assert_eq!(rt; shelf.store("g", case.graph), Ok(()));
     let mut out = FirmSink::new(alloc, 1000)?;
     let mut notes = FirmSink::new(alloc, 1000)?;
     let status = performed(alloc, case.words, &mut shelf, &mut out, &mut notes)?;
+    assert_eq!(rt; notes.bytes(), case.note.as_bytes());
     assert_eq!(rt; status, case.status);
     assert_eq!(rt; out.bytes(), case.out.as_bytes());
-    assert_eq!(rt; notes.bytes(), case.note.as_bytes());
     Ok(())
 }
 
@@ -182,24 +77,60 @@ fn commands(rt: HostRuntime) -> Result<(), Fail> {
     Ok(())
 }
 
+/// The status over the first bytes of a graph.
+fn cut(alloc: Global, line: &str, graph: &[u8], text: &str) -> Result<Status, Fail> {
+    let mut shelf = FirmShelf::new(alloc, vec![in alloc; program(alloc, text)?]?);
+    let Ok(()) = shelf.store("g", graph) else {
+        return Ok(Status::Memory);
+    };
+    let mut out = FirmSink::new(alloc, 1000)?;
+    let mut notes = FirmSink::new(alloc, 1000)?;
+    Ok(performed(alloc, line, &mut shelf, &mut out, &mut notes)?)
+}
+
+/// A text is cut within a number where a line has one number alone, or no second one.
+#[test]
+fn graphs_cut_short(rt: HostRuntime) -> Result<(), Fail> {
+    for size in 0..17 {
+        let status = cut(rt.alloc(), RUN, &DIAMOND[..size], THE_PROGRAM)?;
+        let whole = size % 4 == 0 || size % 4 == 3;
+        let expected = if whole {
+            Status::Done
+        } else {
+            Status::BadGraph
+        };
+        assert_eq!(&rt; status, expected);
+    }
+    for size in 0..33 {
+        let status = cut(rt.alloc(), RUN_UNITS, &UNITS[..size], THE_PROGRAM)?;
+        let expected = if size % 8 == 0 {
+            Status::Done
+        } else {
+            Status::BadGraph
+        };
+        assert_eq!(&rt; status, expected);
+    }
+    Ok(())
+}
+
 /// A shelf whose call 1 stores the graph, and that fails at these calls.
 fn counting(rt: &impl Abort, alloc: Global, fails: Vec<u64>) -> Result<MemShelf, Fail> {
     let mut shelf = MemShelf::new(alloc, vec![in alloc; program(alloc, THE_PROGRAM)?]?, fails);
-    assert_eq!(rt; shelf.store("g1", THE_GRAPH.as_bytes()), Ok(()));
+    assert_eq!(rt; shelf.store("g", DIAMOND), Ok(()));
     Ok(shelf)
 }
 
 /// The call that fails, and the note.
 static LOADS: &[(u64, &str)] = &[
-    (2, "symple: cannot read sum\n"),
-    (3, "symple: cannot read g1\n"),
+    (2, "symple: cannot read p\n"),
+    (3, "symple: cannot read g\n"),
 ];
 
 fn fails_at(rt: &impl Abort, alloc: Global, call: u64, note: &str) -> Result<(), Fail> {
     let mut shelf = counting(rt, alloc, vec![in alloc; call]?)?;
     let mut out = FirmSink::new(alloc, 1000)?;
     let mut notes = FirmSink::new(alloc, 1000)?;
-    let status = performed(alloc, THE_WORDS, &mut shelf, &mut out, &mut notes)?;
+    let status = performed(alloc, RUN, &mut shelf, &mut out, &mut notes)?;
     assert_eq!(rt; status, Status::ReadFault);
     assert_eq!(rt; out.bytes().len(), 0);
     assert_eq!(rt; notes.bytes(), note.as_bytes());
@@ -214,16 +145,25 @@ fn loads_that_fail(rt: HostRuntime) -> Result<(), Fail> {
     Ok(())
 }
 
+/// Whether the bytes are a first part of what a run prints.
+fn is_first_part(bytes: &[u8]) -> bool {
+    PRINTED.as_bytes().starts_with(bytes)
+}
+
+/// A sink that fails at each of its first puts in turn leaves a first part.
 #[test]
 fn a_sink_that_fails(rt: HostRuntime) -> Result<(), Fail> {
     let alloc = rt.alloc();
-    let mut shelf = counting(&rt, alloc, Vec::new(alloc))?;
-    let mut out = MemSink::new(alloc, 1000, vec![in alloc; 1]?)?;
-    let mut notes = FirmSink::new(alloc, 1000)?;
-    let status = performed(alloc, THE_WORDS, &mut shelf, &mut out, &mut notes)?;
-    assert_eq!(rt; status, Status::WriteFault);
-    assert_eq!(rt; out.bytes().len(), 0);
-    assert_eq!(rt; notes.bytes(), NO_WRITE.as_bytes());
+    for put in 1..30 {
+        let mut shelf = counting(&rt, alloc, Vec::new(alloc))?;
+        let mut out = MemSink::new(alloc, 1000, vec![in alloc; put]?)?;
+        let mut notes = FirmSink::new(alloc, 1000)?;
+        let status = performed(alloc, RUN, &mut shelf, &mut out, &mut notes)?;
+        assert_eq!(&rt; status, Status::WriteFault);
+        assert!(&rt; is_first_part(out.bytes()));
+        assert!(&rt; out.bytes().len() < PRINTED.len());
+        assert_eq!(&rt; notes.bytes(), NO_WRITE.as_bytes());
+    }
     Ok(())
 }
 
@@ -233,9 +173,9 @@ fn a_sink_that_drips(rt: HostRuntime) -> Result<(), Fail> {
     let mut shelf = counting(&rt, alloc, Vec::new(alloc))?;
     let mut out = DripSink::new(alloc, 1000)?;
     let mut notes = FirmSink::new(alloc, 1000)?;
-    let status = performed(alloc, THE_WORDS, &mut shelf, &mut out, &mut notes)?;
+    let status = performed(alloc, RUN, &mut shelf, &mut out, &mut notes)?;
     assert_eq!(rt; status, Status::Done);
-    assert_eq!(rt; out.bytes(), THE_TABLE.as_bytes());
+    assert_eq!(rt; out.bytes(), PRINTED.as_bytes());
     Ok(())
 }
 

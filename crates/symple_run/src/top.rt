@@ -1,87 +1,153 @@
-ghost use Rattle.std.specs.Prelude.{◌≡◌, ◌≤◌, ◌⊎◌, ℕ, List, map, Some, None};
+ghost use Rattle.std.specs.Prelude.{◌≡◌, ◌≤◌, ◌⊎◌, ℕ, List, Result, map, Some, None};
 ghost use Rattle.std.specs.String.{string_bytes};
-ghost use Rattle.edge_reader.specs.EdgeList.{Graph};
 ghost use Rattle.edge_reader.specs.Gives.{graph_of_edges};
 ghost use Rattle.symple_face.specs.Causes.{Rose};
 ghost use Rattle.symple_face.specs.Files.{File};
-ghost use Rattle.symple_run.specs.Answers.{Answers, output_text, verdict_over};
-ghost use Rattle.symple_run.specs.Endings.{EndsBy, Plays};
-ghost use Rattle.symple_run.specs.Lines.{RunOf, line_of};
+ghost use Rattle.symple_run.specs.Answers.{Answers};
+ghost use Rattle.symple_run.specs.Endings.{CutsInto, EndsBy, Plays};
+ghost use Rattle.symple_run.specs.Lines.{Line, PlanOf, RunOf, line_of};
 ghost use Rattle.symple_run.specs.Notes.{Fault, status_of};
-ghost use Rattle.symple_run.specs.Verdicts.{Fails, Runs};
+ghost use Rattle.symple_run.specs.Outputs.{plan_text, run_text};
+ghost use Rattle.symple_run.specs.Reads.{LineReads, plan_view, run_view};
+ghost use Rattle.symple_run.specs.Verdicts.{AsksOver, Fails, Puts};
+ghost use Rattle.symple_words.specs.Ranges.{AreMachines};
 
+use crate::command::{Command, PlanLine, RunLine};
 use crate::failure::{Failure, write_note};
-use crate::line::{RunLine, WordFault, read_line};
+use crate::line::read_line;
+use crate::plan::write_plan;
 use crate::read::{load_graph, load_program};
 use crate::status::Status;
-use crate::table::write_table;
+use crate::table::write_run;
+use chunk_split::{Cuts, cuts_of};
 use edge_reader::Edges;
+use graph_table::Table;
 use plain_run::run_plainly;
 use std::alloc::Global;
 use symple_face::{Shelf, Sink, Source};
+use symple_words::WordFault;
+use vert_base::limits::MACHINES;
 use vert_tree::Typed;
 
-/// Runs the program on the graph and puts the table.
+/// The chunks of a graph for so many machines.
+fn chunks(alloc: Global, edges: &Edges, machines: u8) -> Result<Cuts<MACHINES>, Failure<'static>>
+    requires { AreMachines machines }
+    ensures { CutsInto machines (graph_of_edges edges.now) result }
+{
+    match Table::build(alloc, edges) {
+        Ok(table) => Ok(cuts_of(&table, machines)),
+        Err(_) => Err(Failure::Memory),
+    }
+}
+
+/// Runs the program on the graph and puts what is asked of the run.
 fn run<'a, H: Shelf, O: Sink>(
     alloc: Global,
-    line: RunLine<'a>,
+    line: &'a RunLine,
     shelf: &mut H,
     out: &mut O,
 ) -> Result<(), Failure<'a>>
-    ensures ends { EndsBy (H.files shelf.old) (RunOf line.entry.program.now line.entry.graph.now) (H.loads shelf.old) (H.loads shelf.new)
+    ensures ends { EndsBy (H.files shelf.old) (RunOf (run_view line.now)) (H.loads shelf.old) (H.loads shelf.new)
         (record { held = O.held out.old; held_after = O.held out.new; faults = O.faults out.old; faults_after = O.faults out.new }) result }
     ensures files { H.files shelf.new ≡ H.files shelf.old }
     ensures stores { H.stores shelf.new ≡ H.stores shelf.old }
     ensures loads { H.loads shelf.old ≤ H.loads shelf.new }
 {
-    let typed = match load_program(alloc, shelf, line.program) {
+    let typed = match load_program(alloc, shelf, &line.job.program) {
         Ok(typed) => typed,
         Err(failure) => return Err(failure),
     };
-    let edges = match load_graph(alloc, shelf, line.graph) {
+    let edges = match load_graph(alloc, shelf, &line.job.form, &line.job.graph) {
         Ok(edges) => edges,
         Err(failure) => return Err(failure),
     };
-    play(alloc, &typed, &edges, out)
+    play(alloc, line, &typed, &edges, out)
 }
 
-/// Plays the program on the graph by one machine and puts the table.
+/// Plays the program on the graph, cut into chunks, and puts what is asked of the run.
 fn play<O: Sink>(
     alloc: Global,
+    line: &RunLine,
     typed: &Typed,
     edges: &Edges,
     out: &mut O,
 ) -> Result<(), Failure<'static>>
-    ensures { Plays (output_text typed.now.program (graph_of_edges edges.now))
+    ensures { Plays (run_text (run_view line.now) typed.now.program (graph_of_edges edges.now))
         (record { held = O.held out.old; held_after = O.held out.new; faults = O.faults out.old; faults_after = O.faults out.new }) result }
 {
-    let ends = [edges.vertices];
-    let Ok(played) = run_plainly(alloc, typed, edges.vertices, &edges.list, &ends, 0) else {
+    let cuts = match chunks(alloc, edges, line.machines) {
+        Ok(cuts) => cuts,
+        Err(failure) => return Err(failure),
+    };
+    let (vertices, draws) = (edges.vertices, line.job.draws);
+    let Ok(played) = run_plainly(alloc, typed, vertices, &edges.list, cuts.ends(), draws) else {
         return Err(Failure::Memory);
     };
-    match write_table(typed, &played.rows, out) {
+    match write_run(typed, &played, line.job.lines.rounds, out) {
         Ok(()) => Ok(()),
         Err(_) => Err(Failure::Write),
     }
 }
 
-/// Performs the line that the words are.
-fn perform<'a, H: Shelf, O: Sink>(
+/// Puts how the graph is cut and who works on which chunk in each step.
+fn plan<'a, H: Shelf, O: Sink>(
     alloc: Global,
-    words: &'a [String],
+    line: &'a PlanLine,
     shelf: &mut H,
     out: &mut O,
 ) -> Result<(), Failure<'a>>
-    ensures ends { EndsBy (H.files shelf.old) (line_of (map string_bytes words.now)) (H.loads shelf.old) (H.loads shelf.new)
+    ensures ends { EndsBy (H.files shelf.old) (PlanOf (plan_view line.now)) (H.loads shelf.old) (H.loads shelf.new)
         (record { held = O.held out.old; held_after = O.held out.new; faults = O.faults out.old; faults_after = O.faults out.new }) result }
     ensures files { H.files shelf.new ≡ H.files shelf.old }
     ensures stores { H.stores shelf.new ≡ H.stores shelf.old }
     ensures loads { H.loads shelf.old ≤ H.loads shelf.new }
 {
-    match read_line(words) {
-        Ok(line) => run(alloc, line, shelf, out),
+    let edges = match load_graph(alloc, shelf, &line.form, &line.graph) {
+        Ok(edges) => edges,
+        Err(failure) => return Err(failure),
+    };
+    lay_out(alloc, line, &edges, out)
+}
+
+/// Puts the plan of a graph.
+fn lay_out<O: Sink>(
+    alloc: Global,
+    line: &PlanLine,
+    edges: &Edges,
+    out: &mut O,
+) -> Result<(), Failure<'static>>
+    ensures { Plays (plan_text line.now.machines (graph_of_edges edges.now))
+        (record { held = O.held out.old; held_after = O.held out.new; faults = O.faults out.old; faults_after = O.faults out.new }) result }
+{
+    let cuts = match chunks(alloc, edges, line.machines) {
+        Ok(cuts) => cuts,
+        Err(failure) => return Err(failure),
+    };
+    match write_plan(&cuts, out) {
+        Ok(()) => Ok(()),
+        Err(_) => Err(Failure::Write),
+    }
+}
+
+/// Performs a line, where the words are one.
+fn perform<'a, H: Shelf, O: Sink>(
+    alloc: Global,
+    line: &'a Result<Command, WordFault>,
+    shelf: &mut H,
+    out: &mut O,
+) -> Result<(), Failure<'a>>
+    ensures ends { (words : Line) → LineReads words line.now → EndsBy (H.files shelf.old) words (H.loads shelf.old) (H.loads shelf.new)
+        (record { held = O.held out.old; held_after = O.held out.new; faults = O.faults out.old; faults_after = O.faults out.new }) result }
+    ensures files { H.files shelf.new ≡ H.files shelf.old }
+    ensures stores { H.stores shelf.new ≡ H.stores shelf.old }
+    ensures loads { H.loads shelf.old ≤ H.loads shelf.new }
+{
+    match line {
+        Ok(Command::Run(line)) => run(alloc, line, shelf, out),
+        Ok(Command::Plan(line)) => plan(alloc, line, shelf, out),
         Err(WordFault::Command) => Err(Failure::Command),
         Err(WordFault::Words) => Err(Failure::Words),
+        Err(WordFault::Want) => Err(Failure::Memory),
     }
 }
 
@@ -104,10 +170,10 @@ pub fn symple<H: Shelf, I: Source, O: Sink, N: Sink>(
 
     // What is refused is refused, and what isn't is printed, but for want of memory and counts that rose.
     ensures refused { (files : List File) → (fault : Fault) → H.files shelf.old ≡ Some files
-        → verdict_over files (line_of (map string_bytes words.now)) ≡ Fails fault
+        → AsksOver files (line_of (map string_bytes words.now)) (Fails fault)
         → ¬ (Rose (H.loads shelf.old) (H.loads shelf.new)) → (result ≡ status_of fault) ⊎ (result ≡ Status.Memory) }
-    ensures complete { (files : List File) → (text : List ℕ) → (graph : Graph) → H.files shelf.old ≡ Some files
-        → verdict_over files (line_of (map string_bytes words.now)) ≡ Runs text graph
+    ensures complete { (files : List File) → (text : List ℕ) → H.files shelf.old ≡ Some files
+        → AsksOver files (line_of (map string_bytes words.now)) (Puts text)
         → ¬ (Rose (H.loads shelf.old) (H.loads shelf.new)) → ¬ (Rose (O.faults out.old) (O.faults out.new))
         → (result ≡ Status.Done) ⊎ (result ≡ Status.Memory) }
 
@@ -116,7 +182,8 @@ pub fn symple<H: Shelf, I: Source, O: Sink, N: Sink>(
     ensures loads { H.loads shelf.old ≤ H.loads shelf.new }
     ensures input { input.new ≡ input.old }
 {
-    match perform(alloc, words, shelf, out) {
+    let line = read_line(alloc, words);
+    match perform(alloc, &line, shelf, out) {
         Ok(()) => Status::Done,
         Err(failure) => {
             let _ = write_note(&failure, notes);

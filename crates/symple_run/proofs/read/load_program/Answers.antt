@@ -1,7 +1,7 @@
 use Rattle.std.proofs.Common.{◌≡◌, List, ℕ, Some, subst, Ok, Err, ap, ◌∙◌}
-use Rattle.symple_run.specs.declared.read.ProgramFault.{ProgramFault}
-use Rattle.symple_run.specs.declared.read.ProgramFault.TheVariants.{Refused}
-use Rattle.symple_run.specs.Loads.{ReadsProgram}
+use Rattle.program_reader.specs.declared.refusal.ProgramFault.{ProgramFault}
+use Rattle.program_reader.specs.declared.refusal.ProgramFault.TheVariants.{Refused}
+use Rattle.program_reader.specs.Answers.{ReadsProgram}
 use Rattle.symple_run.proofs.LoadLaws.{bytes_under, lacks, long_under, program_failed, program_long, program_missing, program_want}
 use Rattle.symple_run.proofs.read.load_program.Goals as goal
 

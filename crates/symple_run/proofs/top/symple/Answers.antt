@@ -1,13 +1,26 @@
-use Rattle.std.proofs.Common.{Some, refl}
+use Rattle.std.proofs.Common.{None, Some, refl}
 use Rattle.symple_run.specs.Faults.{fault_of}
 use Rattle.symple_run.specs.Notes.{note_text}
 use Rattle.symple_run.proofs.AnswerLaws.{completed_by, refused_by}
 use Rattle.symple_run.proofs.EndLaws.{noted_by}
 use Rattle.symple_run.proofs.top.symple.Goals as goal
 
-pub returns-in-Err-clause-answer : goal.returns-in-Err-clause-answer
-returns-in-Err-clause-answer g c =
-    let e = c.in-Err.ensures.ends in
+pub returns-in-Ok-clause-answer : goal.returns-in-Ok-clause-answer
+returns-in-Ok-clause-answer g c =
+    let e = c.in-Ok.ensures.ends _ c.read_line-line.ensures in
+    record {
+      program = e.program;
+      graph = e.graph;
+      fault = None;
+      under = e.under;
+      ends = e.ends;
+      status_is = refl;
+      noted = refl;
+    }
+
+pub returns-clause-answer : goal.returns-clause-answer
+returns-clause-answer g c =
+    let e = c.in-Err.ensures.ends _ c.read_line-line.ensures in
     record {
       program = e.program;
       graph = e.graph;
@@ -19,10 +32,10 @@ returns-in-Err-clause-answer g c =
     }
 
 pub returns-in-Ok-clause-refused : goal.returns-in-Ok-clause-refused
-returns-in-Ok-clause-refused g c = refused_by _ _ _ _ _ _ c.in-Ok.ensures.ends _ refl
+returns-in-Ok-clause-refused g c = refused_by _ _ _ _ _ _ (c.in-Ok.ensures.ends _ c.read_line-line.ensures) _ refl
 
-pub returns-in-Err-clause-refused : goal.returns-in-Err-clause-refused
-returns-in-Err-clause-refused g c = refused_by _ _ _ _ _ _ c.in-Err.ensures.ends _ c.status.ensures
+pub returns-clause-refused : goal.returns-clause-refused
+returns-clause-refused g c = refused_by _ _ _ _ _ _ (c.in-Err.ensures.ends _ c.read_line-line.ensures) _ c.status.ensures
 
-pub returns-in-Err-clause-complete : goal.returns-in-Err-clause-complete
-returns-in-Err-clause-complete g c = completed_by _ _ _ _ _ _ c.in-Err.ensures.ends _ c.status.ensures
+pub returns-clause-complete : goal.returns-clause-complete
+returns-clause-complete g c = completed_by _ _ _ _ _ _ (c.in-Err.ensures.ends _ c.read_line-line.ensures) _ c.status.ensures

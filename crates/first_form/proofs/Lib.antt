@@ -1,3 +1,0 @@
-pub mod SmallTokens
-pub mod StripLaws
-pub mod TypedTrees

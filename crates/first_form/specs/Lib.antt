@@ -1,4 +1,0 @@
-pub mod FirstForm
-pub mod Spelling
-pub mod Trees
-pub mod Views

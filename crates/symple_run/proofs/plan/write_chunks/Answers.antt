@@ -1,0 +1,27 @@
+use Rattle.std.proofs.Common.{◌<◌, ◌∙◌, ℕ, length, Err, refl, ap, arith, get_or}
+use Rattle.std.specs.List.{range_with_len}
+use Rattle.chunk_split.specs.Chunks.{start_of}
+use Rattle.symple_run.specs.Outputs.{chunk_line, chunk_text}
+use Rattle.symple_run.proofs.TextLaws.{all_numbers, all_put, below_numbers, number_at, one_failed, one_more}
+use Rattle.symple_run.proofs.plan.write_chunks.Goals as goal
+
+pub returns-in-Err : goal.returns-in-Err
+returns-in-Err g c =
+    let ends = c.args.cuts.now in
+    let below : c.chunks.chunk < length ends = omega (arith, c.count-chunk-end.ensures.value) in
+    one_failed (chunk_line ends) (range_with_len 0 (length ends)) c.chunks.chunk 0 (below_numbers (length ends) c.chunks.chunk below)
+    (ap (λ (s : ℕ). chunk_text c.chunks.chunk s c.end.result) c.start.ensures ∙ ap (chunk_text c.chunks.chunk (start_of ends c.chunks.chunk)) c.end.ensures.value
+    ∙ ap (chunk_line ends) (number_at (length ends) c.chunks.chunk below)) c.chunks.invariant (Err c.in-Err.fault) refl c.in-Err.ensures
+
+pub chunks-preserved : goal.chunks-preserved
+chunks-preserved g c =
+    let ends = c.args.cuts.now in
+    let below : c.chunks.chunk < length ends = omega (arith, c.count-chunk-end.ensures.value) in
+    one_more (chunk_line ends) (range_with_len 0 (length ends)) c.chunks.chunk 0 (below_numbers (length ends) c.chunks.chunk below)
+    (ap (λ (s : ℕ). chunk_text c.chunks.chunk s c.end.result) c.start.ensures ∙ ap (chunk_text c.chunks.chunk (start_of ends c.chunks.chunk)) c.end.ensures.value
+    ∙ ap (chunk_line ends) (number_at (length ends) c.chunks.chunk below)) c.chunks.invariant c.in-Ok.ensures
+
+pub returns : goal.returns
+returns g c =
+    let ends = c.args.cuts.now in
+    all_put (chunk_line ends) (range_with_len 0 (length ends)) c.chunks.chunk (all_numbers (length ends) c.chunks.chunk (omega (arith, c.count-chunk-end.ensures.value))) c.chunks.invariant

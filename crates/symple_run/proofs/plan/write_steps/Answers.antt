@@ -1,0 +1,23 @@
+use Rattle.std.proofs.Common.{◌<◌, Err, refl, ap, arith, get_or}
+use Rattle.std.specs.List.{range_with_len}
+use Rattle.symple_run.specs.Outputs.{machines_text}
+use Rattle.symple_run.proofs.TextLaws.{all_numbers, all_put, below_numbers, number_at, one_failed, one_more}
+use Rattle.symple_run.proofs.plan.write_steps.Goals as goal
+
+pub returns-in-Err : goal.returns-in-Err
+returns-in-Err g c =
+    let n = c.args.machines in
+    let i = c.steps.step in
+    let below : i < n = omega arith in
+    one_failed (machines_text c.args.machines) (range_with_len 0 n) i 0 (below_numbers n i below) (ap (machines_text c.args.machines) (number_at n i below)) c.steps.invariant (Err c.in-Err.fault) refl c.in-Err.ensures
+
+pub steps-preserved : goal.steps-preserved
+steps-preserved g c =
+    let n = c.args.machines in
+    let i = c.steps.step in
+    let below : i < n = omega arith in
+    one_more (machines_text c.args.machines) (range_with_len 0 n) i 0 (below_numbers n i below) (ap (machines_text c.args.machines) (number_at n i below)) c.steps.invariant c.in-Ok.ensures
+
+pub returns : goal.returns
+returns g c =
+    all_put (machines_text c.args.machines) (range_with_len 0 c.args.machines) c.steps.step (all_numbers c.args.machines c.steps.step (omega arith)) c.steps.invariant
