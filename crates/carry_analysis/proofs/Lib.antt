@@ -1,0 +1,4 @@
+pub mod SightLaws
+pub mod Rules
+pub mod MarkLaws
+pub mod ClassLaws
