@@ -1,0 +1,6 @@
+pub mod ActLaws
+pub mod EmitLaws
+pub mod MarkLaws
+pub mod SplitLaws
+pub mod TypedLaws
+pub mod WordLaws

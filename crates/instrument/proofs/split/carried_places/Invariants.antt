@@ -1,0 +1,11 @@
+use Rattle.std.proofs.Common.{◌≡◌, ◌≤◌, ◌++◌, drop, length}
+use Rattle.instrument.specs.Loops.{places_where}
+use Rattle.carry_analysis.specs.Classes.{is_carried}
+use Rattle.instrument.proofs.split.carried_places.Given as goal
+
+-- the places so far and those of what is left are those of all
+abbrev pub invariant-loop-i : goal.invariant-loop-i
+invariant-loop-i l = record {
+  all : l.places.items ++ places_where is_carried l.i (drop l.i l.class-items) ≡ places_where is_carried 0 l.class-items;
+  few : length l.places.items ≤ l.i;
+}

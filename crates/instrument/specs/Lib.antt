@@ -1,0 +1,4 @@
+pub mod Continued
+pub mod Loops
+pub mod Segments
+pub mod Shown
