@@ -1,0 +1,15 @@
+mod Values
+mod Uses
+mod Blind
+mod TypedParts
+mod Statements
+mod Keeps
+mod Counted
+mod ClassLaws
+mod FormLaws
+mod Fits
+mod Changes
+mod Reduces
+mod NoFirst
+mod FreeLaws
+mod Apart

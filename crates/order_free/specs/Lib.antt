@@ -1,0 +1,4 @@
+pub mod Fixed
+pub mod Forms
+pub mod Emits
+pub mod Free
