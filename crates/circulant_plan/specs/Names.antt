@@ -1,7 +1,6 @@
 -- The names of messages, by what they tell.
-use Rattle.std.specs.Prelude.{ℕ, ◌==◌, ◌&&◌, Bool}
+use Rattle.std.specs.Prelude.{ℕ}
 use Rattle.vert_base.specs.declared.message.Name.{Name}
-use Rattle.vert_base.specs.declared.message.NameKind.{NameKind}
 use Rattle.vert_base.specs.declared.message.NameKind.TheVariants.{Refresh, Dep, Update, Push, Tally, Verdict}
 
 -- the rows of machine k that machine m reads in round r
@@ -27,17 +26,3 @@ tally_name r k = record { kind = Tally; round = r; step = 0; half = 0; from = k;
 -- the judge's ruling for round r, for machine m
 abbrev pub verdict_name : ℕ → ℕ → Name
 verdict_name r m = record { kind = Verdict; round = r; step = 0; half = 0; from = 0; to = m }
-
--- the place of a kind in the order of names
-abbrev pub kind_place : NameKind → ℕ
-kind_place Refresh = 0
-kind_place Dep = 1
-kind_place Update = 2
-kind_place Push = 3
-kind_place Tally = 4
-kind_place Verdict = 5
-
-abbrev pub same_name : Name → Name → Bool
-same_name a b =
-    kind_place a.kind == kind_place b.kind
-    && (a.round == b.round && (a.step == b.step && (a.half == b.half && (a.from == b.from && a.to == b.to))))

@@ -12,7 +12,8 @@ use Rattle.vert_base.specs.declared.value.Ruling.TheVariants.{Stop, Dense, Spars
 use Rattle.circulant_plan.specs.declared.spot.Ring.{Ring}
 use Rattle.circulant_plan.specs.declared.spot.Spot.{Spot}
 use Rattle.circulant_plan.specs.declared.spot.Spot.TheVariants.{Tell, Judge, Begin, Scan, Close, Over}
-use Rattle.circulant_plan.specs.Names.{verdict_name, same_name}
+use Rattle.vert_base.specs.Names.{same_name}
+use Rattle.circulant_plan.specs.Names.{verdict_name}
 use Rattle.circulant_plan.specs.Table.{others_of, needs_of, gives_of}
 use Rattle.circulant_plan.specs.Standing.{Standing, first_standing, standing_at, next_standing, ruled_standing}
 

@@ -1,3 +1,2 @@
-pub mod OrderLaws
 pub mod PlaceLaws
-pub mod MapLaws
+pub mod EntryLaws

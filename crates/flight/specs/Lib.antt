@@ -1,4 +1,2 @@
-pub mod Letters
-pub mod Names
-pub mod Places
-pub mod Laws
+pub mod Order
+pub mod Entries

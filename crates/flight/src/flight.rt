@@ -1,29 +1,33 @@
 // Messages in the order of their names.
-ghost use Rattle.std.specs.Prelude.{◌≡◌, [], ◌<◌, ◌≤◌, ◌^◌, length, None, IfErr, IfSome, IfNone, OnOk, OnErr, option_map, option_copied, slice_get};
-ghost use Rattle.flight.specs.Letters.{Ascends, IsInOrder, found, letter_of, letters_of, placed, without};
-ghost use Rattle.flight.specs.Places.{place, IsFoundAt, IsMissing};
-ghost use Rattle.flight.specs.Names.{is_before as precedes};
+ghost use Rattle.std.specs.Prelude.{◌≡◌, [], ◌<◌, ◌^◌, length, None, IfErr, OnOk, OnErr, option_map, option_copied, slice_get};
+ghost use Rattle.vert_base.specs.Letters.{found, letter_of, placed, without};
+ghost use Rattle.flight.specs.Order.{IsInOrder};
 
-use crate::names::is_before;
+use crate::entries::Entry;
+use crate::messages::{add, look, take};
+use slab::Slab;
 use std::alloc::Global;
 use std::marker::Model;
 use vert_base::{Message, Name, Want};
 
-/// The messages that were sent and not yet picked, each found by its name.
+/// The messages that were sent and not yet picked, each found by its name. A message stays where it
+/// was put; only the short entries of the index move.
 #[derive(Drop)]
 pub struct Flight {
-    messages: Vec<Message>,
+    messages: Slab<Message>,
+    entries: Vec<Entry>,
 }
 
 impl Model for Flight {
     ghost use Rattle.std.specs.Prelude.{List};
-    ghost use Rattle.flight.specs.Letters.{Letter, letters_of, IsInOrder};
+    ghost use Rattle.vert_base.specs.Letters.{Letter};
+    ghost use Rattle.flight.specs.Entries.{IsSound, letters_by};
 
     ghost Value = { List Letter };
 
-    ghost view = { λ f. letters_of f.messages.items };
+    ghost view = { λ f. letters_by f.messages f.entries.items };
 
-    ghost invariant = { λ f. IsInOrder (letters_of f.messages.items) };
+    ghost invariant = { λ f. IsSound f.messages f.entries.items };
 }
 
 impl Flight {
@@ -32,7 +36,8 @@ impl Flight {
         ensures { result ≡ [] }
     {
         Flight {
-            messages: Vec::new(alloc),
+            messages: Slab::new(alloc),
+            entries: Vec::new(alloc),
         }
     }
 
@@ -44,11 +49,7 @@ impl Flight {
         ensures kept { OnErr result (self.new ≡ self.old) }
         ensures back { IfErr result (λ failed. failed.0 ≡ msg) }
     {
-        let at = place_of(&self.messages, &msg.name);
-        match self.messages.insert(at, msg) {
-            Ok(()) => Ok(()),
-            Err(failed) => Err((failed.value, Want)),
-        }
+        add(&mut self.messages, &mut self.entries, msg)
     }
 
     /// Takes the message of a name out. It takes no memory.
@@ -56,20 +57,14 @@ impl Flight {
         ensures message { option_map letter_of result ≡ found name.now self.old }
         ensures rest { self.new ≡ without name.now self.old }
     {
-        match find_in(&self.messages, name) {
-            Some(at) => Some(self.messages.remove(at)),
-            None => None,
-        }
+        take(&mut self.messages, &mut self.entries, name)
     }
 
     /// The message of a name, where it stands.
     pub fn peek(&self, name: &Name) -> Option<&Message>
         ensures { option_map letter_of (option_copied result) ≡ found name.now self.now }
     {
-        match find_in(&self.messages, name) {
-            Some(at) => Some(&self.messages[at]),
-            None => None,
-        }
+        look(&self.messages, &self.entries, name)
     }
 
     /// The least name under way.
@@ -85,8 +80,8 @@ impl Flight {
         ensures name { result ≡ option_map (λ y. y.name) (slice_get self.now k) }
         ensures order { IsInOrder self.now }
     {
-        match self.messages.get(k as usize) {
-            Some(message) => Some(message.name),
+        match self.entries.get(k as usize) {
+            Some(entry) => Some(entry.name),
             None => None,
         }
     }
@@ -96,33 +91,6 @@ impl Flight {
         ensures count { result ≡ length self.now }
         ensures order { IsInOrder self.now }
     {
-        self.messages.len() as u32
-    }
-}
-
-// How many messages have names before this one.
-fn place_of(messages: &[Message], name: &Name) -> usize
-    requires { Ascends (letters_of messages.now) }
-    ensures value { result ≡ place name.now (letters_of messages.now) }
-    ensures within { result ≤ length messages.now }
-{
-    messages.partition_point(
-        |message: &Message| -> bool
-            ensures { result ≡ precedes message.now.name name.entry.now }
-        { is_before(&message.name, name) },
-    )
-}
-
-// Where the message of a name stands.
-fn find_in(messages: &[Message], name: &Name) -> Option<usize>
-    requires { Ascends (letters_of messages.now) }
-    ensures some { IfSome result (IsFoundAt name.now messages.now) }
-    ensures none { IfNone result (IsMissing name.now (letters_of messages.now)) }
-{
-    let at = place_of(messages, name);
-    if at < messages.len() && !is_before(name, &messages[at].name) {
-        Some(at)
-    } else {
-        None
+        self.entries.len() as u32
     }
 }

@@ -1,8 +1,8 @@
-ghost use Rattle.flight.specs.Laws.{NamesAreTheirNumbers, PickedIsGone, SentIsFound};
+ghost use Rattle.vert_base.specs.Letters.{NamesAreTheirNumbers, PlacedIsFound, TakenIsGone};
 
 /// The laws of messages by name, which its clauses say. It does nothing.
 pub fn by_name()
     ensures names { NamesAreTheirNumbers }
-    ensures sent { SentIsFound }
-    ensures picked { PickedIsGone }
+    ensures sent { PlacedIsFound }
+    ensures picked { TakenIsGone }
 {}

@@ -1,9 +1,10 @@
 //! The messages under way, found by their names.
 #![tactic(auto)]
 
+mod entries;
 mod flight;
 mod laws;
-mod names;
+mod messages;
 
 pub use flight::Flight;
 pub use laws::by_name;

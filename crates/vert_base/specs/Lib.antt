@@ -1,2 +1,4 @@
 pub mod Neighbours
 pub mod Position
+pub mod Names
+pub mod Letters

@@ -1,0 +1,4 @@
+pub mod Taking
+pub mod Places
+pub mod Held
+pub mod Laws
