@@ -1,0 +1,5 @@
+use Rattle.dep_layout.proofs.LoopLaws.{pair_is}
+use Rattle.dep_layout.proofs.marks.pair_at.Goals as goal
+
+pub returns : goal.returns
+returns c = pair_is c.args.marks.now c.args.vertex c.requires

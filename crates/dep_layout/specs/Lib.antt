@@ -1,0 +1,5 @@
+pub mod Spelling
+pub mod Judgement
+pub mod Reading
+pub mod Laws
+pub mod States
