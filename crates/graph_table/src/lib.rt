@@ -9,4 +9,6 @@ mod table;
 #[cfg(test)]
 mod tests;
 
+pub use order::put_in_order;
+pub use side::{Side, end_of};
 pub use table::Table;

@@ -5,3 +5,9 @@ pub mod Files
 pub mod Room
 pub mod Pieces
 pub mod Shelves
+pub mod Given
+pub mod Parts
+pub mod Plans
+pub mod Shapes
+pub mod PartViews
+pub mod Planned

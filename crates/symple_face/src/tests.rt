@@ -1,10 +1,12 @@
 use crate::{
-    DripSink, FirmShelf, FirmSink, LoadFault, MemShelf, MemSink, MemSource, Shelf, Sink, Source,
-    StoreFault,
+    BodyShape, DripSink, Feed, FirmShelf, FirmSink, ListFeed, LoadFault, MemShelf, MemSink,
+    MemSource, Shelf, Sink, Source, StoreFault, planned_by_table,
 };
+use arrayvec::ArrayVec;
 use std::alloc::{AllocError, Global};
 use std::process::Abort;
 use std::test::Fail;
+use vert_base::{Neighbour, Row, VertexId};
 
 /// Pieces in turn, each with the length taken of it, or None at a fault.
 type Puts = &'static [(&'static str, Option<usize>)];
@@ -141,4 +143,90 @@ fn a_shelf_in_memory(rt: HostRuntime) -> Result<(), Fail> {
     assert_eq!(rt; shelf.store("log", b"go 0"), Err(StoreFault::Failed));
     loads(&rt, alloc, &mut shelf, BEFORE);
     Ok(())
+}
+
+fn row(words: &[i64], active: bool) -> Row {
+    let mut row = Row {
+        words: ArrayVec::new(),
+        active,
+    };
+    let _ = row.words.try_extend_from_slice(words);
+    row
+}
+
+fn neighbour(id: u32) -> Neighbour {
+    Neighbour {
+        id: VertexId(id),
+        weight: 1,
+        indeg: 0,
+        outdeg: 2,
+    }
+}
+
+#[test]
+fn a_feed_of_a_list(rt: HostRuntime) -> Result<(), Fail> {
+    let list = [
+        (neighbour(7), row(&[-1, 5], true)),
+        (neighbour(7), row(&[3], false)),
+    ];
+    let mut feed = ListFeed::new(Vec::from_array(rt.alloc(), list)?);
+    let mut into = row(&[9, 9, 9], false);
+    for (id, words, active) in [(7, [-1i64, 5].as_slice(), true), (7, &[3], false)] {
+        assert_eq!(rt; feed.next(&mut into).map(|n| n.id), Some(VertexId(id)));
+        assert_eq!(rt; into.words.as_slice(), words);
+        assert_eq!(rt; into.active, active);
+    }
+    assert_eq!(rt; feed.next(&mut into), None);
+    assert_eq!(rt; into.words.as_slice(), [3].as_slice());
+    Ok(())
+}
+
+#[test]
+fn longest_bodies(rt: HostRuntime) {
+    planned_by_table();
+    for (shape, longest) in [
+        (
+            BodyShape::Refresh {
+                vertices: 3,
+                words: 2,
+                bools: 2,
+            },
+            48,
+        ),
+        (
+            BodyShape::Dep {
+                vertices: 5,
+                words: 1,
+                bools: 0,
+            },
+            42,
+        ),
+        (
+            BodyShape::Update {
+                vertices: 2,
+                slots: 1,
+                reduced: 9,
+            },
+            148,
+        ),
+        (
+            BodyShape::Push {
+                vertices: 9,
+                words: 1,
+                bools: 1,
+            },
+            74,
+        ),
+        (BodyShape::Tally { totals: 1 }, 32),
+        (
+            BodyShape::Verdict {
+                dense: true,
+                sparse: false,
+                totals: 0,
+            },
+            1,
+        ),
+    ] {
+        assert_eq!(rt; shape.longest(), longest);
+    }
 }

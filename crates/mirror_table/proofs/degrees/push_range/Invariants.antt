@@ -1,0 +1,8 @@
+-- The vertices so far and those that are left are all.
+use Rattle.std.proofs.Common.{◌≡◌, ◌-◌, ◌++◌, map}
+use Rattle.std.specs.List.{range_with_len}
+use Rattle.mirror_table.proofs.degrees.push_range.Given as goal
+
+abbrev pub invariant-loop-v : goal.invariant-loop-v
+invariant-loop-v l =
+    map (λ v. v.0) l.list.items ++ range_with_len l.v (l.end - l.v) ≡ map (λ v. v.0) l.fn.list.items ++ range_with_len l.start (l.end - l.start)
