@@ -1,0 +1,13 @@
+//! The machine that runs stack code: one block, or a loop body over the neighbours that a feed gives.
+#![tactic(auto)]
+
+mod block;
+mod machine;
+mod operations;
+mod segment;
+mod stack;
+#[cfg(test)]
+mod tests;
+
+pub use block::step_block;
+pub use segment::step_segment;
