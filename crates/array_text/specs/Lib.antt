@@ -1,3 +1,4 @@
+pub mod Reads
 pub mod Rounds
 pub mod Tables
 pub mod Writes

@@ -3,16 +3,17 @@ ghost use Rattle.array_text.specs.Tables.{bytes_of, header_text};
 ghost use Rattle.array_text.specs.Writes.{Writes};
 
 use crate::put::{put_all, put_pieces};
+use instrument::Split;
 use symple_face::{Sink, SinkFault};
-use vert_tree::{Decl, Program, Typed};
+use vert_tree::{Decl, Program};
 
 /// Puts the first line of the table.
-pub fn write_header<O: Sink>(typed: &Typed, out: &mut O) -> Result<(), SinkFault>
-    ensures { Writes O.held O.faults O.spare out.old out.new (header_text typed.now.program) result }
+pub fn write_header<O: Sink>(split: &Split, out: &mut O) -> Result<(), SinkFault>
+    ensures { Writes O.held O.faults O.spare out.old out.new (header_text split.now.program.program) result }
 {
     put_all(out, b"vertex")?;
-    for field in &typed.program.fields {
-        put_pieces(out, &[b" ", name_of(&typed.program, field)])?;
+    for field in &split.program.program.fields {
+        put_pieces(out, &[b" ", name_of(&split.program.program, field)])?;
     }
     put_all(out, b"\n")
 }

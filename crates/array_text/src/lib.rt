@@ -3,6 +3,7 @@
 
 mod header;
 mod put;
+mod reads;
 mod round;
 mod row;
 #[cfg(test)]
@@ -10,5 +11,6 @@ mod tests;
 
 pub use header::write_header;
 pub use put::{put_all, put_pieces};
+pub use reads::{write_read_head, write_reads};
 pub use round::write_round;
 pub use row::write_row;

@@ -3,23 +3,28 @@ ghost use Rattle.array_text.specs.Tables.{row_text, word_text, words_text};
 ghost use Rattle.array_text.specs.Writes.{Writes};
 
 use crate::put::{put_all, put_pieces};
+use instrument::Split;
 use itoa::Buffer;
 use symple_face::{Sink, SinkFault};
 use vert_base::{Row, ValueType, VertexId};
-use vert_tree::{Decl, Typed};
+use vert_tree::Decl;
 
 /// Puts the line of a vertex: its id and the words of its fields.
 pub fn write_row<O: Sink>(
-    typed: &Typed,
+    split: &Split,
     v: VertexId,
     row: &Row,
     out: &mut O,
 ) -> Result<(), SinkFault>
-    ensures { Writes O.held O.faults O.spare out.old out.new (row_text typed.now.program v.0 row.now) result }
+    ensures { Writes O.held O.faults O.spare out.old out.new (row_text split.now.program.program v.0 row.now) result }
 {
     let mut id = Buffer::new();
     put_all(out, id.format(v.0).as_bytes())?;
-    put_words(typed.program.fields.as_slice(), row.words.as_slice(), out)?;
+    put_words(
+        split.program.program.fields.as_slice(),
+        row.words.as_slice(),
+        out,
+    )?;
     put_all(out, b"\n")
 }
 

@@ -1,7 +1,8 @@
 ghost use Rattle.std.specs.Prelude.{◌≡◌};
 
-use super::{put_all, write_header, write_round, write_row};
+use super::{put_all, write_header, write_read_head, write_reads, write_round, write_row};
 use arrayvec::ArrayVec;
+use instrument::split_of;
 use std::alloc::{AllocError, Global};
 use std::test::Fail;
 use symple_face::{DripSink, FirmSink, MemSink, Report, SinkFault};
@@ -95,19 +96,30 @@ const TABLE: &[u8] =
 
 #[test]
 fn tables_in_whole_pieces_and_byte_by_byte(rt: HostRuntime) -> Result<(), Fail> {
-    let typed = three_fields(rt.alloc())?;
+    let split = split_of(three_fields(rt.alloc())?);
     let first = row(&[0, -1, 1]);
     let last = row(&[GREATEST, LEAST, 0]);
     let mut whole = FirmSink::new(rt.alloc(), 128)?;
-    write_header(&typed, &mut whole)?;
-    write_row(&typed, VertexId(0), &first, &mut whole)?;
-    write_row(&typed, VertexId(2_097_151), &last, &mut whole)?;
+    write_header(&split, &mut whole)?;
+    write_row(&split, VertexId(0), &first, &mut whole)?;
+    write_row(&split, VertexId(2_097_151), &last, &mut whole)?;
     assert_eq!(rt; whole.bytes(), TABLE);
     let mut drip = DripSink::new(rt.alloc(), 128)?;
-    write_header(&typed, &mut drip)?;
-    write_row(&typed, VertexId(0), &first, &mut drip)?;
-    write_row(&typed, VertexId(2_097_151), &last, &mut drip)?;
+    write_header(&split, &mut drip)?;
+    write_row(&split, VertexId(0), &first, &mut drip)?;
+    write_row(&split, VertexId(2_097_151), &last, &mut drip)?;
     assert_eq!(rt; drip.bytes(), TABLE);
+    Ok(())
+}
+
+#[test]
+fn reads_of_two_machines(rt: HostRuntime) -> Result<(), Fail> {
+    let mut drip = DripSink::new(rt.alloc(), 64)?;
+    write_read_head(10_000, VertexId(2_097_151), &mut drip)?;
+    write_reads(&[VertexId(3), VertexId(12)], &mut drip)?;
+    write_reads(&[], &mut drip)?;
+    write_reads(&[VertexId(0)], &mut drip)?;
+    assert_eq!(rt; drip.bytes(), b"read 10000 2097151 3 12 0".as_slice());
     Ok(())
 }
 

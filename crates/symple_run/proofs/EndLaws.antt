@@ -1,24 +1,28 @@
 -- How a line ends, from what its loads gave and what was put.
-use Rattle.std.proofs.Common.{◌≡◌, ◌⊎◌, inl, inr, ℕ, ◌+◌, ◌-◌, ◌^◌, ◌≤◌, min, List, Option, Some, None, Result, Ok, Err, Bor, refl, sym, ap, subst, ◌∙◌, arith}
+use Rattle.std.proofs.Common.{◌≡◌, ◌⊎◌, inl, inr, ℕ, ◌≤◌, List, Option, Some, None, Result, Ok, Err, refl, sym, ap, subst, arith}
 use Rattle.array_text.specs.Writes.{Writes}
 use Rattle.edge_reader.specs.declared.edges.Edges.{Edges}
 use Rattle.edge_reader.specs.EdgeList.{Graph}
 use Rattle.edge_reader.specs.Gives.{graph_of_edges}
+use Rattle.instrument.specs.Shown.{shown}
 use Rattle.symple_face.specs.Causes.{Rose}
 use Rattle.symple_face.specs.Files.{File}
 use Rattle.symple_face.specs.declared.sink.SinkFault.{SinkFault}
 use Rattle.symple_run.specs.declared.failure.Failure.{Failure}
 use Rattle.symple_run.specs.declared.failure.Failure.TheVariants as failure
-use Rattle.program_reader.specs.declared.refusal.Refusal.{Refusal}
-use Rattle.symple_run.specs.Answers.{Change, Ends, Failed, Gained, IsLoaded, IsTold, IsUnder, Stayed}
-use Rattle.symple_run.specs.Endings.{EndsBy, Plays, fault_after}
+use Rattle.symple_run.specs.Answers.{Change, Ends, Failed, Gained, IsLoaded, Stayed}
+use Rattle.symple_run.specs.Endings.{EndsBy, Plays, failure_for, fault_after}
 use Rattle.symple_run.specs.Faults.{fault_of}
-use Rattle.symple_run.specs.Lines.{BadWords, Line, NoCommand, PlanOf, PlanWords, RunOf, RunWords}
+use Rattle.symple_run.specs.Lines.{BadWords, FreeOf, Line, NoCommand, PlanOf, PlanWords, RunOf, RunWords, ShowOf}
 use Rattle.symple_run.specs.Loads.{GivesGraph, GivesProgram, GraphIn, NotLoaded, ProgramIn}
 use Rattle.symple_run.specs.Notes.{BadByte, BadLine, Fault, NoLoad}
-use Rattle.symple_run.specs.Outputs.{plan_text, run_text}
-use Rattle.symple_run.specs.Verdicts.{Absent, Accepted, Asks, Fails, Judged, Judgement, Puts, Refused, Verdict, graph_in, of_graph, plan_verdict, run_verdict}
+use Rattle.symple_run.specs.Outputs.{free_text, plan_text, run_text}
+use Rattle.symple_run.specs.Verdicts.{Absent, Accepted, AsksProgram, Fails, Puts, Refused, Verdict, free_verdict, graph_in, of_graph, plan_verdict, run_verdict, show_verdict}
 use Rattle.symple_run.proofs.LoadLaws.{some_under}
+use Rattle.symple_run.specs.declared.command.Command.{Command}
+use Rattle.symple_run.specs.Reads.{LineReads}
+use Rattle.symple_words.specs.declared.fault.WordFault.{WordFault}
+use Rattle.symple_words.specs.declared.fault.WordFault.TheVariants as fault
 use Rattle.symple_words.specs.declared.line.GraphForm.{GraphForm}
 use Rattle.vert_tree.specs.declared.program.Program.{Program}
 use Rattle.vert_tree.specs.declared.typed.Typed.{Typed}
@@ -29,36 +33,52 @@ rose_before a b c le rose = omega arith
 
 -- ---- a load that failed
 
--- the program's load or reading failed
-module _ (files : Option (List File)) (r : RunWords) (l la : ℕ) (out : Change) (stayed : Stayed out) where
-  asks_absent : (file gfile : Option (List ℕ)) → file ≡ None → Asks (RunOf r) file gfile (Fails (NoLoad r.program))
-  asks_absent None gfile is = (Absent, refl, refl)
-  asks_absent (Some text) gfile is = cc
+-- the program's load or reading failed, where that is what is asked first
+module _ (files : Option (List File)) (name : List ℕ) (rest : Program → Verdict) (loaded : List ℕ → Type 0) (l la : ℕ) (out : Change) (stayed : Stayed out) (named : loaded name) where
+  asks_absent : (file : Option (List ℕ)) → file ≡ None → AsksProgram name rest file (Fails (NoLoad name))
+  asks_absent None is = (Absent, refl, refl)
+  asks_absent (Some text) is = cc
 
   program_not_loaded :
-      (unread : Bor (List ℕ)) (file gfile : Option (List ℕ)) → unread.now ≡ r.program → NotLoaded files l la file →
-      Ends files (Asks (RunOf r) file gfile) (IsLoaded (RunOf r)) (Some (NoLoad unread.now)) l la out
-  program_not_loaded unread file gfile same (inl told) =
-      let P : List ℕ → Type 0 = λ name. Asks (RunOf r) file gfile (Fails (NoLoad name)) in
-      (inl (told.0, subst P (sym same) (asks_absent file gfile told.1)), stayed)
-  program_not_loaded unread file gfile same (inr rose) = (inr (rose, inl same), stayed)
+      (unread : List ℕ) (file : Option (List ℕ)) → unread ≡ name → NotLoaded files l la file → Ends files (AsksProgram name rest file) loaded (Some (NoLoad unread)) l la out
+  program_not_loaded unread file same (inl told) =
+      let P : List ℕ → Type 0 = λ other. AsksProgram name rest file (Fails (NoLoad other)) in
+      (inl (told.0, subst P (sym same) (asks_absent file told.1)), stayed)
+  program_not_loaded unread file same (inr rose) = (inr (rose, subst loaded (sym same) named), stayed)
 
-  program_ends :
-      (f : Failure) (file gfile : Option (List ℕ)) → ProgramIn files l la r.program file (Err f) →
-      Ends files (Asks (RunOf r) file gfile) (IsLoaded (RunOf r)) (Some (fault_of f)) l la out
-  program_ends (failure.Load unread) file gfile given = program_not_loaded unread file gfile given.0 given.1
-  program_ends (failure.Program refusal) file gfile given = ((Refused refusal, given, refl), stayed)
-  program_ends failure.Memory file gfile given = stayed
-  program_ends failure.Command file gfile given = absurd given
-  program_ends failure.Words file gfile given = absurd given
-  program_ends (failure.GraphLine code line) file gfile given = absurd given
-  program_ends (failure.GraphByte code at) file gfile given = absurd given
-  program_ends failure.Write file gfile given = absurd given
+  program_ends : (f : Failure) (file : Option (List ℕ)) → ProgramIn files l la name file (Err f) → Ends files (AsksProgram name rest file) loaded (Some (fault_of f)) l la out
+  program_ends (failure.Load unread) file given = program_not_loaded unread.now file given.0 given.1
+  program_ends (failure.Program refusal) file given = ((Refused refusal, given, refl), stayed)
+  program_ends failure.Memory file given = stayed
+  program_ends failure.Command file given = absurd given
+  program_ends failure.Words file given = absurd given
+  program_ends (failure.GraphLine code line) file given = absurd given
+  program_ends (failure.GraphByte code at) file given = absurd given
+  program_ends failure.Write file given = absurd given
 
-  pub run_without_program : (f : Failure) → GivesProgram files l la r.program (Err f) → EndsBy files (RunOf r) l la out (Err f)
-  run_without_program f given =
+module _ (files : Option (List File)) (l la : ℕ) (out : Change) (stayed : Stayed out) where
+  pub run_without_program : (r : RunWords) (f : Failure) → GivesProgram files l la r.program (Err f) → EndsBy files (RunOf r) l la out (Err f)
+  run_without_program r f given =
       let u = some_under files r.graph in
-      record { program = given.file; graph = u.file; under = (given.under, u.under); ends = program_ends f given.file u.file given.given }
+      record {
+        found = record { program = given.file; graph = u.file };
+        under = (given.under, u.under);
+        ends = program_ends files r.program (run_verdict r u.file) (IsLoaded (RunOf r)) l la out stayed (inl refl) f given.file given.given;
+      }
+
+  pub show_without_program : (name : List ℕ) (f : Failure) → GivesProgram files l la name (Err f) → EndsBy files (ShowOf name) l la out (Err f)
+  show_without_program name f given = record {
+    found = record { program = given.file; graph = None };
+    under = given.under;
+    ends = program_ends files name show_verdict (IsLoaded (ShowOf name)) l la out stayed refl f given.file given.given;
+  }
+
+  pub free_without_program : (name : List ℕ) (f : Failure) → GivesProgram files l la name (Err f) → EndsBy files (FreeOf name) l la out (Err f)
+  free_without_program name f given = record {
+    found = record { program = given.file; graph = None };
+    under = given.under;
+    ends = program_ends files name free_verdict (IsLoaded (FreeOf name)) l la out stayed refl f given.file given.given;
+  }
 
 -- the graph's load or reading failed, where that is what is asked
 module _ (files : Option (List File)) (form : GraphForm) (g : List ℕ) (asked : Verdict → Type 0) (loaded : List ℕ → Type 0) (l mid la : ℕ) (out : Change)
@@ -97,20 +117,18 @@ run_without_graph files files_after r l mid la out typed same read stayed before
     let P : Option (List File) → Type 0 = λ fs. GivesGraph fs mid la r.form r.graph (Err f) in
     let there = subst P same given in
     record {
-      program = read.file;
-      graph = there.file;
+      found = record { program = read.file; graph = there.file };
       under = (read.under, there.under);
-      ends = graph_ends files r.form r.graph (Asks (RunOf r) read.file there.file) (IsLoaded (RunOf r)) l mid la out stayed before (inr refl) there.file
+      ends = graph_ends files r.form r.graph (AsksProgram r.program (run_verdict r there.file) read.file) (IsLoaded (RunOf r)) l mid la out stayed before (inr refl) there.file
           (λ fault is. (Accepted typed.program, read.given, refused_graph (graph_in r.form r.graph there.file) (run_text r typed.program) fault is)) f there.given;
     }
 
 pub plan_without_graph :
     (files : Option (List File)) (p : PlanWords) (l la : ℕ) (out : Change) → Stayed out → (f : Failure) → GivesGraph files l la p.form p.graph (Err f) → EndsBy files (PlanOf p) l la out (Err f)
 plan_without_graph files p l la out stayed f given = record {
-  program = None;
-  graph = given.file;
+  found = record { program = None; graph = given.file };
   under = given.under;
-  ends = graph_ends files p.form p.graph (Asks (PlanOf p) None given.file) (IsLoaded (PlanOf p)) l l la out stayed (omega arith) refl given.file
+  ends = graph_ends files p.form p.graph (λ v. v ≡ plan_verdict p given.file) (IsLoaded (PlanOf p)) l l la out stayed (omega arith) refl given.file
       (λ fault is. refused_graph (graph_in p.form p.graph given.file) (plan_text p.machines) fault is) f given.given;
 }
 
@@ -138,10 +156,9 @@ run_ends files files_after r l mid la out typed edges same read given result pla
     let there = subst P same given in
     let text = run_text r typed.program (graph_of_edges edges) in
     record {
-      program = read.file;
-      graph = there.file;
+      found = record { program = read.file; graph = there.file };
       under = (read.under, there.under);
-      ends = play_ends files (Asks (RunOf r) read.file there.file) (IsLoaded (RunOf r)) l la out text
+      ends = play_ends files (AsksProgram r.program (run_verdict r there.file) read.file) (IsLoaded (RunOf r)) l la out text
           (Accepted typed.program, read.given, read_graph (graph_in r.form r.graph there.file) (run_text r typed.program) (graph_of_edges edges) there.given) result plays;
     }
 
@@ -149,22 +166,66 @@ pub plan_ends :
     (files : Option (List File)) (p : PlanWords) (l la : ℕ) (out : Change) (edges : Edges) → GivesGraph files l la p.form p.graph (Ok edges) →
     (result : Result (Unit {0}) Failure) → Plays (plan_text p.machines (graph_of_edges edges)) out result → EndsBy files (PlanOf p) l la out result
 plan_ends files p l la out edges given result plays = record {
-  program = None;
-  graph = given.file;
+  found = record { program = None; graph = given.file };
   under = given.under;
-  ends = play_ends files (Asks (PlanOf p) None given.file) (IsLoaded (PlanOf p)) l la out (plan_text p.machines (graph_of_edges edges))
+  ends = play_ends files (λ v. v ≡ plan_verdict p given.file) (IsLoaded (PlanOf p)) l la out (plan_text p.machines (graph_of_edges edges))
       (read_graph (graph_in p.form p.graph given.file) (plan_text p.machines) (graph_of_edges edges) given.given) result plays;
 }
 
+pub show_ends :
+    (files : Option (List File)) (name : List ℕ) (l la : ℕ) (out : Change) (typed : Typed) → GivesProgram files l la name (Ok typed) →
+    (result : Result (Unit {0}) Failure) → Plays (shown typed.program) out result → EndsBy files (ShowOf name) l la out result
+show_ends files name l la out typed read result plays = record {
+  found = record { program = read.file; graph = None };
+  under = read.under;
+  ends = play_ends files (AsksProgram name show_verdict read.file) (IsLoaded (ShowOf name)) l la out (shown typed.program) (Accepted typed.program, read.given, refl) result plays;
+}
+
+pub free_ends :
+    (files : Option (List File)) (name : List ℕ) (l la : ℕ) (out : Change) (typed : Typed) → GivesProgram files l la name (Ok typed) →
+    (result : Result (Unit {0}) Failure) → Plays (free_text typed.program) out result → EndsBy files (FreeOf name) l la out result
+free_ends files name l la out typed read result plays = record {
+  found = record { program = read.file; graph = None };
+  under = read.under;
+  ends = play_ends files (AsksProgram name free_verdict read.file) (IsLoaded (FreeOf name)) l la out (free_text typed.program) (Accepted typed.program, read.given, refl) result plays;
+}
+
+-- the words were no line
+command_ends : (files : Option (List File)) (words : Line) (l la : ℕ) (out : Change) → Stayed out → words ≡ NoCommand → EndsBy files words l la out (Err failure.Command)
+command_ends files words l la out stayed is =
+    let P : Line → Type 0 = λ w. EndsBy files w l la out (Err failure.Command) in
+    subst P (sym is) (record { found = record { program = None; graph = None }; under = tt; ends = (refl, stayed) })
+
+words_ends : (files : Option (List File)) (words : Line) (l la : ℕ) (out : Change) → Stayed out → words ≡ BadWords → EndsBy files words l la out (Err failure.Words)
+words_ends files words l la out stayed is =
+    let P : Line → Type 0 = λ w. EndsBy files w l la out (Err failure.Words) in
+    subst P (sym is) (record { found = record { program = None; graph = None }; under = tt; ends = (refl, stayed) })
+
 -- memory was wanting before anything was put
 pub memory_ends : (files : Option (List File)) (words : Line) (l la : ℕ) (out : Change) → Stayed out → EndsBy files words l la out (Err failure.Memory)
-memory_ends files NoCommand l la out stayed = record { program = None; graph = None; under = tt; ends = stayed }
-memory_ends files BadWords l la out stayed = record { program = None; graph = None; under = tt; ends = stayed }
+memory_ends files NoCommand l la out stayed = record { found = record { program = None; graph = None }; under = tt; ends = stayed }
+memory_ends files BadWords l la out stayed = record { found = record { program = None; graph = None }; under = tt; ends = stayed }
 memory_ends files (RunOf r) l la out stayed =
     let p = some_under files r.program in
     let g = some_under files r.graph in
-    record { program = p.file; graph = g.file; under = (p.under, g.under); ends = stayed }
-memory_ends files (PlanOf p) l la out stayed = let g = some_under files p.graph in record { program = None; graph = g.file; under = g.under; ends = stayed }
+    record { found = record { program = p.file; graph = g.file }; under = (p.under, g.under); ends = stayed }
+memory_ends files (PlanOf p) l la out stayed = let g = some_under files p.graph in record { found = record { program = None; graph = g.file }; under = g.under; ends = stayed }
+memory_ends files (ShowOf name) l la out stayed = let p = some_under files name in record { found = record { program = p.file; graph = None }; under = p.under; ends = stayed }
+memory_ends files (FreeOf name) l la out stayed = let p = some_under files name in record { found = record { program = p.file; graph = None }; under = p.under; ends = stayed }
+
+-- the words could not be read as a line
+pub unread_ends :
+    (files : Option (List File)) (words : Line) (l la : ℕ) (out : Change) → Stayed out → (line : Result Command WordFault) → LineReads words line →
+    (why : WordFault) → line ≡ Err why → (f : Failure) → f ≡ failure_for why → EndsBy files words l la out (Err f)
+unread_ends files words l la out stayed line reads why is f same =
+    let P : Failure → Type 0 = λ g. EndsBy files words l la out (Err g) in
+    let Q : Result Command WordFault → Type 0 = λ r. LineReads words r in
+    subst P (sym same) (ended why (subst Q is reads))
+  where
+    ended : (w : WordFault) → LineReads words (Err w) → EndsBy files words l la out (Err (failure_for w))
+    ended fault.Command none = command_ends files words l la out stayed none
+    ended fault.Words none = words_ends files words l la out stayed none
+    ended fault.Want none = memory_ends files words l la out stayed
 
 -- a note is left whole, or a first part of it
 pub noted_by :

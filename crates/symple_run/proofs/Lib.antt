@@ -1,8 +1,9 @@
 pub mod AnswerLaws
 pub mod ReadLaws
 pub mod EndLaws
+pub mod FreeLaws
 pub mod LineLaws
 pub mod LoadLaws
 pub mod RoundLaws
-pub mod RowsLaws
+pub mod NumberedLaws
 pub mod TextLaws

@@ -1,5 +1,5 @@
 -- Lines made of pieces.
-use Rattle.std.proofs.Common.{◌≡◌, ℕ, List, [], ◌∷◌, ◌++◌, codes}
+use Rattle.std.proofs.Common.{◌≡◌, ℕ, List, [], ◌++◌, codes}
 
 pub same_name : (front a v : List ℕ) → a ≡ v → front ++ (a ++ (codes "\n" ++ [])) ≡ front ++ (v ++ codes "\n")
 same_name front a v p = cc

@@ -1,6 +1,6 @@
 -- What a load tells of the file under a name.
-use Rattle.std.proofs.Common.{◌≡◌, ◌⊎◌, inl, inr, ℕ, ◌+◌, ◌<◌, ◌≤◌, Bool, true, false, List, length, Option, Some, None, Result, Ok, Err, refl, ap, ◌∙◌, arith, replicate, Bor}
-use Rattle.std.specs.Prelude.{IsSomeAnd, if◌then◌else◌, nat_lt}
+use Rattle.std.proofs.Common.{◌≡◌, inl, inr, ℕ, ◌+◌, ◌<◌, Bool, true, false, List, length, Option, Some, None, Ok, Err, refl, ap, arith, replicate, Bor}
+use Rattle.std.specs.Prelude.{IsSomeAnd, if◌then◌else◌}
 use Rattle.std.proofs.lemmas.Bool.{lt-ltb}
 use Rattle.std.proofs.lemmas.List.{length-replicate}
 use Rattle.edge_reader.specs.declared.fault.EdgeFault.TheVariants as edge
@@ -10,10 +10,9 @@ use Rattle.edge_reader.specs.EdgeText.{reading_of_text}
 use Rattle.edge_reader.specs.Gives.{Gives, graph_of_edges}
 use Rattle.symple_face.specs.Causes.{Rose}
 use Rattle.symple_face.specs.Files.{File, file_named}
-use Rattle.symple_run.specs.declared.failure.Failure.{Failure}
 use Rattle.symple_run.specs.declared.failure.Failure.TheVariants as failure
 use Rattle.program_reader.specs.declared.refusal.Stage.TheVariants.{Tokens}
-use Rattle.symple_run.specs.Answers.{IsTold, IsUnder}
+use Rattle.symple_run.specs.Answers.{IsUnder}
 use Rattle.symple_run.specs.Loads.{GivesGraph, GivesProgram, NotLoaded}
 use Rattle.symple_run.specs.Notes.{BadByte, BadLine}
 use Rattle.program_reader.specs.Accepted.{Refuses}

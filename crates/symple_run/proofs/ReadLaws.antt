@@ -1,12 +1,12 @@
 -- How many sources a round reads.
-use Rattle.std.proofs.Common.{◌≡◌, ℕ, zero, suc, ◌+◌, ◌-◌, ◌*◌, ◌<◌, ◌≤◌, List, [], ◌∷◌, ◌++◌, length, map, Option, Some, None, Bool, true, false, not, nat_le, nat_lt, refl, sym, ap, subst, ◌∙◌, arith, length-append}
+use Rattle.std.proofs.Common.{◌≡◌, ℕ, zero, suc, ◌+◌, ◌-◌, ◌*◌, ◌<◌, ◌≤◌, List, [], ◌∷◌, length, map, Option, Some, None, Bool, true, false, not, nat_le, nat_lt, refl, sym, ap, subst, ◌∙◌, arith, length-append}
 use Rattle.std.specs.Prelude.{if◌then◌else◌, ◌==◌}
 use Rattle.std.specs.List.{All, filter}
 use Rattle.std.proofs.lemmas.List.Filters.{length-filter_both}
 use Rattle.std.proofs.lemmas.List.{length-map}
 use Rattle.std.proofs.lemmas.List.FromFn.{length-range_with_len}
 use Rattle.std.proofs.lemmas.List.Elements.{All-cons, All-filter, All-head, All-map, All-nil, All-tail}
-use Rattle.std.specs.List.{sum, sum_by}
+use Rattle.std.specs.List.{sum_by}
 use Rattle.std.proofs.lemmas.Bool.{le-ltb, leb-false, leb-true, lt-ltb}
 use Rattle.std.proofs.lemmas.List.Sums.{sum-map, sum_by-cons}
 use Rattle.vert_base.specs.declared.graph.Edge.{Edge}
@@ -16,8 +16,8 @@ use Rattle.vert_base.specs.Neighbours.{AreBelow, ins_of, neighbours_of, source, 
 use Rattle.vert_eval.specs.declared.environment.Env.{Env}
 use Rattle.vert_eval.specs.declared.environment.Flow.{Flow}
 use Rattle.vert_eval.specs.declared.environment.Flow.TheVariants.{Going, Broke}
-use Rattle.vert_eval.specs.Runs.{Act, Ran, after, by_flow, followed_by, in_turn, run}
-use Rattle.vert_eval.specs.Rounds.{Graph, Scene, env_at, no_values, slot_ops, sparse_part, dense_at, dense_block, dense_part, gathered, loop, member_act, members_of, reads_of, vertices_of, with_lets}
+use Rattle.vert_eval.specs.Runs.{Ran, after, by_flow, run}
+use Rattle.vert_eval.specs.Rounds.{Graph, Scene, env_at, no_values, slot_ops, sparse_part, dense_block, dense_part, gathered, loop, member_act, members_of, reads_of, vertices_of, with_lets}
 use Rattle.vert_eval.specs.SourceRun.{Job, Played, Run, Standing, by_ruling, first_rows, standing_after, next_standing, played_at, rounds_from, scene_before, source_run, then_runs}
 use Rattle.vert_eval.proofs.FrameLaws.{run_reads}
 use Rattle.plain_run.specs.Told.{rounds_told, told_played}
@@ -107,7 +107,11 @@ module _ (job : Job) (limited : IsLimited job) where
       let ids = vertices_of job.graph in
       let each : All (λ us. length us ≤ 8388608) (reads_of job.program s.ruling scene) =
       All-map (λ us. length us ≤ 8388608) (λ v. (gathered job.program s.ruling scene v).reads) ids (λ k d lt. gathered_within s.ruling scene _ refl) in
-      omega (arith, sum-map length (reads_of job.program s.ruling scene), sum_few (reads_of job.program s.ruling scene) each, length-map ids (λ v. (gathered job.program s.ruling scene v).reads), length-range_with_len 0 job.graph.vertices, limited.vertices)
+      let as_many = length-map ids (λ v. (gathered job.program s.ruling scene v).reads) in
+      record {
+        sources = omega (arith, sum-map length (reads_of job.program s.ruling scene), sum_few (reads_of job.program s.ruling scene) each, as_many, length-range_with_len 0 job.graph.vertices, limited.vertices);
+        vertices = omega (arith, as_many, length-range_with_len 0 job.graph.vertices, limited.vertices);
+      }
 
   by_few : (r : Ruling) (s : Standing) (played : Played) (rest : Run) → IsFew (told_played played) → All IsFew (map told_played rest.rounds) →
       All IsFew (map told_played (by_ruling r (record { rounds = []; last = s }) (then_runs played rest)).rounds)

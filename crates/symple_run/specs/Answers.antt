@@ -6,8 +6,8 @@ use Rattle.symple_face.specs.Files.{File, file_named}
 use Rattle.symple_run.specs.declared.status.Status.{Status}
 use Rattle.symple_run.specs.declared.status.Status.TheVariants.{Done}
 use Rattle.symple_run.specs.Lines as line
-use Rattle.symple_run.specs.Notes.{Fault, NoCommand, BadWords, NoLoad, BadProgram, BadLine, BadByte, NoWrite, NoMemory, note_text, status_of}
-use Rattle.symple_run.specs.Verdicts.{Asks, Fails, Puts, Verdict}
+use Rattle.symple_run.specs.Notes.{Fault, NoLoad, NoWrite, NoMemory, note_text, status_of}
+use Rattle.symple_run.specs.Verdicts.{Asks, Fails, Found, Puts, Verdict}
 
 -- bytes that are held and faults that were counted, before and after
 pub record Change : Type 0 where
@@ -35,15 +35,19 @@ IsUnder None name file = Unit {0}
 IsUnder (Some files) name file = file_named name files ≡ file
 
 -- these stand under the names of a line
-abbrev pub AreUnder : Option (List File) → line.Line → Option (List ℕ) → Option (List ℕ) → Type 0
-AreUnder files (line.RunOf r) program graph = IsUnder files r.program program × IsUnder files r.graph graph
-AreUnder files (line.PlanOf l) program graph = IsUnder files l.graph graph
-AreUnder files _ program graph = Unit {0}
+abbrev pub AreUnder : Option (List File) → line.Line → Found → Type 0
+AreUnder files (line.RunOf r) found = IsUnder files r.program found.program × IsUnder files r.graph found.graph
+AreUnder files (line.PlanOf l) found = IsUnder files l.graph found.graph
+AreUnder files (line.ShowOf name) found = IsUnder files name found.program
+AreUnder files (line.FreeOf name) found = IsUnder files name found.program
+AreUnder files _ found = Unit {0}
 
 -- a name that a line loads
 abbrev pub IsLoaded : line.Line → List ℕ → Type 0
 IsLoaded (line.RunOf r) name = (name ≡ r.program) ⊎ (name ≡ r.graph)
 IsLoaded (line.PlanOf l) name = name ≡ l.graph
+IsLoaded (line.ShowOf program) name = name ≡ program
+IsLoaded (line.FreeOf program) name = name ≡ program
 IsLoaded _ name = ⊥
 
 -- the shelf tells its files
@@ -72,10 +76,9 @@ Noted (Some fault) notes = Gained (note_text fault) notes ⊎ Failed (note_text 
 
 -- what a command leaves of the shelf's files, its words, its counts of loads, `out` and `notes`
 pub record Answers (files : Option (List File)) (words : line.Line) (loads loads_after : ℕ) (out notes : Change) (status : Status) : Type 0 where
-  pub program : Option (List ℕ)
-  pub graph : Option (List ℕ)
+  pub found : Found
   pub fault : Option Fault
-  pub under : AreUnder files words program graph
-  pub ends : Ends files (Asks words program graph) (IsLoaded words) fault loads loads_after out
+  pub under : AreUnder files words found
+  pub ends : Ends files (Asks words found) (IsLoaded words) fault loads loads_after out
   pub status_is : status ≡ status_after fault
   pub noted : Noted fault notes

@@ -1,6 +1,7 @@
 pub mod Answers
 pub mod Endings
 pub mod Faults
+pub mod Freedom
 pub mod Lines
 pub mod Loads
 pub mod Notes

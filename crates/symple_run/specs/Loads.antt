@@ -1,5 +1,5 @@
 -- What loading and reading a program or a graph gives.
-use Rattle.std.specs.Prelude.{◌≡◌, ◌⊎◌, ℕ, List, Option, Some, None, Result, Ok, Err}
+use Rattle.std.specs.Prelude.{◌≡◌, ◌⊎◌, ℕ, List, Option, None, Result, Ok, Err}
 use Rattle.edge_reader.specs.declared.edges.Edges.{Edges}
 use Rattle.edge_reader.specs.Gives.{graph_of_edges}
 use Rattle.symple_face.specs.Causes.{Rose}

@@ -1,6 +1,5 @@
 -- The status of each failure, and the line that tells of it.
 use Rattle.std.specs.Prelude.{ℕ, List, ◌++◌, codes, decimal}
-use Rattle.vert_base.specs.declared.text.Span.{Span}
 use Rattle.symple_run.specs.declared.status.Status.{Status}
 use Rattle.symple_run.specs.declared.status.Status.TheVariants as status
 use Rattle.program_reader.specs.declared.refusal.Stage.{Stage}

@@ -1,18 +1,23 @@
 -- What the commands put.
-use Rattle.std.specs.Prelude.{ℕ, ◌<◌, ◌^◌, ◌+◌, Bool, List, [], ◌∷◌, ◌++◌, codes, decimal, flat_map, length, map, slice_index, sum, if◌then◌else◌}
+use Rattle.std.specs.Prelude.{ℕ, ◌<◌, ◌^◌, ◌+◌, List, [], ◌∷◌, ◌++◌, Option, None, Some, codes, decimal, flat_map, length, map, slice_get, slice_index, sum, if◌then◌else◌}
 use Rattle.std.specs.List.{All, range_with_len}
+use Rattle.array_text.specs.Reads.{read_head_text, sources_text}
 use Rattle.array_text.specs.Rounds.{round_text}
-use Rattle.array_text.specs.Tables.{table_text}
+use Rattle.array_text.specs.Tables.{bytes_of, table_text}
 use Rattle.circulant_plan.specs.Ring.{chunk_of}
 use Rattle.chunk_split.specs.Bounds.{ends_of}
 use Rattle.chunk_split.specs.Chunks.{start_of}
 use Rattle.edge_reader.specs.EdgeList as edges
+use Rattle.order_free.specs.declared.freedom.Freedom.{Freedom}
+use Rattle.order_free.specs.declared.freedom.Freedom.TheVariants.{NoLoop, Reductions, FoundOne, ReachACount, FirstSlot, OtherLoop}
+use Rattle.order_free.specs.Free.{freedom_of}
 use Rattle.symple_run.specs.Lines.{RunWords}
-use Rattle.plain_run.specs.declared.rounds.PlayedRound.{PlayedRound}
-use Rattle.plain_run.specs.Told.{Told, rounds_told, told_of}
+use Rattle.plain_run.specs.Told.{Told, rounds_told}
+use Rattle.symple_words.specs.declared.line.Lines.{Lines}
 use Rattle.vert_base.specs.declared.value.Row.{Row}
 use Rattle.vert_eval.specs.SourceRun.{Job, Run, source_run}
 use Rattle.vert_tree.specs.declared.program.Program.{Program}
+use Rattle.vert_tree.specs.declared.program.SlotDecl.{SlotDecl}
 
 -- the run of a program on a graph that is cut into chunks, one for each machine
 abbrev pub job_of : ℕ → ℕ → Program → edges.Graph → Job
@@ -22,22 +27,33 @@ job_of machines draws program graph = record {
   draws = draws;
 }
 
--- the line of a round that took place, with the sources that were read in it
+-- the line of a round that took place, with the number of sources that were read in it
 abbrev pub told_text : Told → List ℕ
 told_text told = round_text told.round told.ruling told.active told.edges (sum (map length told.reads))
 
-abbrev pub played_text : PlayedRound → List ℕ
-played_text played = told_text (told_of played)
+-- the line of a vertex and the sources that it read, where there are any
+abbrev pub read_line : ℕ → ℕ → List ℕ → List ℕ
+read_line round v [] = []
+read_line round v (u ∷ us) = read_head_text round v ++ (sources_text (u ∷ us) ++ codes "\n")
 
--- under `--rounds` the lines of the rounds, and then the table of the last rows
-abbrev pub told_run : Bool → Program → List Told → List Row → List ℕ
-told_run rounds program tolds rows = (if rounds then flat_map told_text tolds else []) ++ table_text program rows
+-- the lines of the vertices from v on
+abbrev pub read_lines : ℕ → ℕ → List (List ℕ) → List ℕ
+read_lines round v [] = []
+read_lines round v (us ∷ others) = read_line round v us ++ read_lines round (v + 1) others
 
-abbrev pub text_of_run : Bool → Program → Run → List ℕ
-text_of_run rounds program run = told_run rounds program (rounds_told run) run.last.rows
+-- what is asked for of the lines of a round: `--rounds`, and then `--reads`
+abbrev pub told_lines : Lines → Told → List ℕ
+told_lines lines told = (if lines.rounds then told_text told else []) ++ (if lines.reads then read_lines told.round 0 told.reads else [])
+
+-- the lines of the rounds, and then the table of the last rows
+abbrev pub told_run : Lines → Program → List Told → List Row → List ℕ
+told_run lines program tolds rows = flat_map (told_lines lines) tolds ++ table_text program rows
+
+abbrev pub text_of_run : Lines → Program → Run → List ℕ
+text_of_run lines program run = told_run lines program (rounds_told run) run.last.rows
 
 abbrev pub run_text : RunWords → Program → edges.Graph → List ℕ
-run_text r program graph = text_of_run r.rounds program (source_run (job_of r.machines r.draws program graph))
+run_text r program graph = text_of_run r.lines program (source_run (job_of r.machines r.draws program graph))
 
 abbrev pub chunk_text : ℕ → ℕ → ℕ → List ℕ
 chunk_text chunk start end = codes "chunk " ++ decimal chunk ++ codes " " ++ decimal start ++ codes " " ++ decimal end ++ codes "\n"
@@ -68,9 +84,27 @@ plan_lines ends = chunks_text ends ++ steps_text (length ends)
 abbrev pub plan_text : ℕ → edges.Graph → List ℕ
 plan_text machines graph = plan_lines (ends_of machines graph.vertices graph.list)
 
--- a u64 counts the sources that a round read
-abbrev pub IsFew : Told → Type 0
-IsFew told = sum (map length told.reads) < 2 ^ 64
+-- the name of a slot, where there is one
+abbrev pub slot_name : Program → Option SlotDecl → List ℕ
+slot_name p None = []
+slot_name p (Some slot) = bytes_of (slice_get p.names.items slot.name.name)
+
+-- what `free` tells of a program for which it gives this answer
+abbrev pub freedom_text : Program → Freedom → List ℕ
+freedom_text p NoLoop = codes "free no-loop\n"
+freedom_text p Reductions = codes "free reductions\n"
+freedom_text p FoundOne = codes "free found-one\n"
+freedom_text p ReachACount = codes "free reach-a-count\n"
+freedom_text p (FirstSlot slot) = codes "not free: first slot " ++ (slot_name p (slice_get p.slots.items slot) ++ codes "\n")
+freedom_text p OtherLoop = codes "not free: loop\n"
+
+abbrev pub free_text : Program → List ℕ
+free_text p = freedom_text p (freedom_of p)
+
+-- a u64 counts the sources that a round read, and a u32 its vertices
+pub record IsFew (told : Told) : Type 0 where
+  pub sources : sum (map length told.reads) < 2 ^ 64
+  pub vertices : length told.reads < 2 ^ 32
 
 abbrev pub AreFew : List Told → Type 0
 AreFew tolds = All IsFew tolds

@@ -2,7 +2,7 @@
 use Rattle.std.specs.Prelude.{◌≡◌, Result, Ok, Err}
 use Rattle.std.specs.String.{string_bytes}
 use Rattle.symple_run.specs.declared.command.Command.{Command}
-use Rattle.symple_run.specs.declared.command.Command.TheVariants.{Run, Plan}
+use Rattle.symple_run.specs.declared.command.Command.TheVariants.{Run, Plan, Show, Free}
 use Rattle.symple_run.specs.declared.command.RunLine.{RunLine}
 use Rattle.symple_run.specs.declared.command.PlanLine.{PlanLine}
 use Rattle.symple_run.specs.Lines as line
@@ -19,6 +19,8 @@ plan_view p = record { graph = string_bytes p.graph; form = p.form; machines = p
 abbrev pub command_view : Command → line.Line
 command_view (Run r) = line.RunOf (run_view r)
 command_view (Plan p) = line.PlanOf (plan_view p)
+command_view (Show name) = line.ShowOf (string_bytes name)
+command_view (Free name) = line.FreeOf (string_bytes name)
 
 abbrev pub LineReads : line.Line → Result Command WordFault → Type 0
 LineReads words (Ok command) = words ≡ command_view command

@@ -1,5 +1,5 @@
 -- What a line asks of the files that it names: a refusal, or a text to put.
-use Rattle.std.specs.Prelude.{◌≡◌, ℕ, List, map, Option, Some, None, Result, Ok, Err, if◌then◌else◌}
+use Rattle.std.specs.Prelude.{◌≡◌, ℕ, List, Option, Some, None, Result, Ok, Err, if◌then◌else◌}
 use Rattle.edge_reader.specs.declared.fault.EdgeFault.{EdgeFault}
 use Rattle.edge_reader.specs.declared.fault.EdgeFault.TheVariants.{Line as AtLine, Byte as AtByte, Want as EdgeWant}
 use Rattle.edge_reader.specs.EdgeList.{Graph}
@@ -9,7 +9,8 @@ use Rattle.symple_face.specs.Files.{File, file_named}
 use Rattle.program_reader.specs.declared.refusal.Refusal.{Refusal}
 use Rattle.symple_run.specs.Lines as line
 use Rattle.symple_run.specs.Notes.{Fault, NoCommand, BadWords, NoLoad, BadProgram, BadLine, BadByte, NoMemory}
-use Rattle.symple_run.specs.Outputs.{plan_text, run_text}
+use Rattle.instrument.specs.Shown.{shown}
+use Rattle.symple_run.specs.Outputs.{free_text, plan_text, run_text}
 use Rattle.program_reader.specs.Accepted.{Refuses, Says}
 use Rattle.symple_words.specs.declared.line.GraphForm.{GraphForm}
 use Rattle.vert_tree.specs.declared.program.Program.{Program}
@@ -53,24 +54,50 @@ abbrev pub of_graph : Result Graph Fault → (Graph → List ℕ) → Verdict
 of_graph (Ok graph) text = Puts (text graph)
 of_graph (Err fault) text = Fails fault
 
--- the program is judged before the graph is looked at
-abbrev pub run_verdict : line.RunWords → Judgement → Option (List ℕ) → Verdict
-run_verdict r Absent graph = Fails (NoLoad r.program)
-run_verdict r (Refused refusal) graph = Fails (BadProgram refusal)
-run_verdict r (Accepted program) graph = of_graph (graph_in r.form r.graph graph) (run_text r program)
+-- what is asked of a program, where a text says one
+abbrev pub of_program : List ℕ → Judgement → (Program → Verdict) → Verdict
+of_program name Absent rest = Fails (NoLoad name)
+of_program name (Refused refusal) rest = Fails (BadProgram refusal)
+of_program name (Accepted program) rest = rest program
+
+abbrev pub run_verdict : line.RunWords → Option (List ℕ) → Program → Verdict
+run_verdict r graph program = of_graph (graph_in r.form r.graph graph) (run_text r program)
 
 abbrev pub plan_verdict : line.PlanWords → Option (List ℕ) → Verdict
 plan_verdict l graph = of_graph (graph_in l.form l.graph graph) (plan_text l.machines)
 
--- what a line asks, given what stands under the names of the program and of the graph
-abbrev pub Asks : line.Line → Option (List ℕ) → Option (List ℕ) → Verdict → Type 0
-Asks line.NoCommand program graph verdict = verdict ≡ Fails NoCommand
-Asks line.BadWords program graph verdict = verdict ≡ Fails BadWords
-Asks (line.RunOf r) program graph verdict = (judgement : Judgement) × Judged program judgement × (verdict ≡ run_verdict r judgement graph)
-Asks (line.PlanOf l) program graph verdict = verdict ≡ plan_verdict l graph
+abbrev pub show_verdict : Program → Verdict
+show_verdict program = Puts (shown program)
+
+abbrev pub free_verdict : Program → Verdict
+free_verdict program = Puts (free_text program)
+
+-- what stands under the names of a line, where it names such files
+pub record Found : Type 0 where
+  pub program : Option (List ℕ)
+  pub graph : Option (List ℕ)
+
+-- a program is judged before anything else is looked at
+abbrev pub AsksProgram : List ℕ → (Program → Verdict) → Option (List ℕ) → Verdict → Type 0
+AsksProgram name rest file verdict = (judgement : Judgement) × Judged file judgement × (verdict ≡ of_program name judgement rest)
+
+-- what a line asks, given what stands under its names
+abbrev pub Asks : line.Line → Found → Verdict → Type 0
+Asks line.NoCommand found verdict = verdict ≡ Fails NoCommand
+Asks line.BadWords found verdict = verdict ≡ Fails BadWords
+Asks (line.RunOf r) found verdict = AsksProgram r.program (run_verdict r found.graph) found.program verdict
+Asks (line.PlanOf l) found verdict = verdict ≡ plan_verdict l found.graph
+Asks (line.ShowOf name) found verdict = AsksProgram name show_verdict found.program verdict
+Asks (line.FreeOf name) found verdict = AsksProgram name free_verdict found.program verdict
+
+-- what stands under the names of a line, of the files of a shelf
+abbrev pub found_in : List File → line.Line → Found
+found_in files (line.RunOf r) = record { program = file_named r.program files; graph = file_named r.graph files }
+found_in files (line.PlanOf l) = record { program = None; graph = file_named l.graph files }
+found_in files (line.ShowOf name) = record { program = file_named name files; graph = None }
+found_in files (line.FreeOf name) = record { program = file_named name files; graph = None }
+found_in files _ = record { program = None; graph = None }
 
 -- what a line asks over the files of a shelf
 abbrev pub AsksOver : List File → line.Line → Verdict → Type 0
-AsksOver files (line.RunOf r) verdict = Asks (line.RunOf r) (file_named r.program files) (file_named r.graph files) verdict
-AsksOver files (line.PlanOf l) verdict = Asks (line.PlanOf l) None (file_named l.graph files) verdict
-AsksOver files words verdict = Asks words None None verdict
+AsksOver files words verdict = Asks words (found_in files words) verdict

@@ -26,4 +26,8 @@ pub(crate) struct PlanLine {
 pub(crate) enum Command {
     Run(RunLine),
     Plan(PlanLine),
+    /// Of the program of this name.
+    Show(String),
+    /// Of the program of this name.
+    Free(String),
 }

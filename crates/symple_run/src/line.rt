@@ -13,7 +13,7 @@ use symple_words::{Job, Line, WordFault, read_words};
 fn is_command(word: &str) -> bool
     ensures { result ≡ is_command word.now }
 {
-    word == "run" || word == "plan"
+    word == "run" || word == "plan" || word == "show" || word == "free"
 }
 
 /// Reads the words behind the program's own name.
@@ -53,6 +53,8 @@ fn asked(line: Line) -> Result<Command, WordFault>
             form,
             machines,
         })),
+        Line::ShowLine { program } => Ok(Command::Show(program)),
+        Line::FreeLine { program } => Ok(Command::Free(program)),
         _ => Err(WordFault::Command),
     }
 }
@@ -63,7 +65,7 @@ fn run_asked(job: Job, machines: u8) -> Result<Command, WordFault>
     requires few { AreMachines machines }
     ensures { LineReads (run_asked (job_view job) machines None) result }
 {
-    if job.lines.reads || job.lines.log {
+    if job.lines.log {
         return Err(WordFault::Words);
     }
     Ok(Command::Run(RunLine { job, machines }))

@@ -5,19 +5,17 @@ mod command;
 mod counts;
 mod failure;
 mod files;
+mod freedom;
 mod line;
 mod outside;
 mod pieces;
 mod plan;
 mod read;
 mod rounds;
+mod show;
 mod status;
 mod streams;
 mod table;
-#[cfg(test)]
-mod test_cases;
-#[cfg(test)]
-mod test_programs;
 #[cfg(test)]
 mod tests;
 mod top;

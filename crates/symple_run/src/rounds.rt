@@ -1,21 +1,27 @@
-ghost use Rattle.std.specs.Prelude.{◌≡◌, ◌<◌, ◌^◌, flat_map, length};
+ghost use Rattle.std.specs.Prelude.{◌≡◌, ◌<◌, ◌^◌, [], flat_map, if◌then◌else◌, length, map};
 ghost use Rattle.std.specs.List.{All, sum_by};
 ghost use Rattle.array_text.specs.Writes.{Writes};
+ghost use Rattle.plain_run.specs.Lists.{id_lists_of, ids_of};
 ghost use Rattle.plain_run.specs.Told.{told_of};
-ghost use Rattle.symple_run.specs.Outputs.{IsFew, played_text};
+ghost use Rattle.symple_run.specs.Outputs.{IsFew, read_line, read_lines, told_lines, told_text};
 
-use array_text::write_round;
+use array_text::{put_all, write_read_head, write_reads, write_round};
 use plain_run::PlayedRound;
 use symple_face::{Report, Sink, SinkFault};
+use symple_words::Lines;
 use vert_base::VertexId;
 
-/// Puts a line for each round.
-pub(crate) fn write_rounds<O: Sink>(rounds: &[PlayedRound], out: &mut O) -> Result<(), SinkFault>
+/// Puts the lines of each round that are asked for.
+pub(crate) fn write_rounds<O: Sink>(
+    lines: &Lines,
+    rounds: &[PlayedRound],
+    out: &mut O,
+) -> Result<(), SinkFault>
     requires { All (λ r. IsFew (told_of r)) rounds.now }
-    ensures { Writes O.held O.faults O.spare out.old out.new (flat_map played_text rounds.now) result }
+    ensures { Writes O.held O.faults O.spare out.old out.new (flat_map (λ r. told_lines lines.now (told_of r)) rounds.now) result }
 {
     'rounds: for played in rounds {
-        match write_played(played, out) {
+        match write_played(lines, played, out) {
             Ok(()) => {}
             Err(fault) => return Err(fault),
         }
@@ -23,10 +29,25 @@ pub(crate) fn write_rounds<O: Sink>(rounds: &[PlayedRound], out: &mut O) -> Resu
     Ok(())
 }
 
-fn write_played<O: Sink>(played: &PlayedRound, out: &mut O) -> Result<(), SinkFault>
+/// Puts the line of a round and then its read lines, as they are asked for.
+fn write_played<O: Sink>(lines: &Lines, played: &PlayedRound, out: &mut O) -> Result<(), SinkFault>
     requires { IsFew (told_of played.now) }
-    ensures { Writes O.held O.faults O.spare out.old out.new (played_text played.now) result }
+    ensures { Writes O.held O.faults O.spare out.old out.new (told_lines lines.now (told_of played.now)) result }
 {
+    match write_report(lines.rounds, played, out) {
+        Ok(()) => write_sources(lines.reads, played, out),
+        Err(fault) => Err(fault),
+    }
+}
+
+/// Puts the line of a round, where it is asked for.
+fn write_report<O: Sink>(asked: bool, played: &PlayedRound, out: &mut O) -> Result<(), SinkFault>
+    requires { IsFew (told_of played.now) }
+    ensures { Writes O.held O.faults O.spare out.old out.new (if asked then told_text (told_of played.now) else []) result }
+{
+    if !asked {
+        return Ok(());
+    }
     let report = Report {
         round: played.round,
         ruling: played.ruling,
@@ -35,6 +56,17 @@ fn write_played<O: Sink>(played: &PlayedRound, out: &mut O) -> Result<(), SinkFa
         reads: count_reads(&played.reads),
     };
     write_round(&report, out)
+}
+
+/// Puts the read lines of a round, where they are asked for.
+fn write_sources<O: Sink>(asked: bool, played: &PlayedRound, out: &mut O) -> Result<(), SinkFault>
+    requires { IsFew (told_of played.now) }
+    ensures { Writes O.held O.faults O.spare out.old out.new (if asked then read_lines played.now.round 0 (id_lists_of played.now.reads) else []) result }
+{
+    if !asked {
+        return Ok(());
+    }
+    write_read_lines(played.round, &played.reads, out)
 }
 
 /// How many sources were read, by all vertices.
@@ -47,4 +79,38 @@ fn count_reads(reads: &[Vec<VertexId>]) -> u64
         count += sources.len() as u64;
     }
     count
+}
+
+/// Puts a line for each vertex that read others.
+fn write_read_lines<O: Sink>(
+    round: u32,
+    reads: &[Vec<VertexId>],
+    out: &mut O,
+) -> Result<(), SinkFault>
+    requires { length reads.now < 2 ^ 32 }
+    ensures { Writes O.held O.faults O.spare out.old out.new (read_lines round 0 (map (λ v. ids_of v.items) reads.now)) result }
+{
+    'vertices: for (v, sources) in reads.iter().enumerate() {
+        match write_read_line(round, VertexId(v as u32), sources, out) {
+            Ok(()) => {}
+            Err(fault) => return Err(fault),
+        }
+    }
+    Ok(())
+}
+
+fn write_read_line<O: Sink>(
+    round: u32,
+    v: VertexId,
+    sources: &[VertexId],
+    out: &mut O,
+) -> Result<(), SinkFault>
+    ensures { Writes O.held O.faults O.spare out.old out.new (read_line round v.0 (ids_of sources.now)) result }
+{
+    if sources.is_empty() {
+        return Ok(());
+    }
+    write_read_head(round, v, out)?;
+    write_reads(sources, out)?;
+    put_all(out, b"\n")
 }

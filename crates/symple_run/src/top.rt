@@ -4,8 +4,9 @@ ghost use Rattle.edge_reader.specs.Gives.{graph_of_edges};
 ghost use Rattle.symple_face.specs.Causes.{Rose};
 ghost use Rattle.symple_face.specs.Files.{File};
 ghost use Rattle.symple_run.specs.Answers.{Answers};
-ghost use Rattle.symple_run.specs.Endings.{CutsInto, EndsBy, Plays};
-ghost use Rattle.symple_run.specs.Lines.{Line, PlanOf, RunOf, line_of};
+ghost use Rattle.symple_run.specs.Endings.{CutsInto, EndsBy, Plays, failure_for};
+ghost use Rattle.symple_run.specs.Freedom.{FreeAnswer};
+ghost use Rattle.symple_run.specs.Lines.{FreeOf, Line, PlanOf, RunOf, line_of};
 ghost use Rattle.symple_run.specs.Notes.{Fault, status_of};
 ghost use Rattle.symple_run.specs.Outputs.{plan_text, run_text};
 ghost use Rattle.symple_run.specs.Reads.{LineReads, plan_view, run_view};
@@ -14,20 +15,23 @@ ghost use Rattle.symple_words.specs.Ranges.{AreMachines};
 
 use crate::command::{Command, PlanLine, RunLine};
 use crate::failure::{Failure, write_note};
+use crate::freedom::tell_freedom;
 use crate::line::read_line;
 use crate::plan::write_plan;
 use crate::read::{load_graph, load_program};
+use crate::show::show_program;
 use crate::status::Status;
 use crate::table::write_run;
 use chunk_split::{Cuts, cuts_of};
 use edge_reader::Edges;
 use graph_table::Table;
+use instrument::{Split, split_of};
+use order_free::order_free_programs;
 use plain_run::run_plainly;
 use std::alloc::Global;
 use symple_face::{Shelf, Sink, Source};
 use symple_words::WordFault;
 use vert_base::limits::MACHINES;
-use vert_tree::Typed;
 
 /// The chunks of a graph for so many machines.
 fn chunks(alloc: Global, edges: &Edges, machines: u8) -> Result<Cuts<MACHINES>, Failure<'static>>
@@ -61,18 +65,18 @@ fn run<'a, H: Shelf, O: Sink>(
         Ok(edges) => edges,
         Err(failure) => return Err(failure),
     };
-    play(alloc, line, &typed, &edges, out)
+    play(alloc, line, &split_of(typed), &edges, out)
 }
 
 /// Plays the program on the graph, cut into chunks, and puts what is asked of the run.
 fn play<O: Sink>(
     alloc: Global,
     line: &RunLine,
-    typed: &Typed,
+    split: &Split,
     edges: &Edges,
     out: &mut O,
 ) -> Result<(), Failure<'static>>
-    ensures { Plays (run_text (run_view line.now) typed.now.program (graph_of_edges edges.now))
+    ensures { Plays (run_text (run_view line.now) split.now.program.program (graph_of_edges edges.now))
         (record { held = O.held out.old; held_after = O.held out.new; faults = O.faults out.old; faults_after = O.faults out.new }) result }
 {
     let cuts = match chunks(alloc, edges, line.machines) {
@@ -80,10 +84,17 @@ fn play<O: Sink>(
         Err(failure) => return Err(failure),
     };
     let (vertices, draws) = (edges.vertices, line.job.draws);
-    let Ok(played) = run_plainly(alloc, typed, vertices, &edges.list, cuts.ends(), draws) else {
+    let Ok(played) = run_plainly(
+        alloc,
+        &split.program,
+        vertices,
+        &edges.list,
+        cuts.ends(),
+        draws,
+    ) else {
         return Err(Failure::Memory);
     };
-    match write_run(typed, &played, line.job.lines.rounds, out) {
+    match write_run(split, &played, &line.job.lines, out) {
         Ok(()) => Ok(()),
         Err(_) => Err(Failure::Write),
     }
@@ -145,9 +156,19 @@ fn perform<'a, H: Shelf, O: Sink>(
     match line {
         Ok(Command::Run(line)) => run(alloc, line, shelf, out),
         Ok(Command::Plan(line)) => plan(alloc, line, shelf, out),
-        Err(WordFault::Command) => Err(Failure::Command),
-        Err(WordFault::Words) => Err(Failure::Words),
-        Err(WordFault::Want) => Err(Failure::Memory),
+        Ok(Command::Show(program)) => show_program(alloc, program, shelf, out),
+        Ok(Command::Free(program)) => tell_freedom(alloc, program, shelf, out),
+        Err(fault) => Err(failure_for(*fault)),
+    }
+}
+
+fn failure_for(fault: WordFault) -> Failure<'static>
+    ensures { result ≡ failure_for fault }
+{
+    match fault {
+        WordFault::Command => Failure::Command,
+        WordFault::Words => Failure::Words,
+        WordFault::Want => Failure::Memory,
     }
 }
 
@@ -177,11 +198,17 @@ pub fn symple<H: Shelf, I: Source, O: Sink, N: Sink>(
         → ¬ (Rose (H.loads shelf.old) (H.loads shelf.new)) → ¬ (Rose (O.faults out.old) (O.faults out.new))
         → (result ≡ Status.Done) ⊎ (result ≡ Status.Memory) }
 
+    // The runs of a program that `free` calls free are alike at all machine counts, but for their reads.
+    ensures free { (name : List ℕ) → line_of (map string_bytes words.now) ≡ FreeOf name → result ≡ Status.Done
+        → FreeAnswer (H.files shelf.old) name
+        (record { held = O.held out.old; held_after = O.held out.new; faults = O.faults out.old; faults_after = O.faults out.new }) }
+
     ensures files { H.files shelf.new ≡ H.files shelf.old }
     ensures stores { H.stores shelf.new ≡ H.stores shelf.old }
     ensures loads { H.loads shelf.old ≤ H.loads shelf.new }
     ensures input { input.new ≡ input.old }
 {
+    order_free_programs();
     let line = read_line(alloc, words);
     match perform(alloc, &line, shelf, out) {
         Ok(()) => Status::Done,

@@ -1,4 +1,4 @@
-use Rattle.std.proofs.Common.{◌≡◌, List, ℕ, Some, subst, Ok, Err, ap, ◌∙◌}
+use Rattle.std.proofs.Common.{List, ℕ, Some, subst, Ok, Err, ap, ◌∙◌}
 use Rattle.edge_reader.specs.declared.fault.EdgeFault.{EdgeFault}
 use Rattle.edge_reader.specs.declared.fault.EdgeFault.TheVariants.{Byte, Line}
 use Rattle.edge_reader.specs.Gives.{Gives}

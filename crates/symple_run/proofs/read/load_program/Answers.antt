@@ -1,4 +1,4 @@
-use Rattle.std.proofs.Common.{◌≡◌, List, ℕ, Some, subst, Ok, Err, ap, ◌∙◌}
+use Rattle.std.proofs.Common.{List, ℕ, Some, subst, Ok, Err, ap, ◌∙◌}
 use Rattle.program_reader.specs.declared.refusal.ProgramFault.{ProgramFault}
 use Rattle.program_reader.specs.declared.refusal.ProgramFault.TheVariants.{Refused}
 use Rattle.program_reader.specs.Answers.{ReadsProgram}

@@ -1,12 +1,16 @@
-use Rattle.std.proofs.Common.{Err, refl, ap, arith}
-use Rattle.symple_run.specs.Outputs.{played_text}
-use Rattle.symple_run.proofs.TextLaws.{all_put, one_failed, one_more}
+use Rattle.std.proofs.Common.{List, ℕ, Err, refl, ap, arith}
+use Rattle.plain_run.specs.declared.rounds.PlayedRound.{PlayedRound}
+use Rattle.plain_run.specs.Told.{told_of}
+use Rattle.symple_run.specs.Outputs.{told_lines}
+use Rattle.symple_run.proofs.TextLaws.{one_failed, one_more}
 use Rattle.symple_run.proofs.rounds.write_rounds.Goals as goal
 
 pub returns-in-Err : goal.returns-in-Err
 returns-in-Err g c =
-    one_failed played_text c.args.rounds.now c.rounds.played-index c.played-item.result (omega arith) (ap played_text c.played-item.is) c.rounds.invariant (Err c.in-Err.fault) refl c.in-Err.ensures
+    let text : PlayedRound → List ℕ = λ r. told_lines c.args.lines.now (told_of r) in
+    one_failed text c.args.rounds.now c.rounds.played-index c.played-item.result (omega arith) (ap text c.played-item.is) c.rounds.invariant (Err c.in-Err.fault) refl c.in-Err.ensures
 
 pub rounds-preserved : goal.rounds-preserved
 rounds-preserved g c =
-    one_more played_text c.args.rounds.now c.rounds.played-index c.played-item.result (omega arith) (ap played_text c.played-item.is) c.rounds.invariant c.in-Ok.ensures
+    let text : PlayedRound → List ℕ = λ r. told_lines c.args.lines.now (told_of r) in
+    one_more text c.args.rounds.now c.rounds.played-index c.played-item.result (omega arith) (ap text c.played-item.is) c.rounds.invariant c.in-Ok.ensures

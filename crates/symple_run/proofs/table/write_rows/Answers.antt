@@ -1,20 +1,23 @@
-use Rattle.std.proofs.Common.{◌+◌, drop, arith, refl, Err}
-use Rattle.array_text.specs.Tables.{rows_text}
+use Rattle.std.proofs.Common.{◌+◌, drop, ap, arith, refl, Err}
+use Rattle.array_text.specs.Tables.{row_text, rows_text}
 use Rattle.array_text.proofs.WritesLaws.{writes_same, writes_failed, writes_then}
-use Rattle.symple_run.proofs.RowsLaws.{first_rows_split, first_rows_more}
+use Rattle.symple_run.proofs.NumberedLaws.{numbered_more, numbered_split}
+use Rattle.symple_run.proofs.RoundLaws.{rows_numbered}
 use Rattle.symple_run.proofs.table.write_rows.Goals as goal
 
 pub returns-in-Err : goal.returns-in-Err
 returns-in-Err g c =
-    let p = c.args.typed.now.program in
+    let p = c.args.split.now.program.program in
     let rows = c.args.rows.now in
     let i = c.loop-v.v in
     writes_same
-    (first_rows_split p rows i c.index-rows-v.result (omega arith) c.index-rows-v.is)
+    (numbered_split (rows_numbered p) rows i c.index-rows-v.result (row_text p i c.index-rows-v.result) (omega arith) (ap (row_text p i) c.index-rows-v.is))
     (writes_failed (rows_text p (i + 1) (drop (i + 1) rows)) (Err c.in-Err.fault) refl (writes_then _ c.loop-v.invariant c.in-Err.ensures))
 
 pub loop-v-preserved : goal.loop-v-preserved
 loop-v-preserved g c =
+    let p = c.args.split.now.program.program in
+    let i = c.loop-v.v in
     writes_same
-    (first_rows_more c.args.typed.now.program c.args.rows.now c.loop-v.v c.index-rows-v.result (omega arith) c.index-rows-v.is)
+    (numbered_more (rows_numbered p) c.args.rows.now i c.index-rows-v.result (row_text p i c.index-rows-v.result) (omega arith) (ap (row_text p i) c.index-rows-v.is))
     (writes_then _ c.loop-v.invariant c.in-Ok.ensures)

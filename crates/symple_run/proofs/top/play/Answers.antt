@@ -8,5 +8,5 @@ use Rattle.symple_run.proofs.top.play.Goals as goal
 pub write_run-requires-clause-reads : goal.write_run-requires-clause-reads
 write_run-requires-clause-reads g c =
     let P : List Told → Type 0 = λ tolds. AreFew tolds in
-    let job = plain_job c.args.typed.now.program c.args.edges.now.vertices c.ends.result.now c.deref.result.now c.args.line.now.job.draws in
+    let job = plain_job c.args.split.now.program.program c.args.edges.now.vertices c.ends.result.now c.deref.result.now c.args.line.now.job.draws in
     subst P (sym c.in-Ok-run_plainly.ensures.rounds) (run_few job (record { vertices = search rules; edges = search rules; below = search rules }))

@@ -1,0 +1,85 @@
+ghost use Rattle.std.specs.Prelude.{◌≡◌, ◌≤◌, slice_get};
+ghost use Rattle.array_text.specs.Tables.{bytes_of};
+ghost use Rattle.array_text.specs.Writes.{Writes};
+ghost use Rattle.order_free.specs.declared.freedom.Freedom.TheVariants.{FirstSlot};
+ghost use Rattle.symple_run.specs.Endings.{EndsBy, Plays};
+ghost use Rattle.symple_run.specs.Lines.{FreeOf};
+ghost use Rattle.symple_run.specs.Outputs.{free_text, freedom_text, slot_name};
+
+use crate::failure::Failure;
+use crate::read::load_program;
+use array_text::{put_all, put_pieces};
+use instrument::{Split, split_of};
+use order_free::{Freedom, free};
+use std::alloc::Global;
+use symple_face::{Shelf, Sink, SinkFault};
+use vert_tree::Program;
+
+/// Puts whether the rows of the program of that name depend on the order of neighbours.
+pub(crate) fn tell_freedom<'a, H: Shelf, O: Sink>(
+    alloc: Global,
+    name: &'a str,
+    shelf: &mut H,
+    out: &mut O,
+) -> Result<(), Failure<'a>>
+    ensures ends { EndsBy (H.files shelf.old) (FreeOf name.now) (H.loads shelf.old) (H.loads shelf.new)
+        (record { held = O.held out.old; held_after = O.held out.new; faults = O.faults out.old; faults_after = O.faults out.new }) result }
+    ensures files { H.files shelf.new ≡ H.files shelf.old }
+    ensures stores { H.stores shelf.new ≡ H.stores shelf.old }
+    ensures loads { H.loads shelf.old ≤ H.loads shelf.new }
+{
+    let typed = match load_program(alloc, shelf, name) {
+        Ok(typed) => typed,
+        Err(failure) => return Err(failure),
+    };
+    put_freedom(&split_of(typed), out)
+}
+
+fn put_freedom<O: Sink>(split: &Split, out: &mut O) -> Result<(), Failure<'static>>
+    ensures { Plays (free_text split.now.program.program)
+        (record { held = O.held out.old; held_after = O.held out.new; faults = O.faults out.old; faults_after = O.faults out.new }) result }
+{
+    let freedom = free(split);
+    match write_freedom(&split.program.program, freedom, out) {
+        Ok(()) => Ok(()),
+        Err(_) => Err(Failure::Write),
+    }
+}
+
+fn write_freedom<O: Sink>(program: &Program, freedom: Freedom, out: &mut O) -> Result<(), SinkFault>
+    ensures { Writes O.held O.faults O.spare out.old out.new (freedom_text program.now freedom) result }
+{
+    match freedom {
+        Freedom::NoLoop => put_all(out, b"free no-loop\n"),
+        Freedom::Reductions => put_all(out, b"free reductions\n"),
+        Freedom::FoundOne => put_all(out, b"free found-one\n"),
+        Freedom::ReachACount => put_all(out, b"free reach-a-count\n"),
+        Freedom::FirstSlot(slot) => write_first_slot(program, slot, out),
+        Freedom::OtherLoop => put_all(out, b"not free: loop\n"),
+    }
+}
+
+fn write_first_slot<O: Sink>(program: &Program, slot: u8, out: &mut O) -> Result<(), SinkFault>
+    ensures { Writes O.held O.faults O.spare out.old out.new (freedom_text program.now (FirstSlot slot)) result }
+{
+    let pieces = [b"not free: first slot ", name_of_slot(program, slot), b"\n"];
+    put_pieces(out, &pieces)
+}
+
+fn name_of_slot(program: &Program, slot: u8) -> &[u8]
+    ensures { result.now ≡ slot_name program.now (slice_get program.now.slots.items slot) }
+{
+    match program.slots.get(usize::from(slot)) {
+        Some(slot) => text_of(program, slot.name.name),
+        None => b"",
+    }
+}
+
+fn text_of(program: &Program, name: u32) -> &[u8]
+    ensures { result.now ≡ bytes_of (slice_get program.now.names.items name) }
+{
+    match program.names.get(name as usize) {
+        Some(text) => text.as_bytes(),
+        None => b"",
+    }
+}
