@@ -14,6 +14,3 @@ pub use edges::Edges;
 pub use fault::EdgeFault;
 pub use pairs::read_pairs;
 pub use text::read_text;
-
-#[cfg(test)]
-mod tests;

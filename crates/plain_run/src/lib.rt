@@ -16,6 +16,3 @@ mod start;
 mod totals;
 
 pub use rounds::{PlainRun, PlayedRound, run_plainly};
-
-#[cfg(test)]
-mod tests;

@@ -21,6 +21,3 @@ mod words;
 pub use fault::WordFault;
 pub use line::{GraphForm, Job, Line, Lines};
 pub use words::read_words;
-
-#[cfg(test)]
-mod tests;

@@ -10,4 +10,3 @@ pub mod Turns
 pub mod Renames
 pub mod Within
 pub mod Named
-pub mod SmallTokens

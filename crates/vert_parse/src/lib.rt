@@ -16,8 +16,6 @@ mod renaming;
 mod rights;
 mod sign;
 mod statement;
-#[cfg(test)]
-mod tests;
 
 pub use fault::ParseFault;
 pub use parsing::parse;

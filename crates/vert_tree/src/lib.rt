@@ -6,8 +6,6 @@ mod name;
 mod print;
 mod program;
 mod statement;
-#[cfg(test)]
-mod tests;
 mod typed;
 
 pub use expression::{BinOp, Builtin, Expr, Node};

@@ -1,11 +1,11 @@
-use crate::{ParseFault, parse};
 use std::alloc::{AllocError, Global};
 use std::test::Fail;
 use vert_lex::{end_of, lex};
+use vert_parse::{ParseFault, parse};
 use vert_tree::{BinOp, Expr, Ident, Node, Program};
 
 /// The answer for a text: none where it has no tokens.
-fn read(alloc: Global, text: &[u8]) -> Option<Result<Program, ParseFault>> {
+pub(crate) fn read(alloc: Global, text: &[u8]) -> Option<Result<Program, ParseFault>> {
     match lex(alloc, text) {
         Ok(tokens) => {
             let end = end_of(text);

@@ -1,7 +1,7 @@
-use crate::{GraphForm, Job, Line, Lines, WordFault, read_words};
 use std::alloc::{AllocError, Global};
 use std::process::Abort;
 use std::test::Fail;
+use symple_words::{GraphForm, Job, Line, Lines, WordFault, read_words};
 
 /// A program and a graph, how many vertices, the flags that stand, and the draws.
 #[derive(Clone, Copy)]

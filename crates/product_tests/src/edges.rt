@@ -1,7 +1,7 @@
 ghost use Rattle.std.specs.Prelude.{◌≤◌};
 ghost use Rattle.std.specs.Option.{ForSome};
 
-use crate::{EdgeFault, Edges, read_pairs, read_text};
+use edge_reader::{EdgeFault, Edges, read_pairs, read_text};
 use std::alloc::{AllocError, Global};
 use std::process::Abort;
 use std::test::Fail;

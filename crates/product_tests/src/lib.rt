@@ -1,0 +1,28 @@
+//! Tests of crates that take long to prove: a crate with tests of its own is proved twice, this one
+//! has nothing else.
+#![tactic(auto)]
+
+#[cfg(test)]
+mod codes;
+#[cfg(test)]
+mod edges;
+#[cfg(test)]
+mod engine;
+#[cfg(test)]
+mod freedom;
+#[cfg(test)]
+mod parsing;
+#[cfg(test)]
+mod parts;
+#[cfg(test)]
+mod printing;
+#[cfg(test)]
+mod programs;
+#[cfg(test)]
+mod runs;
+#[cfg(test)]
+mod steps;
+#[cfg(test)]
+mod views;
+#[cfg(test)]
+mod words;
