@@ -6,8 +6,8 @@ ghost use Rattle.symple_face.specs.Plans.{blocks_of, loop_carry};
 ghost use Rattle.vert_base.specs.declared.value.Ruling.TheVariants as ruling;
 ghost use Rattle.circulant_plan.specs.Skeleton.{may_rule};
 
-use crate::body_shape::BodyShape;
 use crate::plans::carry;
+use body_shape::BodyShape;
 use instrument::Split;
 use vert_base::ValueType;
 use vert_tree::Decl;
