@@ -1,6 +1,8 @@
--- How long the bodies of messages are.
-use Rattle.std.specs.Prelude.{ℕ, ◌+◌, ◌*◌, min}
+-- How long the bodies of messages are, and which of their words are Bools.
+use Rattle.std.specs.Prelude.{ℕ, ◌+◌, ◌*◌, min, List, [], ◌∷◌}
 use Rattle.std.specs.Int.{div_ceil}
+use Rattle.vert_base.specs.declared.value.ValueType.{ValueType}
+use Rattle.vert_base.specs.declared.value.ValueType.TheVariants.{Int, Bool}
 use Rattle.body_shape.specs.declared.shape.BodyShape.{BodyShape}
 use Rattle.body_shape.specs.declared.shape.BodyShape.TheVariants.{Refresh, Dep, Update, Push, Tally, Verdict}
 
@@ -13,3 +15,9 @@ longest_of (Update vertices slots reduced) = (2 + 8 * min slots 8 + 8 * min redu
 longest_of (Push vertices words bools) = div_ceil vertices 8 + 8 * words * vertices
 longest_of (Tally totals) = 24 + 8 * totals
 longest_of (Verdict dense sparse totals) = 1 + 8 * totals
+
+-- bit i is set where type i is a Bool
+abbrev pub bool_bits : List ValueType → ℕ
+bool_bits [] = 0
+bool_bits (Int ∷ types) = 2 * bool_bits types
+bool_bits (Bool ∷ types) = 1 + 2 * bool_bits types

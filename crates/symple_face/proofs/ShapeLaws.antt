@@ -12,7 +12,8 @@ use Rattle.instrument.specs.declared.split.Split.{Split}
 use Rattle.body_shape.specs.declared.shape.BodyShape.TheVariants as shape
 use Rattle.symple_face.specs.Parts.{push_list, refresh_list}
 use Rattle.symple_face.specs.Plans.{blocks_of, concerns, goes_by_plan, is_in_range, is_planned, ring_of, serves}
-use Rattle.symple_face.specs.Shapes.{bool_bits, count_within, form_of, half_in, pushed, reduced_in, refreshed, sends_in, types_of, updated}
+use Rattle.body_shape.specs.Shapes.{bool_bits}
+use Rattle.symple_face.specs.Shapes.{count_within, form_of, half_in, pushed, reduced_in, refreshed, sends_in, types_of, updated}
 use Rattle.symple_face.specs.PartsOf.{ShapesAgree, part_of}
 use Rattle.symple_face.proofs.ListLaws.{other_list}
 

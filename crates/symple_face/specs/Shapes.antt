@@ -14,16 +14,11 @@ use Rattle.circulant_plan.specs.Ring.{chunk_of, half_of, start_of}
 use Rattle.circulant_plan.specs.Skeleton.{may_rule}
 use Rattle.instrument.specs.declared.split.Split.{Split}
 use Rattle.instrument.specs.declared.split.SplitLoop.{SplitLoop}
+use Rattle.body_shape.specs.Shapes.{bool_bits}
 use Rattle.body_shape.specs.declared.shape.BodyShape.{BodyShape}
 use Rattle.body_shape.specs.declared.shape.BodyShape.TheVariants.{Refresh, Dep, Update, Push, Tally, Verdict}
 use Rattle.symple_face.specs.Parts.{PlainPart}
 use Rattle.symple_face.specs.Plans.{blocks_of, is_planned, loop_carry}
-
--- bit i is set where type i is a Bool
-abbrev pub bool_bits : List ValueType → ℕ
-bool_bits [] = 0
-bool_bits (Int ∷ types) = 2 * bool_bits types
-bool_bits (Bool ∷ types) = 1 + 2 * bool_bits types
 
 abbrev pub types_of : List Decl → List ValueType
 types_of decls = map (λ d. d.kind) decls
