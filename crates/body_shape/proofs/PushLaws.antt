@@ -7,13 +7,14 @@ use Rattle.std.proofs.lemmas.List.Elements.{All-take}
 use Rattle.dep_layout.specs.Spelling.{are_typed}
 use Rattle.dep_layout.specs.Judgement.{is_set, rows_in}
 use Rattle.dep_layout.proofs.WordLaws.{drop_below}
+use Rattle.dep_layout.proofs.SpellingLaws.{below_from_All}
 use Rattle.body_shape.specs.Fit.{bits_in, bit_len, are_rows}
 use Rattle.body_shape.specs.Places.{there, places, set_count, placed}
 use Rattle.body_shape.specs.Refresh.{IsWords, rows_bytes}
 use Rattle.body_shape.specs.Push.{bytes_with, bit_bytes, push_body, flags_in, padded, senders, sends_read, PushReadsBack, PushFits, PushSuits, PushIsSpelled}
 use Rattle.body_shape.proofs.PlaceLaws.{placed-there, length-there, there-placed, places-placed, length-placed}
 use Rattle.body_shape.proofs.FlagLaws.{behind_flags, count_flags, has_set, length-padded, padded_front, none_set, length-bytes_with, flags_again, bytes_again}
-use Rattle.body_shape.proofs.RowLaws.{below_from_All, rows_whole, length-rows_bytes, bytes_whole, length-rows_in, each-rows_in}
+use Rattle.body_shape.proofs.RowLaws.{rows_whole, length-rows_bytes, bytes_whole, length-rows_in, each-rows_in}
 
 -- ---- the parts of what is spelled
 

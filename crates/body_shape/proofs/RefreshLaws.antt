@@ -10,9 +10,10 @@ use Rattle.dep_layout.specs.Judgement.{words_in, rows_in}
 use Rattle.dep_layout.proofs.StateLaws.{past_row}
 use borrow.Author.Rules.{sfits_of}
 use Rattle.vert_base.specs.declared.value.ValueType.TheVariants as kind
+use Rattle.dep_layout.proofs.SpellingLaws.{below_from_All}
 use Rattle.body_shape.specs.Shapes.{bool_bits}
 use Rattle.body_shape.specs.Refresh.{IsWords, HasFields, rows_bytes, PlainRow, word_of_bool, bool_of_word, row_words, refresh_body, flag_at, row_of, IsRow, is_flagged, RefreshReadsBack, RefreshInPlace, FormIsFlagged, RefreshFits, RefreshSuits, RefreshIsSpelled}
-use Rattle.body_shape.proofs.RowLaws.{below_from_All, rows_whole, length-rows_bytes, bytes_whole, length-rows_in, each-rows_in}
+use Rattle.body_shape.proofs.RowLaws.{rows_whole, length-rows_bytes, bytes_whole, length-rows_in, each-rows_in}
 
 bool_again : (b : Bool) → bool_of_word (word_of_bool b) ≡ b
 bool_again false = refl

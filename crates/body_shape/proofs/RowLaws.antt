@@ -1,29 +1,11 @@
 -- Rows of words as bytes, and back.
-use Rattle.std.proofs.Common.{◌≡◌, ℕ, zero, suc, ◌+◌, ◌*◌, ◌≤◌, ◌<◌, inl, inr, subst, ℤ, List, [], ◌∷◌, ◌++◌, length, drop, refl, sym, ap, ◌∙◌, arith}
+use Rattle.std.proofs.Common.{◌≡◌, ℕ, zero, suc, ◌+◌, ◌*◌, ◌≤◌, ℤ, List, [], ◌∷◌, ◌++◌, length, drop, refl, sym, ap, ◌∙◌, arith}
 use Rattle.std.specs.List.{AllByRecursion}
-use Rattle.std.proofs.lemmas.List.{append_assoc, append-nil, length-append, length-drop, drop_at, drop_all, get_or_past}
-use Rattle.std.proofs.lemmas.List.Elements.{All-get_or}
-use Rattle.std.proofs.lemmas.Bool.{cases_lt}
-use Rattle.dep_layout.specs.Laws.{AreBytes}
+use Rattle.std.proofs.lemmas.List.{append_assoc, append-nil, length-append, length-drop, drop_all}
 use Rattle.dep_layout.specs.Judgement.{words_in, rows_in}
-use Rattle.dep_layout.proofs.WordLaws.{AreBelow, drop_below, bytes-words_in, words_again, length-words_bytes, length-words_in, fits-words_in}
-use Rattle.dep_layout.proofs.StateLaws.{past_row}
+use Rattle.dep_layout.proofs.WordLaws.{AreBelow, drop_below, bytes-words_in, length-words_bytes, length-words_in, fits-words_in}
+use Rattle.dep_layout.proofs.StateLaws.{past_row, row_again, row_past}
 use Rattle.body_shape.specs.Refresh.{IsWords, words_bytes, rows_bytes}
-
--- bytes, place by place
-pub below_from_All : (bytes : List ℕ) → AreBytes bytes → AreBelow bytes
-below_from_All bytes fits i =
-    let P : ℕ → Type 0 = λ x. x < 256 in
-    elim (cases_lt i (length bytes)) [
-      | inl inside ↦ All-get_or P bytes i 0 inside fits
-      | inr past ↦ subst P (sym (get_or_past bytes i 0 past)) (omega arith)
-    ]
-
-pub row_again : (width : ℕ) (words : List ℤ) (rest : List ℕ) → IsWords width words → words_in width (words_bytes words ++ rest) ≡ words
-row_again width words rest is = ap (λ n. words_in n (words_bytes words ++ rest)) (sym is.0) ∙ words_again words rest is.1
-
-pub row_past : (width : ℕ) (words : List ℤ) (rest : List ℕ) → length words ≡ width → drop (8 * width) (words_bytes words ++ rest) ≡ rest
-row_past width words rest count = drop_at (words_bytes words) rest (8 * width) (length-words_bytes words ∙ ap (λ n. 8 * n) count)
 
 -- rows are read from the bytes that they spell
 pub rows_again : (width : ℕ) (rows : List (List ℤ)) (rest : List ℕ) → AllByRecursion (IsWords width) rows →
@@ -34,7 +16,7 @@ rows_again width (row ∷ rows) rest each =
     let behind = rows_bytes rows in
     let n = length rows in
     ap (λ bytes. words_in width bytes ∷ rows_in width n (drop (8 * width) bytes)) (append_assoc front behind rest)
-    ∙ ap (λ first. first ∷ rows_in width n (drop (8 * width) (front ++ (behind ++ rest)))) (row_again width row (behind ++ rest) each.0)
+    ∙ ap (λ first. first ∷ rows_in width n (drop (8 * width) (front ++ (behind ++ rest)))) (row_again width row (behind ++ rest) each.0.0 each.0.1)
     ∙ ap (λ bytes. row ∷ rows_in width n bytes) (row_past width row (behind ++ rest) each.0.0)
     ∙ ap (λ others. row ∷ others) (rows_again width rows rest each.1)
 
@@ -89,7 +71,7 @@ each-rows_in width (suc n) bytes =
 
 -- words that take all the bytes
 pub words_whole : (count : ℕ) (words : List ℤ) → IsWords count words → words_in count (words_bytes words) ≡ words
-words_whole count words is = ap (words_in count) (sym (append-nil (words_bytes words))) ∙ row_again count words [] is
+words_whole count words is = ap (words_in count) (sym (append-nil (words_bytes words))) ∙ row_again count words [] is.0 is.1
 
 pub words_spelled : (count : ℕ) (bytes : List ℕ) → length bytes ≡ 8 * count → AreBelow bytes → words_bytes (words_in count bytes) ≡ bytes
 words_spelled count bytes long fits =

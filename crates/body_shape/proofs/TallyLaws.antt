@@ -1,14 +1,15 @@
 -- The laws of tallies.
-use Rattle.std.proofs.Common.{◌≡◌, ℕ, ◌+◌, ◌*◌, ◌^◌, ◌<◌, ◌≤◌, true, List, ◌++◌, length, take, drop, inl, inr, refl, sym, ap, subst, ◌∙◌, arith}
-use Rattle.std.proofs.lemmas.Bool.{and_parts, and_from, eqb-true, eq-eqb, leb-true, le-leb, cases_lt}
+use Rattle.std.proofs.Common.{◌≡◌, ℕ, ◌+◌, ◌*◌, ◌^◌, ◌<◌, ◌≤◌, true, List, ◌++◌, length, take, drop, refl, sym, ap, ◌∙◌, arith}
+use Rattle.std.proofs.lemmas.Bool.{and_parts, and_from, eqb-true, eq-eqb, leb-true, le-leb}
 use Rattle.std.proofs.lemmas.Nat.{le_bytes_8, from_le_bytes-to_le_bytes_8}
-use Rattle.std.proofs.lemmas.List.{length-append, length-drop, length-take, length-take-le, take_at, drop_at, drop-drop, take-append-drop, get_or-take, get_or_past}
+use Rattle.std.proofs.lemmas.List.{length-append, length-drop, length-take-le, take_at, drop_at, drop-drop, take-append-drop}
 use Rattle.dep_layout.specs.Judgement.{words_in}
-use Rattle.dep_layout.proofs.WordLaws.{AreBelow, drop_below}
+use Rattle.dep_layout.proofs.WordLaws.{AreBelow, drop_below, take_below}
+use Rattle.dep_layout.proofs.SpellingLaws.{below_from_All}
 use Rattle.body_shape.specs.Fit.{number_of, is_count}
 use Rattle.body_shape.specs.Refresh.{words_bytes}
 use Rattle.body_shape.specs.Tally.{Counted, number_bytes, tally_body, TallyReadsBack, TallyFits, TallySuits, TallyIsSpelled}
-use Rattle.body_shape.proofs.RowLaws.{below_from_All, words_whole, words_spelled, are_words_in, words_count}
+use Rattle.body_shape.proofs.RowLaws.{words_whole, words_spelled, are_words_in, words_count}
 
 -- ---- numbers of eight bytes
 
@@ -23,14 +24,6 @@ number_again n below = from_le_bytes-to_le_bytes_8 n below
 eight_again : (bytes : List ℕ) → length bytes ≡ 8 → AreBelow bytes → number_bytes (number_of bytes) ≡ bytes
 unfolding number_bytes number_of
 eight_again bytes count fits = le_bytes_8 bytes _ count fits refl
-
-take_below : (n : ℕ) (bytes : List ℕ) → AreBelow bytes → AreBelow (take n bytes)
-take_below n bytes fits i =
-    let P : ℕ → Type 0 = λ x. x < 256 in
-    elim (cases_lt i n) [
-      | inl inside ↦ subst P (sym (get_or-take n bytes i 0 inside)) (fits i)
-      | inr past ↦ subst P (sym (get_or_past (take n bytes) i 0 (omega (arith, length-take n bytes)))) (omega arith)
-    ]
 
 number_front : (n : ℕ) (rest : List ℕ) → take 8 (number_bytes n ++ rest) ≡ number_bytes n
 number_front n rest = take_at (number_bytes n) rest 8 (length-number n)

@@ -10,12 +10,12 @@ use Rattle.std.proofs.lemmas.List.{append_assoc, length-append, length-drop, len
 use Rattle.std.proofs.lemmas.Simd.{mask_l-lt}
 use Rattle.dep_layout.specs.Judgement.{words_in}
 use Rattle.dep_layout.proofs.WordLaws.{AreBelow, drop_below, bytes-words_in, words_again, length-words_bytes, length-words_in, fits-words_in}
+use Rattle.dep_layout.proofs.SpellingLaws.{below_from_All}
 use Rattle.body_shape.specs.Fit.{is_mask, words_len, behind_update, are_updates}
 use Rattle.body_shape.specs.Places.{there, places, mask_of, set_count, placed, flags_of}
 use Rattle.body_shape.specs.Refresh.{words_bytes}
 use Rattle.body_shape.specs.Update.{Sent, sent_bytes, update_body, values_in, behind_values, sent_at, behind_sent, sents_read, AreValues, IsSent, UpdateReadsBack, UpdateFits, UpdateSuits, UpdateIsSpelled}
 use Rattle.body_shape.proofs.PlaceLaws.{placed-there, length-there, there-placed, places-placed, length-placed, length-flags_of, flags_of-mask_l, mask_l-flags_of, ones-set_count, ones-flags_of}
-use Rattle.body_shape.proofs.RowLaws.{below_from_All}
 
 -- ---- the values of a mask
 

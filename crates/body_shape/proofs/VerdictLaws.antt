@@ -5,10 +5,11 @@ use Rattle.dep_layout.specs.Judgement.{words_in}
 use Rattle.dep_layout.proofs.WordLaws.{AreBelow}
 use Rattle.vert_base.specs.declared.value.Ruling.{Ruling}
 use Rattle.vert_base.specs.declared.value.Ruling.TheVariants.{Stop, Dense, Sparse}
+use Rattle.dep_layout.proofs.SpellingLaws.{below_from_All}
 use Rattle.body_shape.specs.Fit.{is_ruling}
 use Rattle.body_shape.specs.Refresh.{words_bytes}
 use Rattle.body_shape.specs.Verdict.{ruling_byte, ruling_with, may_be, VerdictReadsBack, VerdictFits, VerdictSuits, VerdictIsSpelled}
-use Rattle.body_shape.proofs.RowLaws.{below_from_All, words_whole, words_spelled, are_words_in, words_count}
+use Rattle.body_shape.proofs.RowLaws.{words_whole, words_spelled, are_words_in, words_count}
 
 ruling_again : (r : Ruling) → ruling_with (ruling_byte r) ≡ r
 ruling_again Stop = refl
