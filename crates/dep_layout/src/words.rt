@@ -19,14 +19,14 @@ fn word_of(bytes: &[u8]) -> i64
 }
 
 // Whether a word is a Bool, where the lowest bit says that it must be.
-fn suits(bools: u8, word: i64) -> bool
+fn suits(bools: u32, word: i64) -> bool
     ensures { result ≡ suits bools word }
 {
     bools % 2 == 0 || word == 0 || word == 1
 }
 
-// Whether the words of a vertex, at the front of bytes, are Bools where they must be.
-fn is_typed(bytes: &[u8], width: usize, bools: u8) -> bool
+// Whether the words of a row, at the front of bytes, are Bools where they must be.
+fn is_typed(bytes: &[u8], width: usize, bools: u32) -> bool
     requires { 8 * width ≤ length bytes.now }
     ensures { result ≡ are_typed bools (words_in width bytes.now) }
 {
@@ -43,13 +43,13 @@ fn is_typed(bytes: &[u8], width: usize, bools: u8) -> bool
     true
 }
 
-/// Whether the words of so many started vertices are Bools where they must be.
-pub(crate) fn are_typed(words: &[u8], vertices: usize, width: usize, bools: u8) -> bool
-    requires { 8 * width * vertices ≤ length words.now }
-    ensures { result ≡ list_all (are_typed bools) (rows_in width vertices words.now) }
+/// Whether the words of so many rows are Bools where they must be. It takes no memory.
+pub fn are_typed(words: &[u8], rows: usize, width: usize, bools: u32) -> bool
+    requires { 8 * width * rows ≤ length words.now }
+    ensures { result ≡ list_all (are_typed bools) (rows_in width rows words.now) }
 {
     let mut rest = words;
-    'vertices: for _ in 0..vertices {
+    'rows: for _ in 0..rows {
         if !is_typed(rest, width, bools) {
             return false;
         }
