@@ -2,16 +2,22 @@
 #![tactic(auto)]
 
 mod graph;
+mod laws;
 pub mod limits;
 mod message;
+mod name_text;
 mod place;
 #[cfg(test)]
 mod tests;
 mod text;
 mod value;
 
+use std::alloc::{AllocError, AllocFailed};
+
 pub use graph::{Edge, Neighbour, VertexId};
+pub use laws::same_letters;
 pub use message::{Event, Message, Name, NameKind};
+pub use name_text::number_in;
 pub use place::Place;
 pub use text::Span;
 pub use value::{Combine, Mode, Row, Ruling, ValueType};
@@ -19,3 +25,23 @@ pub use value::{Combine, Mode, Row, Ruling, ValueType};
 /// Want of memory: a call could not get the memory that it needs.
 #[derive(Clone, Copy, Debug, PartialEq, Eq)]
 pub struct Want;
+
+impl From<AllocError> for Want {
+    ghost use Rattle.std.specs.Prelude.{◌≡◌};
+
+    ghost from_gives = { λ _ want. want ≡ record {} };
+
+    fn from(_error: AllocError) -> Want {
+        Want
+    }
+}
+
+impl<T: Drop> From<AllocFailed<T>> for Want {
+    ghost use Rattle.std.specs.Prelude.{◌≡◌};
+
+    ghost from_gives = { λ _ want. want ≡ record {} };
+
+    fn from(_error: AllocFailed<T>) -> Want {
+        Want
+    }
+}
