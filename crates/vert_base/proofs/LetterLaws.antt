@@ -281,5 +281,5 @@ same_law (m ∷ ms) (n ∷ ns) up vp e =
     let first : m ≡ n = heads m n ms ns up vp (sym (e m.name) ∙ head_found m ms) (e n.name ∙ head_found n ns) in
     let vp' : Ascends (m ∷ ns) = subst (λ l. Ascends (l ∷ ns)) (sym first) vp in
     let rest : ms ≡ ns = same_law ms ns up.1 vp'.1 (λ x.
-      tail_step x m ms ns (same_name m.name x) refl up vp' (e x ∙ ap (λ l. found x (l ∷ ns)) (sym first))) in
+    tail_step x m ms ns (same_name m.name x) refl up vp' (e x ∙ ap (λ l. found x (l ∷ ns)) (sym first))) in
     ap (λ l. l ∷ ms) first ∙ ap (λ l. n ∷ l) rest

@@ -1,17 +1,16 @@
 -- Numbers and names at the front of a text.
-use Rattle.std.proofs.Common.{◌≡◌, ℕ, zero, suc, ◌+◌, ◌<◌, ◌≤◌, ◌^◌, Bool, true, false, List, [], ◌∷◌, ◌++◌, length, get_or, take, drop, refl, ap, sym, subst, ◌∙◌, arith, append_assoc, ⊎_elim, Option, Some, None}
+use Rattle.std.proofs.Common.{◌≡◌, ℕ, zero, suc, ◌<◌, ◌^◌, true, false, List, [], ◌∷◌, ◌++◌, length, get_or, take, drop, refl, ap, sym, subst, ◌∙◌, arith, append_assoc, ⊎_elim, Option, Some, None}
 use Rattle.std.specs.Prelude.{decimal, IfSome, if◌then◌else◌, ◌==◌}
 use Rattle.std.specs.Cmp.Lexicographic.{pointwise}
-use Rattle.std.specs.Char.{digit_value}
 use Rattle.std.specs.Str.Parse.{AllDigits, digits_value}
 use Rattle.std.proofs.lemmas.Bool.{cases_eq}
 use Rattle.std.proofs.lemmas.Fmt.{decimal_is_IsNumeral, decimal-digits_value, decimal_digit, decimal_nonempty, first_decimal}
-use Rattle.std.proofs.lemmas.Str.Parse.{digit_from_value, digit_at, numerals_by_value, tells_digits}
-use Rattle.std.proofs.lemmas.List.{append-nil, drop_at}
+use Rattle.std.proofs.lemmas.Str.Parse.{digit_from_value, numerals_by_value, tells_digits}
+use Rattle.std.proofs.lemmas.List.{drop_at}
 use Rattle.vert_base.specs.declared.message.Name.{Name}
 use Rattle.vert_base.specs.declared.message.NameKind.{NameKind}
 use Rattle.vert_base.specs.declared.message.NameKind.TheVariants.{Refresh, Dep, Update, Push, Tally, Verdict}
-use Rattle.vert_base.specs.HeaderBytes.{has_steps, is_proper}
+use Rattle.vert_base.specs.HeaderBytes.{has_steps}
 use Rattle.vert_base.specs.NameTexts.{IsName, kind_text, number_text, numbers_text, numbers_behind}
 use Rattle.vert_base.specs.NameReading.{EndsNumber, are_proper, letter_of, steps_text}
 
@@ -45,7 +44,7 @@ pub same_number :
     (decimal number ≡ take k text) × (drop k text ≡ rest)
 same_number text number rest k small end e taken left =
     let cut = same_cut (decimal number) rest k (decimal_is_IsNumeral number (omega arith)).0.1 end
-        (subst (λ t. AllDigits 10 (take k t)) e taken) (subst (λ t. EndsNumber (drop k t)) e left) in
+    (subst (λ t. AllDigits 10 (take k t)) e taken) (subst (λ t. EndsNumber (drop k t)) e left) in
     (sym (ap (take k) e ∙ cut.0), ap (drop k) e ∙ cut.1)
 
 -- ---- decimals
@@ -161,7 +160,7 @@ pub word_there :
     ⊥
 word_there text word kind rest e w other =
     let front : take (length word) text ≡ word =
-        ap (λ q. take (length q) text) w ∙ (ap (take (length (kind_text kind))) e ∙ (kind_front kind rest ∙ sym w)) in
+    ap (λ q. take (length q) text) w ∙ (ap (take (length (kind_text kind))) e ∙ (kind_front kind rest ∙ sym w)) in
     let same : pointwise ◌==◌ (take (length word) text) word ≡ true = ap (λ q. pointwise ◌==◌ q word) front ∙ pointwise_self word in
     let clash : true ≡ false = sym same ∙ other in
     cc

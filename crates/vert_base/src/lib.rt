@@ -12,13 +12,12 @@ mod tests;
 mod text;
 mod value;
 
-use std::alloc::{AllocError, AllocFailed};
-
 pub use graph::{Edge, Neighbour, VertexId};
 pub use laws::same_letters;
 pub use message::{Event, Message, Name, NameKind};
 pub use name_text::number_in;
 pub use place::Place;
+use std::alloc::{AllocError, AllocFailed};
 pub use text::Span;
 pub use value::{Combine, Mode, Row, Ruling, ValueType};
 

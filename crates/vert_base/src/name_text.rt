@@ -47,7 +47,8 @@ impl Name {
     pub fn from_roundless(round: u32, text: &[u8]) -> Option<Name>
         ensures round { IfSome result (λ x. x.round ≡ round) }
         ensures spelled { IfSome result (λ x. IsName x × (roundless_text x ≡ text.now)) }
-        ensures found { (x : Name) → IsName x → x.round ≡ round → roundless_text x ≡ text.now → result ≡ Some x }
+        ensures found { (x : Name) → IsName x → x.round ≡ round → roundless_text x ≡ text.now →
+            result ≡ Some x }
     {
         let (kind, numbers) = kind_at(text)?;
         name_at(kind, round, numbers)
@@ -67,8 +68,10 @@ pub fn number_in(word: &[u8]) -> Option<u32>
 
 // The value of digits, where the word is nothing else.
 fn value_of(word: &[u8]) -> Option<u32>
-    ensures value { IfSome result (λ value. AllDigits 10 word.now × (digits_value 10 word.now ≡ value) × (value < 2 ^ 32)) }
-    ensures found { AllDigits 10 word.now → digits_value 10 word.now < 2 ^ 32 → result ≡ Some (digits_value 10 word.now) }
+    ensures value { IfSome result
+        (λ value. AllDigits 10 word.now × (digits_value 10 word.now ≡ value) × (value < 2 ^ 32)) }
+    ensures found { AllDigits 10 word.now → digits_value 10 word.now < 2 ^ 32 →
+        result ≡ Some (digits_value 10 word.now) }
 {
     let mut value: u64 = 0;
     'digits: for byte in word {
@@ -99,7 +102,9 @@ fn digits_at(text: &[u8]) -> usize
 // The number behind a space at the front, and what stands behind it.
 fn number_at(text: &[u8]) -> Option<(u32, &[u8])>
     ensures spelled { IfSome result (λ read. text.now ≡ number_text read.0 ++ read.1.now) }
-    ensures found { (number : ℕ) (rest : List ℕ) → number < 2 ^ 32 → EndsNumber rest → text.now ≡ number_text number ++ rest → IsSomeAnd result (λ read. (read.0 ≡ number) × (read.1.now ≡ rest)) }
+    ensures found { (number : ℕ) (rest : List ℕ) → number < 2 ^ 32 → EndsNumber rest →
+        text.now ≡ number_text number ++ rest →
+        IsSomeAnd result (λ read. (read.0 ≡ number) × (read.1.now ≡ rest)) }
 {
     if text.is_empty() || text[0] != b' ' {
         return None;
@@ -112,7 +117,9 @@ fn number_at(text: &[u8]) -> Option<(u32, &[u8])>
 // The same of a number that a byte holds.
 fn byte_at(text: &[u8]) -> Option<(u8, &[u8])>
     ensures spelled { IfSome result (λ read. text.now ≡ number_text read.0 ++ read.1.now) }
-    ensures found { (number : ℕ) (rest : List ℕ) → number < 256 → EndsNumber rest → text.now ≡ number_text number ++ rest → IsSomeAnd result (λ read. (read.0 ≡ number) × (read.1.now ≡ rest)) }
+    ensures found { (number : ℕ) (rest : List ℕ) → number < 256 → EndsNumber rest →
+        text.now ≡ number_text number ++ rest →
+        IsSomeAnd result (λ read. (read.0 ≡ number) × (read.1.now ≡ rest)) }
 {
     let (number, rest) = number_at(text)?;
     if number > 255 {
@@ -139,7 +146,8 @@ fn kind_with(letter: u8) -> Option<NameKind>
 // The kind whose word stands at the front, and what stands behind it.
 fn kind_at(text: &[u8]) -> Option<(NameKind, &[u8])>
     ensures spelled { IfSome result (λ read. text.now ≡ kind_text read.0 ++ read.1.now) }
-    ensures found { (kind : NameKind) (rest : List ℕ) → text.now ≡ kind_text kind ++ rest → IsSomeAnd result (λ read. (read.0 ≡ kind) × (read.1.now ≡ rest)) }
+    ensures found { (kind : NameKind) (rest : List ℕ) → text.now ≡ kind_text kind ++ rest →
+        IsSomeAnd result (λ read. (read.0 ≡ kind) × (read.1.now ≡ rest)) }
 {
     if text.is_empty() {
         return None;
@@ -153,7 +161,8 @@ fn kind_at(text: &[u8]) -> Option<(NameKind, &[u8])>
 fn name_at(kind: NameKind, round: u32, text: &[u8]) -> Option<Name>
     ensures kind { IfSome result (λ x. (x.kind ≡ kind) × (x.round ≡ round)) }
     ensures spelled { IfSome result (λ x. IsName x × (numbers_text (numbers_behind x) ≡ text.now)) }
-    ensures found { (x : Name) → IsName x → x.kind ≡ kind → x.round ≡ round → numbers_text (numbers_behind x) ≡ text.now → result ≡ Some x }
+    ensures found { (x : Name) → IsName x → x.kind ≡ kind → x.round ≡ round →
+        numbers_text (numbers_behind x) ≡ text.now → result ≡ Some x }
 {
     let (step, half, ends) = steps_at(kind, text)?;
     let (from, ends) = byte_at(ends)?;
@@ -161,13 +170,24 @@ fn name_at(kind: NameKind, round: u32, text: &[u8]) -> Option<Name>
     if !behind.is_empty() {
         return None;
     }
-    Some(Name { kind, round, step, half, from, to })
+    Some(Name {
+        kind,
+        round,
+        step,
+        half,
+        from,
+        to,
+    })
 }
 
 // The step and the half of a kind that has them, each 0 for another, and what stands behind them.
 fn steps_at(kind: NameKind, text: &[u8]) -> Option<(u8, u8, &[u8])>
-    ensures spelled { IfSome result (λ read. (text.now ≡ steps_text kind read.0 read.1 ++ read.2.now) × (are_proper kind read.0 read.1 ≡ true)) }
-    ensures found { (step half : ℕ) (rest : List ℕ) → step < 256 → half < 256 → EndsNumber rest → are_proper kind step half ≡ true → text.now ≡ steps_text kind step half ++ rest → IsSomeAnd result (λ read. (read.0 ≡ step) × (read.1 ≡ half) × (read.2.now ≡ rest)) }
+    ensures spelled { IfSome result (λ read.
+        (text.now ≡ steps_text kind read.0 read.1 ++ read.2.now)
+        × (are_proper kind read.0 read.1 ≡ true)) }
+    ensures found { (step half : ℕ) (rest : List ℕ) → step < 256 → half < 256 → EndsNumber rest →
+        are_proper kind step half ≡ true → text.now ≡ steps_text kind step half ++ rest →
+        IsSomeAnd result (λ read. (read.0 ≡ step) × (read.1 ≡ half) × (read.2.now ≡ rest)) }
 {
     if !kind.has_steps() {
         return Some((0, 0, text));

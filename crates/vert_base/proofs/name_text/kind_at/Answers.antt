@@ -1,7 +1,6 @@
-use Rattle.std.proofs.Common.{◌≡◌, ◌∙◌, ap, sym, List, ℕ, get_or, length, take, drop}
-use Rattle.vert_base.specs.declared.message.NameKind.{NameKind}
+use Rattle.std.proofs.Common.{◌≡◌, ◌∙◌, ap, sym, get_or}
 use Rattle.vert_base.specs.NameTexts.{kind_text}
-use Rattle.vert_base.proofs.TextLaws.{first_letter, kind_front, kind_back, word_there}
+use Rattle.vert_base.proofs.TextLaws.{first_letter, word_there}
 use Rattle.vert_base.proofs.name_text.kind_at.Goals as goal
 
 pub returns-in_err-kind-clause-found : goal.returns-in_err-kind-clause-found

@@ -1,4 +1,4 @@
-use Rattle.std.proofs.Common.{◌≡◌, ◌∙◌, ap, sym, subst, drop, take, List, ℕ, ◌++◌}
+use Rattle.std.proofs.Common.{◌≡◌, ◌∙◌, ap, sym, drop, ◌++◌}
 use Rattle.std.specs.Prelude.{decimal}
 use Rattle.vert_base.proofs.TextLaws.{same_number}
 use Rattle.vert_base.proofs.name_text.number_at.Goals as goal
