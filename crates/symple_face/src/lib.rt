@@ -37,6 +37,3 @@ pub use shelves::{FirmShelf, MemShelf};
 pub use sink::{Sink, SinkFault};
 pub use sinks::{DripSink, FirmSink, MemSink};
 pub use source::{Source, SourceFault};
-
-#[cfg(test)]
-mod tests;

@@ -5,8 +5,6 @@ mod graph;
 pub mod limits;
 mod message;
 mod place;
-#[cfg(test)]
-mod tests;
 mod text;
 mod value;
 

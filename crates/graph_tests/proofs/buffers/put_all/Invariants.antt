@@ -1,6 +1,6 @@
 use Rattle.std.proofs.Common.{◌≡◌}
 use Rattle.double_buffer.specs.Held.{AreOfRound}
-use Rattle.double_buffer.proofs.tests.put_all.Given as goal
+use Rattle.graph_tests.proofs.buffers.put_all.Given as goal
 
 abbrev pub invariant-loop-at : goal.invariant-loop-at
 invariant-loop-at l = record { machines : l.slots.machines ≡ l.ring.machines; held : AreOfRound 5 l.m l.slots.letters }

@@ -5,7 +5,7 @@ use Rattle.double_buffer.specs.Taking.{CanTake}
 use Rattle.double_buffer.specs.Held.{Held, AreOfRound}
 use Rattle.double_buffer.proofs.BufferLaws.{of_round_placed}
 use Rattle.double_buffer.proofs.NeedLaws.{need_at}
-use Rattle.double_buffer.proofs.tests.put_need.Goals as goal
+use Rattle.graph_tests.proofs.buffers.put_need.Goals as goal
 
 none_from : (r : Option Letter) → is_some r ≡ false → r ≡ None
 none_from None e = refl

@@ -1,14 +1,81 @@
-ghost use Rattle.std.specs.Prelude.{◌≡◌, ◌+◌, ◌*◌, ◌<◌, ◌≤◌, IfOk};
+//! Messages under way, and those that a machine holds in a round.
+
+ghost use Rattle.std.specs.Prelude.{◌≡◌, ◌+◌, ◌*◌, ◌<◌, ◌≤◌};
 ghost use Rattle.circulant_plan.specs.Spots.{IsSpotOf};
 ghost use Rattle.circulant_plan.specs.Standing.{round_of};
 ghost use Rattle.double_buffer.specs.Held.{AreOfRound};
 
-use crate::{Slots, by_name};
+use super::cells::Cells;
+use super::messages::name_at;
 use circulant_plan::{Ring, Spot, need};
+use double_buffer::Slots;
+use flight::Flight;
 use std::alloc::{AllocError, Global};
 use std::process::Abort;
 use std::test::Fail;
 use vert_base::{Message, Name};
+
+/// Messages in the order of their names.
+static NAMES: &str = "\
+refresh | 3 | 1 | 0 | 0 | 0
+update | 2 | 1 | 0 | 2 | 0
+update | 2 | 1 | 1 | 0 | 0
+update | 2 | 1 | 1 | 3 | 0
+tally | 1 | 1 | 0 | 1 | 0";
+
+fn put(flight: &mut Flight, msg: Message) -> bool {
+    if flight.count() >= 100 {
+        return false;
+    }
+    match flight.peek(&msg.name) {
+        Some(_) => return false,
+        None => {}
+    }
+    flight.send(msg).is_ok()
+}
+
+fn names_in_order(alloc: Global) -> Result<Vec<Name>, Fail> {
+    let mut names = Vec::new(alloc);
+    for line in NAMES.lines() {
+        names.push(name_at(&mut Cells::new(line))?)?;
+    }
+    Ok(names)
+}
+
+/// Sends the messages in another order: the body of each tells its place among the names.
+fn send_all(rt: &impl Abort, alloc: Global, names: &[Name]) -> Result<Flight, Fail> {
+    let mut flight = Flight::new(alloc);
+    for at in [3u8, 0, 4, 2, 1] {
+        let name = *names.get(usize::from(at)).ok_or("no name")?;
+        let body = Vec::from_slice(alloc, &[at, 7])?;
+        assert!(rt; put(&mut flight, Message { name, body }));
+    }
+    Ok(flight)
+}
+
+#[test]
+fn messages_under_way(rt: HostRuntime) -> Result<(), Fail> {
+    flight::by_name();
+    let names = names_in_order(rt.alloc())?;
+    let mut flight = send_all(&rt, rt.alloc(), &names)?;
+    assert_eq!(rt; flight.count(), 5);
+    assert_eq!(rt; flight.first(), names.first().copied());
+    for at in 0..6u8 {
+        let name = names.get(usize::from(at)).copied();
+        assert_eq!(rt; flight.nth(u32::from(at)), name);
+        let found = name.and_then(|name| flight.peek(&name).map(|msg| msg.body.get(0).copied()));
+        assert_eq!(rt; found, name.map(|_| Some(at)));
+    }
+    for at in [2usize, 0, 4, 1, 3] {
+        let name = *names.get(at).ok_or("no name")?;
+        assert_eq!(rt; flight.pick(&name).map(|msg| msg.name), Some(name));
+        assert!(rt; flight.pick(&name).is_none());
+        assert!(rt; flight.peek(&name).is_none());
+    }
+    assert_eq!(rt; flight.count(), 0);
+    assert_eq!(rt; flight.first(), None);
+    Ok(())
+}
 
 const ROUND: u32 = 5;
 
@@ -151,13 +218,25 @@ fn hold_round(
     Ok(count)
 }
 
+/// The machines, a machine, whether its messages are put or marked, and how many there are in a round.
+static ROUNDS: &str = "\
+1 | 0 | put | 0
+3 | 0 | put | 14
+3 | 1 | marked | 13
+64 | 0 | marked | 441
+64 | 63 | put | 379";
+
 #[test]
-fn holds_each_name_of_a_round(rt: HostRuntime) -> Result<(), Fail> {
-    by_name();
-    assert_eq!(rt; hold_round(&rt, rt.alloc(), 1, 0, false)?, 0);
-    assert_eq!(rt; hold_round(&rt, rt.alloc(), 3, 0, false)?, 14);
-    assert_eq!(rt; hold_round(&rt, rt.alloc(), 3, 1, true)?, 13);
-    assert_eq!(rt; hold_round(&rt, rt.alloc(), 64, 0, true)?, 441);
-    assert_eq!(rt; hold_round(&rt, rt.alloc(), 64, 63, false)?, 379);
+fn messages_of_a_round(rt: HostRuntime) -> Result<(), Fail> {
+    double_buffer::by_name();
+    for line in ROUNDS.lines() {
+        let mut cells = Cells::new(line);
+        let machines = cells.byte()?;
+        let m = cells.byte()?;
+        let marked = cells.is("marked");
+        assert!(rt; m < machines && machines <= 64, "{line}");
+        let count = hold_round(&rt, rt.alloc(), machines, m, marked)?;
+        assert_eq!(rt; count, cells.number()?, "{line}");
+    }
     Ok(())
 }
