@@ -2,9 +2,10 @@
 
 ghost use Rattle.std.specs.Prelude.{◌≤◌};
 
-use super::cells::{Cells, bytes_of};
+use super::bytes::bytes_of;
 use dep_layout::{DepState, Mark, by_width, fits_ring, pack, unpack};
 use dep_message::{bounded_bodies, fits};
+use sample_programs::Cells;
 use std::alloc::{AllocError, Global};
 use std::test::Fail;
 use symple_face::BodyShape;

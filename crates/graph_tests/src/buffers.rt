@@ -5,11 +5,11 @@ ghost use Rattle.circulant_plan.specs.Spots.{IsSpotOf};
 ghost use Rattle.circulant_plan.specs.Standing.{round_of};
 ghost use Rattle.double_buffer.specs.Held.{AreOfRound};
 
-use super::cells::Cells;
 use super::messages::name_at;
 use circulant_plan::{Ring, Spot, need};
 use double_buffer::Slots;
 use flight::Flight;
+use sample_programs::Cells;
 use std::alloc::{AllocError, Global};
 use std::process::Abort;
 use std::test::Fail;

@@ -1,7 +1,7 @@
 //! Shelves, sources, sinks and feeds in memory.
 
-use super::cells::{Cells, plain};
 use arrayvec::ArrayVec;
+use sample_programs::{Cells, plain};
 use std::alloc::{AllocError, Global};
 use std::process::Abort;
 use std::test::Fail;

@@ -1,7 +1,7 @@
 //! The words that vertices draw.
 
-use super::cells::Cells;
 use draw_source::draw;
+use sample_programs::Cells;
 use std::test::Fail;
 use vert_base::VertexId;
 

@@ -3,8 +3,9 @@
 ghost use Rattle.std.specs.Prelude.{◌≤◌, IfOk};
 ghost use Rattle.std.specs.Option.{ForSome};
 
-use super::cells::{Cells, bytes_of, plain};
+use super::bytes::bytes_of;
 use edge_reader::{EdgeFault, Edges, read_pairs, read_text};
+use sample_programs::{Cells, plain};
 use std::alloc::{AllocError, Global};
 use std::process::Abort;
 use std::test::Fail;

@@ -6,7 +6,7 @@ mod bodies;
 #[cfg(test)]
 mod buffers;
 #[cfg(test)]
-mod cells;
+mod bytes;
 #[cfg(test)]
 mod doubles;
 #[cfg(test)]

@@ -1,7 +1,8 @@
 //! Names of messages, and their spelling.
 
-use super::cells::{Cells, bytes_of};
+use super::bytes::bytes_of;
 use dep_message::{HEADER, Header, encode, one_spelling};
+use sample_programs::Cells;
 use std::test::Fail;
 use vert_base::{Message, Name, NameKind};
 

@@ -1,6 +1,6 @@
 //! Parts of machines: what they hold, the forms of their messages, and the messages that they take.
 
-use super::cells::{Cells, bytes_of};
+use super::bytes::bytes_of;
 use super::messages::name_at;
 use super::tables::table_at;
 use chunk_split::cuts_of;
@@ -8,6 +8,7 @@ use dep_message::{decode, encode};
 use instrument::{Split, split_of};
 use mirror_table::{degrees_ascend, edges_once, parts, shapes_agree};
 use program_reader::read_program;
+use sample_programs::Cells;
 use std::alloc::{AllocError, Global};
 use std::process::Abort;
 use std::rc::Rc;

@@ -3,8 +3,8 @@
 ghost use Rattle.std.specs.Prelude.{◌≡◌, ◌<◌, true};
 ghost use Rattle.circulant_plan.specs.Spots.{IsSpotOf};
 
-use super::cells::Cells;
 use circulant_plan::{Ring, Spot, actions, gives, half, need, order, ring_order};
+use sample_programs::Cells;
 use std::alloc::{AllocError, Global};
 use std::test::Fail;
 use vert_base::{Name, Place, Ruling};

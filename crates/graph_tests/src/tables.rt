@@ -1,10 +1,10 @@
 //! Tables of graphs, and the chunks that they are cut into.
 
-use super::cells::{Cells, plain};
 use super::edges::given;
 use chunk_split::{Cuts, cuts_of};
 use edge_reader::read_text;
 use graph_table::Table;
+use sample_programs::{Cells, plain};
 use std::alloc::{AllocError, Global};
 use std::process::Abort;
 use std::test::Fail;

@@ -1,10 +1,10 @@
 //! Texts that are written into sinks.
 
-use super::cells::{Cells, plain};
 use super::doubles::row;
 use array_text::{put_all, write_header, write_read_head, write_reads, write_round, write_row};
 use instrument::{Split, split_of};
 use program_reader::read_program;
+use sample_programs::{Cells, plain};
 use std::alloc::Global;
 use std::test::Fail;
 use symple_face::{DripSink, FirmSink, MemSink, Report, Sink, SinkFault};

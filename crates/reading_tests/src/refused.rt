@@ -1,8 +1,8 @@
-/// Refused programs. Of each group the first line stands before each text and the second line behind it, so that
-/// the texts stand on line 2. Each of the other lines is a text behind the code and the place that it is refused with.
-
-/// Headers, and texts that are refused before their end.
-pub(super) static HEADERS: &str = "
+/// Refused programs: groups with `%%` between them. Of each group the first line stands before each text and the
+/// second line behind it, so that the texts stand on line 2. Each of the other lines is a text behind the code and
+/// the place that it is refused with. They are of headers, whole programs, fields, totals, start, the dense test,
+/// the sparse test, lets, the loop body, the tail, sends, the sparse body, update and stop.
+pub(crate) static REFUSED: &str = "
 start true; dense when true { for u { } } update { }
 L1 at 2:1: @ 9223372036854775808
 L1 at 2:9: vertex 1$
@@ -26,10 +26,8 @@ Y6 at 2:16: vertex 1; mode sparse; limit 1;
 Y6 at 2:16: vertex 1; mode auto; limit 10001;
 Y7 at 2:29: vertex 1; mode dense; limit 10001;
 Y7 at 2:29: vertex 1; mode dense; limit 9223372036854775807; field a: int = b;
-";
+%%
 
-/// Programs without a block, and what follows a program.
-pub(super) static WHOLE: &str = "
 
 Y5 at 2:16: vertex 1; mode dense; limit 1; start true; update { }
 Y5 at 2:16: vertex 2; mode auto; limit 20000; start 1; update { } stop 1;
@@ -40,10 +38,8 @@ P1 at 2:55: vertex 1; mode dense; limit 1; start true; update { } update { }
 P1 at 2:55: vertex 1; mode dense; limit 1; start true; update { } stop true;
 P1 at 3:1: vertex 2; mode dense; limit 1; start true; update { } stop true
 P1 at 2:65: vertex 1; mode dense; limit 1; start true; sparse when true { } dense when true { for u { } } update { }
-";
-
-/// Fields.
-pub(super) static FIELDS: &str = "vertex 2; mode auto; limit 1;
+%%
+vertex 2; mode auto; limit 1;
 slot s: sum; total t: sum = 0; start true; dense when true { let x: int = 0; for u { } } sparse when true { send p: int = 0; } update { }
 P1 at 2:10: field a: float = 1;
 P1 at 2:7: field int: int = 1;
@@ -92,11 +88,8 @@ Y4 at 2:16: field a: int = w + true;
 Y4 at 2:23: field a: int = true ? w : true;
 Y8 at 2:21: field a: int = draw(256);
 Y8 at 2:33: field a: int = draw(255) + draw(9223372036854775807);
-";
-
-/// Totals.
-pub(super) static TOTALS: &str =
-    "vertex 2; mode dense; limit 1; field a: int = 0; field f: bool = true; slot s: sum;
+%%
+vertex 2; mode dense; limit 1; field a: int = 0; field f: bool = true; slot s: sum;
 start true; dense when true { let x: int = 0; for u { } } update { }
 P1 at 2:13: total t: sum;
 Y4 at 2:20: total total: sum = total;
@@ -110,11 +103,8 @@ Y4 at 2:16: total t: sum = x;
 Y4 at 2:16: total t: sum = u.a;
 Y1 at 2:16: total t: sum = z;
 Y2 at 2:7: total a: sum = 1;
-";
-
-/// Start.
-pub(super) static START: &str =
-    "vertex 2; mode dense; limit 1; field a: int = 0; field f: bool = true; slot s: sum; total t: sum = a;
+%%
+vertex 2; mode dense; limit 1; field a: int = 0; field f: bool = true; slot s: sum; total t: sum = a;
 dense when true { let x: int = 0; for u { } } update { }
 P1 at 3:1: start true
 Y1 at 2:7: start z;
@@ -129,11 +119,8 @@ Y4 at 2:12: start f && u.active;
 Y4 at 2:7: start s;
 Y4 at 2:7: start s.got;
 Y8 at 2:12: start draw(300) < 1;
-";
-
-/// The test of a dense block.
-pub(super) static DENSE_TEST: &str =
-    "vertex 2; mode dense; limit 1; field a: int = 0; field f: bool = true; slot s: sum; total t: sum = a; start true; dense when
+%%
+vertex 2; mode dense; limit 1; field a: int = 0; field f: bool = true; slot s: sum; total t: sum = a; start true; dense when
 { let x: int = 0; for u { } } update { }
 Y1 at 2:1: z
 Y3 at 2:1: a
@@ -144,11 +131,8 @@ Y4 at 2:1: x == 0
 Y4 at 2:1: s
 Y4 at 2:1: s.got
 Y4 at 2:1: u.f
-";
-
-/// The test of a sparse block.
-pub(super) static SPARSE_TEST: &str =
-    "vertex 2; mode sparse; limit 1; field a: int = 0; field f: bool = true; slot s: sum; total t: sum = a; start true; sparse when
+%%
+vertex 2; mode sparse; limit 1; field a: int = 0; field f: bool = true; slot s: sum; total t: sum = a; start true; sparse when
 { send p: int = 0; } update { }
 Y1 at 2:1: z == 0
 Y3 at 2:1: a + 1
@@ -157,11 +141,8 @@ Y4 at 2:1: p == 0
 Y4 at 2:1: w == 0
 Y4 at 2:1: u.active
 Y4 at 2:1: s.value == 0
-";
-
-/// Lets.
-pub(super) static LETS: &str =
-    "vertex 2; mode dense; limit 1; field a: int = 0; field f: bool = true; slot s: sum; total t: sum = a; start true; dense when true {
+%%
+vertex 2; mode dense; limit 1; field a: int = 0; field f: bool = true; slot s: sum; total t: sum = a; start true; dense when true {
 for u { } } update { }
 Y1 at 2:14: let x: int = z;
 Y2 at 2:21: let x: int = 0; let x: bool = true;
@@ -173,11 +154,8 @@ Y4 at 2:14: let x: int = y; let y: int = 0;
 Y4 at 2:14: let x: int = w;
 Y4 at 2:14: let x: int = u.a;
 Y4 at 2:14: let x: int = s.value;
-";
-
-/// The loop body.
-pub(super) static LOOP: &str =
-    "vertex 2; mode dense; limit 1; field a: int = 0; field f: bool = true; slot s: sum; total t: sum = a; start true; dense when true { let x: int = 0; let y: bool = true; for u {
+%%
+vertex 2; mode dense; limit 1; field a: int = 0; field f: bool = true; slot s: sum; total t: sum = a; start true; dense when true { let x: int = 0; let y: bool = true; for u {
 } } update { }
 P1 at 2:1: active = true;
 P1 at 2:1: let z: int = 0;
@@ -243,11 +221,8 @@ Y4 at 2:7: x = u.x;
 Y4 at 2:7: y = u.t;
 Y8 at 2:10: x = draw(256);
 Y8 at 2:14: x = y ? draw(999) : true;
-";
-
-/// The tail.
-pub(super) static TAIL: &str =
-    "vertex 2; mode dense; limit 1; field a: int = 0; field f: bool = true; slot s: sum; total t: sum = a; start true; dense when true { let x: int = 0; let y: bool = true; for u { }
+%%
+vertex 2; mode dense; limit 1; field a: int = 0; field f: bool = true; slot s: sum; total t: sum = a; start true; dense when true { let x: int = 0; let y: bool = true; for u { }
 } update { }
 P1 at 2:1: break;
 P1 at 2:1: for u { }
@@ -258,11 +233,8 @@ Y4 at 2:5: x = u.a;
 Y4 at 2:1: a = 1;
 Y4 at 2:6: emit t 1;
 Y4 at 2:8: emit s s.value;
-";
-
-/// Sends.
-pub(super) static SENDS: &str =
-    "vertex 2; mode sparse; limit 1; field a: int = 0; field f: bool = true; slot s: sum; total t: sum = a; start true; sparse when true {
+%%
+vertex 2; mode sparse; limit 1; field a: int = 0; field f: bool = true; slot s: sum; total t: sum = a; start true; sparse when true {
 } update { }
 Y1 at 2:15: send p: int = z;
 Y2 at 2:6: send f: bool = true;
@@ -271,11 +243,8 @@ Y4 at 2:15: send p: int = w;
 Y4 at 2:15: send p: int = p;
 Y4 at 2:32: send p: int = 0; send q: int = p;
 Y4 at 2:15: send p: int = u.a;
-";
-
-/// The sparse body.
-pub(super) static SPARSE_BODY: &str =
-    "vertex 2; mode sparse; limit 1; field a: int = 0; field f: bool = true; slot s: sum; total t: sum = a; start true; sparse when true { send p: int = 0; send q: bool = true;
+%%
+vertex 2; mode sparse; limit 1; field a: int = 0; field f: bool = true; slot s: sum; total t: sum = a; start true; sparse when true { send p: int = 0; send q: bool = true;
 } update { }
 P1 at 2:1: p = 1;
 P1 at 2:1: break;
@@ -287,11 +256,8 @@ Y3 at 2:4: if w { }
 Y4 at 2:6: emit p 1;
 Y4 at 2:8: emit s u.a;
 Y4 at 2:8: emit s s.value;
-";
-
-/// Update.
-pub(super) static UPDATE: &str =
-    "vertex 2; mode dense; limit 1; field a: int = 0; field f: bool = true; slot s: sum; total t: sum = a; start true; dense when true { let x: int = 0; for u { } } update {
+%%
+vertex 2; mode dense; limit 1; field a: int = 0; field f: bool = true; slot s: sum; total t: sum = a; start true; dense when true { let x: int = 0; for u { } } update {
 }
 P1 at 2:1: emit s 1;
 P1 at 2:1: break;
@@ -315,11 +281,8 @@ Y4 at 2:5: a = w;
 Y4 at 2:5: a = u.a;
 Y4 at 2:5: a = s;
 Y4 at 2:5: a = a.value;
-";
-
-/// Stop.
-pub(super) static STOP: &str =
-    "vertex 2; mode dense; limit 1; field a: int = 0; field f: bool = true; slot s: sum; total t: sum = a; start true; dense when true { let x: int = 0; for u { } } update { }
+%%
+vertex 2; mode dense; limit 1; field a: int = 0; field f: bool = true; slot s: sum; total t: sum = a; start true; dense when true { let x: int = 0; for u { } } update { }
 
 P1 at 2:1: halt true;
 P1 at 2:5: stop;

@@ -1,5 +1,5 @@
 use Rattle.std.proofs.Common.{length}
-use Rattle.product_tests.proofs.steps.+list_names.Given as goal
+use Rattle.machine_tests.proofs.steps.+list_names.Given as goal
 
 -- each call is on a shorter list
 abbrev pub decreases-list_names : goal.decreases-list_names

@@ -3,7 +3,7 @@ use Rattle.vert_lex.specs.declared.token.Token.{Token}
 use Rattle.vert_lex.specs.Text.{tokens_of}
 use Rattle.vert_lex.specs.View.{plain_tokens}
 use Rattle.program_reader.proofs.SmallTokens.{tokens_short, tokens_small}
-use Rattle.product_tests.proofs.parsing.read.Goals as goal
+use Rattle.reading_tests.proofs.grammar.read.Goals as goal
 
 -- the tokens, as the parser is given them
 lent : (text : List ℕ) (tokens given : List Token) → tokens_of text ≡ Ok (plain_tokens tokens) → given ≡ tokens → tokens_of text ≡ Ok (plain_tokens given)
