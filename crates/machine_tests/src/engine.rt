@@ -75,7 +75,7 @@ fn emit_dense(
     }
     let members = members_at(rt, alloc, scene, v)?;
     let mut ids = first_ids(alloc, &members, members.len())?;
-    let read = walk(rt, scene.job.code, members, &mut env, emits);
+    let (_, read) = walk(rt, scene.job.code, members, &mut env, emits);
     ids.truncate(read);
     step(rt, scene.job.code, Block::Tail, &mut env, emits);
     Ok(ids)

@@ -1,13 +1,15 @@
 //! Which programs don't depend on the order of neighbours.
 
-use instrument::split_of;
-use order_free::{Freedom, free};
-use program_reader::read_program;
-use std::alloc::{AllocError, Global};
+use super::programs::split;
+use order_free::{Freedom, free, order_free_programs};
+use order_laws::{order_free_loops, order_free_runs};
+use sample_programs::{Cells, edited};
+use std::alloc::Global;
 use std::test::Fail;
 
-/// The answer, and behind it a loop body of the frame.
-const BODIES: &str = "reductions |
+/// The answer, and a loop body of the frame.
+static BODIES: &str = "\
+reductions |
 reductions | c += 1;
 reductions | c += w; d min= u.id;
 reductions | c += 1; c += w;
@@ -56,63 +58,72 @@ loop | if u.live { c += 1; if c >= 2 { break; } d = 1; }
 loop | if u.live { c += w; if c >= 2 { break; } }
 loop | if u.live { c = c + 1; if c >= 2 { break; } }
 loop | if u.live { c max= 1; if c >= 2 { break; } }
+found-one | if u.active { emit s 1; break; }
+reach-a-count | if u.active { c += 1; if c >= 2 { break; } }
+loop | if u.active { c += 1; if c >= w { break; } }
+first slot f | if u.active { emit f 1; break; }";
+
+/// A program with a place for a loop body.
+static FRAME: &str = "vertex 1; mode dense; limit 1;
+field x: int = id;
+field live: bool = true;
+slot s: sum;
+slot f: first;
+slot g: first;
+start true;
+dense when true {
+  let c: int = 0;
+  let d: int = 0;
+  let k: int = 2;
+  for u { BODY }
+}
+update { }
 ";
 
-const FRAME: (&str, &str) = (
-    "vertex 1; mode dense; limit 1; field x: int = id; field live: bool = true; slot s: sum; slot f: first; slot g: first; start true; dense when true { let c: int = 0; let d: int = 0; let k: int = 2; for u { ",
-    " } } update { }",
-);
-
-/// The answer, and behind it what stands behind the mode of a program.
-const PROGRAMS: &str =
-    "no-loop | sparse; limit 1; slot s: sum; slot f: first; start true; sparse when true { emit s 1; } update { }
+/// The answer, and what stands behind the mode of a program.
+static PROGRAMS: &str = "\
+no-loop | sparse; limit 1; slot s: sum; slot f: first; start true; sparse when true { emit s 1; } update { }
 first slot f | sparse; limit 1; slot s: sum; slot f: first; start true; sparse when true { emit f 1; } update { }
 reductions | dense; limit 1; slot f: first; start true; dense when true { for u { } emit f 1; } update { }
 first slot g | auto; limit 1; slot s: sum; slot g: first; start true; dense when true { let c: int = 0; for u { c += 1; } } sparse when true { emit g 1; } update { }
-";
+reductions | dense; limit 1; start true; dense when true { for u { } } update { }";
 
-/// The answer for a text as its text.
-fn answer(alloc: Global, text: &[u8]) -> Result<String, AllocError> {
-    let Ok(program) = read_program(alloc, text) else {
-        return String::from_str(alloc, "no program");
-    };
-    let split = split_of(program);
-    match free(&split) {
-        Freedom::NoLoop => String::from_str(alloc, "no-loop"),
-        Freedom::Reductions => String::from_str(alloc, "reductions"),
-        Freedom::FoundOne => String::from_str(alloc, "found-one"),
-        Freedom::ReachACount => String::from_str(alloc, "reach-a-count"),
-        Freedom::OtherLoop => String::from_str(alloc, "loop"),
+/// The answer for a program as its text.
+fn answer(alloc: Global, text: &str) -> Result<String, Fail> {
+    let split = split(alloc, text)?;
+    let word = match free(&split) {
+        Freedom::NoLoop => "no-loop",
+        Freedom::Reductions => "reductions",
+        Freedom::FoundOne => "found-one",
+        Freedom::ReachACount => "reach-a-count",
+        Freedom::OtherLoop => "loop",
         Freedom::FirstSlot(place) => {
             let program = &split.program.program;
-            let name = program
-                .slots
-                .get(usize::from(place))
-                .and_then(|slot| program.names.get(slot.name.name as usize));
-            match name {
-                Some(name) => format!(in alloc; "first slot {name}"),
-                None => String::from_str(alloc, "first slot without a name"),
-            }
+            let slot = program.slots.get(usize::from(place)).ok_or("no slot")?;
+            let name = program.names.get(slot.name.name as usize).ok_or("no name")?;
+            return Ok(format!(in alloc; "first slot {name}")?);
         }
-    }
+    };
+    Ok(String::from_str(alloc, word)?)
 }
 
 #[test]
 fn forms_of_loops(rt: HostRuntime) -> Result<(), Fail> {
+    order_free_loops();
+    order_free_runs();
+    order_free_programs();
     let alloc = rt.alloc();
-    for row in BODIES.lines() {
-        let Some((wanted, body)) = row.split_once(" |") else {
-            return Err(AllocError.into());
-        };
-        let text = format!(in alloc; "{}{body}{}", FRAME.0, FRAME.1)?;
-        assert_eq!(rt; answer(alloc, text.as_bytes())?.as_str(), wanted, "{body}");
+    for line in BODIES.lines() {
+        let mut cells = Cells::new(line);
+        let wanted = cells.text();
+        let text = edited(alloc, FRAME, "BODY", cells.text())?;
+        assert_eq!(rt; answer(alloc, &text)?.as_str(), wanted, "{line}");
     }
-    for row in PROGRAMS.lines() {
-        let Some((wanted, rest)) = row.split_once(" |") else {
-            return Err(AllocError.into());
-        };
-        let text = format!(in alloc; "vertex 1; mode{rest}")?;
-        assert_eq!(rt; answer(alloc, text.as_bytes())?.as_str(), wanted, "{rest}");
+    for line in PROGRAMS.lines() {
+        let mut cells = Cells::new(line);
+        let wanted = cells.text();
+        let text = format!(in alloc; "vertex 1; mode {}", cells.text())?;
+        assert_eq!(rt; answer(alloc, &text)?.as_str(), wanted, "{line}");
     }
     Ok(())
 }

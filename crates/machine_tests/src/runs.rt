@@ -1,40 +1,53 @@
-//! Source runs of the plain program: rows, rounds and reads.
+//! Source runs: rows, rounds and reads, by the trees of programs and by their code.
 
-use edge_reader::read_text;
-use plain_run::{PlainRun, run_plainly};
-use program_reader::read_program;
+use super::engine::{Job, run_by_code};
+use super::programs::{code_of, edges, numbers, plain_run, split};
+use plain_run::PlainRun;
+use sample_programs::{Cells, program_named};
 use std::alloc::{AllocError, Global};
+use std::process::Abort;
 use std::test::Fail;
 use vert_base::{Row, Ruling};
 
 /// A program, its graph, the ends of the chunks, and what a run is: its rounds, each with its ruling,
 /// its active vertices and edges and the reads at each vertex, and then the words of each row.
-static RUNS: [(&str, &str, &[u32], &str); 5] = [
-    (FIRST, STAR, &[4], "dense 4 4 [1] [0] [] [] / 1 0 -1 -1"),
-    (FIRST, STAR, &[2, 4], "dense 4 4 [1] [2] [] [] / 1 2 -1 -1"),
-    (FIRST0, STAR, &[2, 4], "/ -1 -1 -1 -1"),
-    (
-        HALVE,
-        "0 1\n1 2\n",
-        &[1, 2, 3],
-        "dense 3 2 [] [0] [1] dense 3 2 [] [0] [1] / 0 0 1",
-    ),
-    (PUSHED, STAR, &[2, 4], "sparse 4 4 [] [] [] [] / 1 5 -1 -1"),
-];
+static ROUNDS: &str = "\
+first | 0 1/2 1/3 1/1 0/ | 4 | dense 4 4 [1] [0] [] [] / 1 0 -1 -1
+first | 0 1/2 1/3 1/1 0/ | 2 4 | dense 4 4 [1] [2] [] [] / 1 2 -1 -1
+first0 | 0 1/2 1/3 1/1 0/ | 2 4 | / -1 -1 -1 -1
+halve | 0 1/1 2/ | 1 2 3 | dense 3 2 [] [0] [1] dense 3 2 [] [0] [1] / 0 0 1
+pushed | 0 1/2 1/3 1/1 0/ | 2 4 | sparse 4 4 [] [] [] [] / 1 5 -1 -1";
 
-const STAR: &str = "0 1\n2 1\n3 1\n1 0\n";
+/// A program, its graph, the ends of the chunks, and the words of the last rows.
+static ROWS: &str = "\
+bfs | 0 1/0 2/1 3/2 3 | 4 | 0 -1 1 0 1 0 2 1
+bfs | 0 1/0 2/1 3/2 3 | 2 4 | 0 -1 1 0 1 0 2 1
+bfs | 0 1/0 2/1 3/2 3 | 2 3 4 | 0 -1 1 0 1 0 2 1
+k | 0 1/1 0/1 2/2 1/0 2/2 0/0 3/3 0 | 4 | 1 1 1 0
+k | 0 1/1 0/1 2/2 1/0 2/2 0/0 3/3 0 | 2 3 4 | 1 1 1 0
+first | 0 1/2 1/3 1/1 0 | 4 | 1 0 -1 -1
+first | 0 1/2 1/3 1/1 0 | 2 4 | 1 2 -1 -1
+first0 | 0 1/0 2/1 3/2 3 | 2 4 | -1 -1 -1 -1
+heavy | 2 1 4/0 1 9/0 1 5 | 3 | -1 9 -1
+heavy | 2 1 4/0 1 9/0 1 5 | 2 3 | -1 4 -1
+sum | 0 1 5/1 2 7/2 0 -3/0 2 4 | 1 2 3 | -3 5 11
+sum | 0 1/0 2/1 3/2 3 | 4 | 0 1 1 2
+wrap | 0 2/1 2 | 1 2 3 | 9223372036854775807 1 -9223372036854775808
+zero | 0 1 | 1 2 | 0 1
+sample | 0 1 | 2 | -1 0
+sample | 0 1/2 1/3 1/1 0 | 4 | 1 2 -1 -1
+sample | 0 1/2 1/3 1/1 0 | 2 4 | 1 3 -1 -1
+halve | 0 1/1 2 | 3 | 0 0 1
+halve | 0 1/1 2 | 1 2 3 | 0 0 1";
 
-const FIRST: &str =
-    "vertex 1; mode dense; limit 1; field pick: int = -1; slot seen: first; start true; dense when true { for u { emit seen u.id; break; } } update { if seen.got { pick = seen.value; } }";
-
-const FIRST0: &str =
-    "vertex 1; mode dense; limit 0; field pick: int = -1; slot seen: first; start true; dense when true { for u { emit seen u.id; break; } } update { if seen.got { pick = seen.value; } }";
-
-const HALVE: &str =
-    "vertex 2; mode dense; limit 10; field c: int = 1; slot a: sum; total t: sum = c; start true; dense when true { for u { emit a u.c; } } update { c = a.value; active = true; } stop t < 2;";
-
-const PUSHED: &str =
-    "vertex 1; mode sparse; limit 1; field pick: int = -1; slot seen: sum; start true; sparse when true { send from: int = id; emit seen from; } update { if seen.got { pick = seen.value; } }";
+/// A program that only sends.
+static PUSHED: &str = "vertex 1; mode sparse; limit 1;
+field pick: int = -1;
+slot seen: sum;
+start true;
+sparse when true { send from: int = id; emit seen from; }
+update { if seen.got { pick = seen.value; } }
+";
 
 fn ruling(ruling: Ruling) -> &'static str {
     match ruling {
@@ -55,7 +68,7 @@ fn put_rows(rows: &[Row], out: &mut String) -> Result<(), AllocError> {
 }
 
 /// A run as its text.
-pub(crate) fn told(alloc: Global, run: &PlainRun) -> Result<String, AllocError> {
+fn told(alloc: Global, run: &PlainRun) -> Result<String, AllocError> {
     let mut out = String::new(alloc);
     for played in &run.rounds {
         out.push_str(ruling(played.ruling))?;
@@ -72,18 +85,46 @@ pub(crate) fn told(alloc: Global, run: &PlainRun) -> Result<String, AllocError> 
     Ok(out)
 }
 
+/// The run of a program, which is the same by its trees and by its code.
+fn run_told(
+    rt: &impl Abort,
+    alloc: Global,
+    program: &str,
+    graph: &str,
+    ends: &str,
+) -> Result<String, Fail> {
+    let split = split(alloc, program_named(program).unwrap_or(PUSHED))?;
+    let code = code_of(alloc, &split)?;
+    let edges = edges(alloc, graph)?;
+    let ends = numbers(alloc, ends)?;
+    let plain = plain_run(alloc, &split.program, &edges, &ends)?;
+    let job = Job {
+        program: &split.program.program,
+        code: &code,
+        edges: &edges,
+        ends: &ends,
+        draws: 42,
+    };
+    let shown = told(alloc, &run_by_code(rt, alloc, job, &plain)?)?;
+    let wanted = told(alloc, &plain)?;
+    assert_eq!(rt; shown.as_str(), wanted.as_str(), "{program}");
+    Ok(shown)
+}
+
 #[test]
 fn source_runs(rt: HostRuntime) -> Result<(), Fail> {
-    let alloc = rt.alloc();
-    for &(text, graph, ends, wanted) in &RUNS {
-        let Ok(program) = read_program(alloc, text.as_bytes()) else {
-            return Err(AllocError.into());
-        };
-        let edges = read_text(alloc, graph.as_bytes(), None, false)?;
-        let Ok(run) = run_plainly(alloc, &program, edges.vertices, &edges.list, ends, 42) else {
-            return Err(AllocError.into());
-        };
-        assert_eq!(rt; told(alloc, &run)?.as_str(), wanted, "{text}");
+    for line in ROUNDS.lines() {
+        let mut cells = Cells::new(line);
+        let (program, graph, ends) = (cells.text(), cells.text(), cells.text());
+        let found = run_told(&rt, rt.alloc(), program, graph, ends)?;
+        assert_eq!(rt; found.as_str(), cells.text(), "{line}");
+    }
+    for line in ROWS.lines() {
+        let mut cells = Cells::new(line);
+        let (program, graph, ends) = (cells.text(), cells.text(), cells.text());
+        let found = run_told(&rt, rt.alloc(), program, graph, ends)?;
+        let (_, rows) = found.split_once("/ ").ok_or("no rows")?;
+        assert_eq!(rt; rows, cells.text(), "{line}");
     }
     Ok(())
 }

@@ -1,7 +1,7 @@
 //! The calls that run code and expressions, each of which tests first that every name has its place.
 
-ghost use Rattle.std.specs.Prelude.{◌≡◌, ◌+◌, ◌≤◌, All, IsTrue, length};
-ghost use Rattle.vert_tree.specs.Places.{expr_placed, is_named, is_other_field, is_slot};
+ghost use Rattle.std.specs.Prelude.{◌≡◌, ◌+◌, ◌<◌, ◌^◌, All, IsTrue, length};
+ghost use Rattle.vert_tree.specs.Places.{expr_placed, is_named, is_other_field, is_slot, lets_placed};
 ghost use Rattle.vert_eval.specs.Values.{counts_of};
 ghost use Rattle.vert_code.specs.Blocks.{list_of};
 ghost use Rattle.vert_code.specs.Valid.{has_names, list_names};
@@ -12,16 +12,17 @@ use std::process::Abort;
 use symple_face::{Feed, ListFeed};
 use vert_base::{Neighbour, Row};
 use vert_code::{Block, Code, Instr};
-use vert_eval::{Env, eval};
-use vert_tree::{Expr, Node, What};
+use vert_eval::{Env, Flow, eval};
+use vert_tree::{Decl, Expr, Node, What};
 use vert_vm::{step_block, step_segment};
 
-fn is_named(name: What, env: &Env) -> bool
-    ensures { result ≡ is_named (counts_of env.now) name }
+/// Whether a name has its place in an environment with so many locals.
+fn is_named(name: What, env: &Env, locals: usize) -> bool
+    ensures { result ≡ is_named (record (counts_of env.now) { locals = locals }) name }
 {
     match name {
         What::Field(i) => usize::from(i) < env.row.words.len(),
-        What::Local(i) => usize::from(i) < env.locals.len(),
+        What::Local(i) => usize::from(i) < locals,
         What::Send(i) => usize::from(i) < env.sends.len(),
         What::Total(i) => usize::from(i) < env.totals.len(),
         What::Unread | What::Slot(_) => false,
@@ -46,21 +47,35 @@ fn is_other_field(name: What, env: &Env) -> bool
     }
 }
 
-/// Whether each name of an expression has its place in an environment.
-fn is_placed(e: &Expr, env: &Env) -> bool
-    ensures { result ≡ expr_placed (counts_of env.now) e.now }
+/// Whether each name of an expression has its place in an environment with so many locals.
+fn is_placed(e: &Expr, env: &Env, locals: usize) -> bool
+    ensures { result ≡ expr_placed (record (counts_of env.now) { locals = locals }) e.now }
 {
     match &e.node {
         Node::Int(_) | Node::Bool(_) | Node::Word(_) | Node::OtherWord(_) => true,
-        Node::Name(name) => is_named(name.what, env),
+        Node::Name(name) => is_named(name.what, env, locals),
         Node::Got(name) | Node::Value(name) => is_slot(name.what, env),
         Node::OtherField(name) => is_other_field(name.what, env),
         Node::Draw(_, number) => *number < 256,
-        Node::Neg(a) | Node::Not(a) | Node::Group(a) => is_placed(a, env),
-        Node::Binary(_, a, b) => is_placed(a, env) && is_placed(b, env),
-        Node::Least(a, b) | Node::Greatest(a, b) => is_placed(a, env) && is_placed(b, env),
+        Node::Neg(a) | Node::Not(a) | Node::Group(a) => is_placed(a, env, locals),
+        Node::Binary(_, a, b) => is_placed(a, env, locals) && is_placed(b, env, locals),
+        Node::Least(a, b) | Node::Greatest(a, b) => is_placed(a, env, locals)
+            && is_placed(b, env, locals),
         Node::Cond(test, a, b) => {
-            is_placed(test, env) && (is_placed(a, env) && is_placed(b, env))
+            is_placed(test, env, locals) && (is_placed(a, env, locals) && is_placed(b, env, locals))
+        }
+    }
+}
+
+/// Whether each name of lets has its place, where so many stand before them.
+pub(crate) fn are_placed(lets: &[Decl], env: &Env, locals: usize) -> bool
+    requires { locals + length lets.now < 2 ^ 32 }
+    ensures { result ≡ lets_placed (record (counts_of env.now) { locals = locals }) lets.now }
+{
+    match lets {
+        [] => true,
+        [first, rest @ ..] => {
+            is_placed(&first.value, env, locals) && are_placed(rest, env, locals + 1)
         }
     }
 }
@@ -111,7 +126,7 @@ fn are_wide(members: &[(Neighbour, Row)], words: usize) -> bool
 /// The value of an expression.
 pub(crate) fn value(rt: &impl Abort, e: &Expr, env: &Env) -> i64 {
     assert!(rt; env.round <= 10_000 && env.id.0 < 1 << 24);
-    assert!(rt; is_placed(e, env));
+    assert!(rt; is_placed(e, env, env.locals.len()));
     eval(e, env)
 }
 
@@ -137,14 +152,14 @@ fn left_in(feed: &mut ListFeed, most: usize) -> usize {
     most
 }
 
-/// Runs the loop body over the members: how many were read.
+/// Runs the loop body over the members: how it ended, and how many were read.
 pub(crate) fn walk(
     rt: &impl Abort,
     code: &Code,
     members: Vec<(Neighbour, Row)>,
     env: &mut Env,
     emits: &mut Emits,
-) -> usize {
+) -> (Flow, usize) {
     let count = members.len();
     let words = env.row.words.len();
     assert!(rt; env.round <= 10_000 && env.id.0 < 1 << 24);
@@ -152,6 +167,6 @@ pub(crate) fn walk(
     assert!(rt; env.other_row.words.len() == words && are_wide(&members, words));
     assert!(rt; list_names(list_at(code, Block::Loop), env));
     let mut feed = ListFeed::new(members);
-    step_segment(code, env, emits, &mut feed);
-    count.saturating_sub(left_in(&mut feed, count))
+    let flow = step_segment(code, env, emits, &mut feed);
+    (flow, count.saturating_sub(left_in(&mut feed, count)))
 }
