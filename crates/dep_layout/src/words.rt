@@ -5,7 +5,7 @@ ghost use Rattle.dep_layout.specs.Judgement.{rows_in, word_of, words_in};
 
 use crate::lay_words;
 use crate::state::Words;
-use std::alloc::AllocError;
+use vert_base::Want;
 
 // The word that eight bytes spell.
 #[tactic(auto, unfolding(crate::specs::Judgement::word_of))]
@@ -79,9 +79,9 @@ pub(crate) fn read_words<const W: usize>(bytes: &[u8]) -> Words<W>
 pub(crate) fn push_words<const W: usize>(
     bytes: &mut Vec<u8>,
     words: &Words<W>,
-) -> Result<(), AllocError>
+) -> Result<(), Want>
     ensures { OnOk result (bytes.new.items ≡ bytes.old.items ++ flat_map word_bytes words.now.at) }
 {
-    lay_words!(bytes, words);
+    lay_words!(bytes, &words.at);
     Ok(())
 }
