@@ -72,7 +72,7 @@ refresh_missing count width bools =
 
 -- ---- update
 
-no_values : (n : ℕ) → values_in n 0 [] ≡ replicate n None
+pub no_values : (n : ℕ) → values_in n 0 [] ≡ replicate n None
 no_values zero = refl
 no_values (suc n) = ap (λ xs. None ∷ xs) (no_values n)
 

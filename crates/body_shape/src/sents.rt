@@ -1,10 +1,21 @@
-ghost use Rattle.std.specs.Prelude.{◌≡◌, ◌≤◌, ◌<◌, ◌+◌, ◌*◌, ◌^◌, ◌++◌, ℕ, None, length, slice_index_or, vec_capacity, vec_len, IsOk, OnErr, OnOk};
+ghost use Rattle.std.specs.Prelude.{◌≡◌, ◌≤◌, ◌<◌, ◌+◌, ◌*◌, ◌^◌, ◌++◌, ℕ, None, is_some, if◌then◌else◌, length, slice_index_or, vec_capacity, vec_len, IsOk, OnErr, OnOk};
 ghost use Rattle.body_shape.specs.Places.{flags_of, mask_of, set_count, there};
 ghost use Rattle.body_shape.specs.Refresh.{words_bytes};
 ghost use Rattle.body_shape.specs.Update.{behind_sent, behind_values, sent_at, sent_bytes, values_in};
 
 use crate::words::{behind, lay, word_at};
 use vert_base::Want;
+
+// 1 where a value is there.
+fn bit_of(value: Option<i64>) -> u8
+    ensures value { result ≡ (if is_some value then 1 else 0) }
+    ensures small { result ≤ 1 }
+{
+    match value {
+        Some(_) => 1,
+        None => 0,
+    }
+}
 
 // The number whose bit i is set where value i is there.
 fn mask_of(values: &[Option<i64>]) -> u8
@@ -15,10 +26,7 @@ fn mask_of(values: &[Option<i64>]) -> u8
     let mut place = values.len();
     'places: while 0 < place {
         place -= 1;
-        mask *= 2;
-        if values[place].is_some() {
-            mask += 1;
-        }
+        mask = bit_of(values[place]) + 2 * mask;
     }
     mask
 }

@@ -4,7 +4,6 @@ ghost use Rattle.body_shape.specs.Fit.{number_of};
 ghost use Rattle.body_shape.specs.Refresh.{words_bytes};
 
 use arrayvec::ArrayVec;
-use dep_layout::lay_words;
 use vert_base::Want;
 
 /// The bytes behind the first so many, none where there are no more.
@@ -114,7 +113,9 @@ pub(crate) fn lay(bytes: &mut Vec<u8>, words: &[i64]) -> Result<(), Want>
     ensures len { vec_len bytes.new ≡ vec_len bytes.old + 8 * length words.now }
     ensures capacity { vec_capacity bytes.old ≤ vec_capacity bytes.new }
 {
-    lay_words!(bytes, words);
+    for word in words {
+        bytes.extend_from_slice(&word.to_le_bytes())?;
+    }
     Ok(())
 }
 
