@@ -1,11 +1,11 @@
 -- What stands at a place of bytes.
-use Rattle.std.proofs.Common.{◌≡◌, ℕ, zero, suc, ◌+◌, ◌-◌, ◌*◌, ◌/◌, ◌%◌, ◌^◌, ◌<◌, ◌≤◌, eqb, Bool, true, false, not, cond, count_by, ℤ, Option, Some, None, List, [], ◌∷◌, ◌++◌, length, get_or, take, drop, inl, inr, refl, sym, ap, ◌∙◌, arith}
+use Rattle.std.proofs.Common.{◌≡◌, ℕ, zero, suc, ◌+◌, ◌-◌, ◌*◌, ◌/◌, ◌%◌, ◌^◌, ◌<◌, ◌≤◌, eqb, Bool, true, false, not, cond, ℤ, Some, None, List, [], ◌∷◌, ◌++◌, length, get_or, take, drop, inl, inr, refl, sym, ap, ◌∙◌, arith}
 use Rattle.std.specs.Int.{w64, cast_signed, from_le_bytes}
 use Rattle.std.specs.Int.RustNames.{count_ones}
 use Rattle.std.proofs.Math.Nat.{add-mul-mod_self_left, div-add-mod, mod-eq_of_lt, mod-lt, pow-le-pow_right, pow-succ', zero-div}
 use Rattle.std.proofs.Math.Seq.{drop-nil}
 use Rattle.std.proofs.lemmas.Bool.{cases_lt}
-use Rattle.std.proofs.lemmas.List.{append_assoc, append-nil, drop-drop, get_or-replicate, get_or-take, get_or_append_left, get_or-append_right}
+use Rattle.std.proofs.lemmas.List.{append_assoc, append-nil, get_or-replicate, get_or-take, get_or_append_left, get_or-append_right}
 use Rattle.dep_layout.specs.Judgement.{rows_in, word_of, words_in}
 use Rattle.dep_layout.proofs.LoopLaws.{turns_left}
 use Rattle.dep_layout.proofs.StateLaws.{past_row}
@@ -220,7 +220,7 @@ padded_here (suc n) zero (flag ∷ flags) within = refl
 padded_here (suc n) (suc v) (flag ∷ flags) within = padded_here n v flags (omega arith)
 
 -- a flag in its byte
-flag_in_place : (bytes : List ℕ) (v : ℕ) → not (eqb (get_or bytes (v / 8) 0 / 2 ^ (v % 8) % 2) 0) ≡ get_or (flags_in bytes) v false
+pub flag_in_place : (bytes : List ℕ) (v : ℕ) → not (eqb (get_or bytes (v / 8) 0 / 2 ^ (v % 8) % 2) 0) ≡ get_or (flags_in bytes) v false
 flag_in_place [] v = ap (λ n. not (eqb (n % 2) 0)) (zero-div (2 ^ (v % 8)))
 flag_in_place (b ∷ bytes) v =
     let size : length (flags_of 8 b) ≡ 8 = length-flags_of 8 b in
@@ -229,16 +229,16 @@ flag_in_place (b ∷ bytes) v =
           let at : v / 8 ≡ 0 = omega arith in
           let place : v % 8 ≡ v = omega arith in
           ap (λ k. not (eqb (get_or (b ∷ bytes) k 0 / 2 ^ (v % 8) % 2) 0)) at
-              ∙ ap (λ k. not (eqb (b / 2 ^ k % 2) 0)) place
-              ∙ bit_in_place b v few
-              ∙ sym (get_or_append_left (flags_of 8 b) (flags_in bytes) false v (omega (arith, size)))
+          ∙ ap (λ k. not (eqb (b / 2 ^ k % 2) 0)) place
+          ∙ bit_in_place b v few
+          ∙ sym (get_or_append_left (flags_of 8 b) (flags_in bytes) false v (omega (arith, size)))
       | inr many ↦
           let at : v / 8 ≡ suc ((v - 8) / 8) = omega arith in
           let place : v % 8 ≡ (v - 8) % 8 = omega arith in
           ap (λ k. not (eqb (get_or (b ∷ bytes) k 0 / 2 ^ (v % 8) % 2) 0)) at
-              ∙ ap (λ k. not (eqb (get_or bytes ((v - 8) / 8) 0 / 2 ^ k % 2) 0)) place
-              ∙ flag_in_place bytes (v - 8)
-              ∙ sym (get_or-append_right (flags_of 8 b) (flags_in bytes) 8 v false size many)
+          ∙ ap (λ k. not (eqb (get_or bytes ((v - 8) / 8) 0 / 2 ^ k % 2) 0)) place
+          ∙ flag_in_place bytes (v - 8)
+          ∙ sym (get_or-append_right (flags_of 8 b) (flags_in bytes) 8 v false size many)
     ]
 
 pub sender_in_place : (n v : ℕ) (body : List ℕ) → v < n → not (eqb (get_or body (v / 8) 0 / 2 ^ (v % 8) % 2) 0) ≡ get_or (senders n body) v false

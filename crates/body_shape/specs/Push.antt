@@ -1,5 +1,5 @@
 -- Pushes, as bytes and back.
-use Rattle.std.specs.Prelude.{◌≡◌, ℕ, zero, suc, ◌*◌, ◌<◌, ℤ, Bool, true, false, Option, Some, None, if◌then◌else◌, List, [], ◌∷◌, ◌++◌, length, get_or, take, drop}
+use Rattle.std.specs.Prelude.{◌≡◌, ℕ, zero, suc, ◌*◌, ◌<◌, ℤ, Bool, true, false, Option, Some, None, if◌then◌else◌, List, [], ◌∷◌, ◌++◌, length, get_or, slice_set, take, drop}
 use Rattle.std.specs.List.{AllByRecursion, flat_map, list_all}
 use Rattle.std.specs.Simd.Lanes.{mask_l}
 use Rattle.dep_layout.specs.Spelling.{are_typed}
@@ -53,6 +53,11 @@ pub record SuitsPush (vertices width bools : ℕ) (sends : List (Option (List �
 -- sends are read from what is spelled of them
 abbrev pub PushReadsBack : Type 0
 PushReadsBack = (count words : ℕ) (sends : List (Option (List ℤ))) → length sends ≡ count → AllByRecursion (IsWords words) (there sends) → sends_read words count (push_body sends) ≡ sends
+
+-- by these bytes neither a vertex nor a later one sends, and by those the vertex sends these words
+abbrev pub AddsSend : List ℕ → ℕ → List ℤ → List ℕ → Type 0
+AddsSend old vertex words new = (sends : List (Option (List ℤ))) → old ≡ push_body sends → vertex < length sends → there (drop vertex sends) ≡ [] →
+    new ≡ push_body (slice_set sends vertex (Some words))
 
 -- a vertex in its place: what it sends stands behind what the earlier senders send
 abbrev pub PushInPlace : Type 0

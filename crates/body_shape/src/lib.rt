@@ -15,7 +15,7 @@ pub use laws::{
     update_reads_back, verdict_reads_back,
 };
 pub use rows::{put_row, read_row};
-pub use sends::{is_sender, read_sends};
+pub use sends::{is_sender, put_no_sends, put_send, read_sends};
 pub use sents::{behind_sent, operand_at, put_sent, value_at};
 pub use shape::BodyShape;
 pub use totals::{Counts, counts_of, put_tally, put_verdict, ruling_of};

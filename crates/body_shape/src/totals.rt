@@ -30,8 +30,12 @@ fn lay_number(bytes: &mut Vec<u8>, number: u64) -> Result<(), Want>
 pub fn put_tally(bytes: &mut Vec<u8>, counts: &Counts, totals: &[i64]) -> Result<(), Want>
     requires { length totals.now ≤ 16 }
     ensures put { OnOk result (bytes.new.items ≡ bytes.old.items
-        ++ tally_body (record { active = counts.now.active; edges = counts.now.edges;
-            reads = counts.now.reads; totals = totals.now })) }
+        ++ tally_body (record {
+          active = counts.now.active;
+          edges = counts.now.edges;
+          reads = counts.now.reads;
+          totals = totals.now;
+        })) }
     ensures want { OnErr result (bytes.new.items ≡ bytes.old.items) }
 
     // It succeeds where there is room, and gives none up.

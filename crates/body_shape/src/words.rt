@@ -23,11 +23,7 @@ pub fn behind(bytes: &[u8], count: usize) -> &[u8]
 pub(crate) fn byte_at(bytes: &[u8], place: usize) -> u8
     ensures { result ≡ slice_index bytes.now place }
 {
-    if place < bytes.len() {
-        bytes[place]
-    } else {
-        0
-    }
+    if place < bytes.len() { bytes[place] } else { 0 }
 }
 
 // The first eight bytes, 0 for those that are missing.

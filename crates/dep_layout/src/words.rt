@@ -76,10 +76,7 @@ pub(crate) fn read_words<const W: usize>(bytes: &[u8]) -> Words<W>
 
 /// Writes the words of a state at the end of bytes.
 #[tactic(auto, unfolding(crate::specs::Spelling::word_bytes))]
-pub(crate) fn push_words<const W: usize>(
-    bytes: &mut Vec<u8>,
-    words: &Words<W>,
-) -> Result<(), Want>
+pub(crate) fn push_words<const W: usize>(bytes: &mut Vec<u8>, words: &Words<W>) -> Result<(), Want>
     ensures { OnOk result (bytes.new.items ≡ bytes.old.items ++ flat_map word_bytes words.now.at) }
 {
     lay_words!(bytes, &words.at);

@@ -1,4 +1,4 @@
-use Rattle.std.proofs.Common.{◌*◌, not, Some, take, drop, sym, ap, ◌∙◌}
+use Rattle.std.proofs.Common.{◌*◌, not, Some, take, drop, ap, ◌∙◌}
 use Rattle.std.specs.Int.{w64}
 use Rattle.std.proofs.lemmas.Int.{to_z-of_z}
 use Rattle.std.proofs.lemmas.Bool.{ne_eqb}

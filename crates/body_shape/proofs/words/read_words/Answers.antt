@@ -1,8 +1,8 @@
-use Rattle.std.proofs.Common.{◌≡◌, ◌+◌, ◌-◌, ◌++◌, [], ◌∷◌, length, take, ap, ◌∙◌, to_z, of_z, length-append, arith}
+use Rattle.std.proofs.Common.{◌+◌, ◌-◌, ◌++◌, [], ◌∷◌, length, ap, ◌∙◌, to_z, of_z, length-append, arith}
 use Rattle.std.specs.Int.{w64}
 use Rattle.std.proofs.lemmas.Int.{to_z-of_z}
 use borrow.Author.Rules.{sfits_of}
-use Rattle.dep_layout.specs.Judgement.{word_of, words_in}
+use Rattle.dep_layout.specs.Judgement.{words_in}
 use Rattle.body_shape.proofs.ReadLaws.{read_step}
 use Rattle.body_shape.proofs.words.read_words.Goals as goal
 
