@@ -2,14 +2,14 @@
 use Rattle.std.specs.Prelude.{ℕ, ◌+◌, ◌==◌, not, nat_lt, Option, Some, None, if◌then◌else◌, List, length, drop}
 use Rattle.vert_base.specs.declared.message.Name.{Name}
 use Rattle.vert_base.specs.HeaderBytes.{is_proper, name_in, size_in}
-use Rattle.symple_face.specs.declared.body_shape.BodyShape.{BodyShape}
+use Rattle.body_shape.specs.declared.shape.BodyShape.{BodyShape}
 use Rattle.symple_face.specs.declared.part.Part.{Part}
 use Rattle.symple_face.specs.PartViews.{plain_of}
 use Rattle.symple_face.specs.Shapes.{shape_of}
 use Rattle.dep_message.specs.declared.fault.MessageFault.{MessageFault}
 use Rattle.dep_message.specs.declared.fault.MessageFault.TheVariants as fault
 use Rattle.dep_message.specs.declared.header.Header.{Header}
-use Rattle.dep_message.specs.Fit.{is_fit}
+use Rattle.body_shape.specs.Fit.{is_fit}
 
 -- the header at the front of bytes
 abbrev pub header_in : List ℕ → Header

@@ -7,8 +7,6 @@ pub mod limits;
 mod message;
 mod name_text;
 mod place;
-#[cfg(test)]
-mod tests;
 mod text;
 mod value;
 
