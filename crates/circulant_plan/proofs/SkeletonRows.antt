@@ -24,32 +24,43 @@ abbrev go_1 : Event × Ruling
 go_1 = (Go 1, Stop)
 
 -- one machine and one dense round: tell, judge, begin, two scans, close, judge
-one_machine : is_complete one both (go_0 ∷ (Go 0, Dense) ∷ go_0 ∷ go_0 ∷ go_0 ∷ go_0 ∷ go_0 ∷ []) (first_skeleton 1) ≡ true
+one_machine : is_complete one both (go_0 ∷ (Go 0, Dense) ∷ go_0 ∷ go_0 ∷ go_0 ∷ go_0 ∷ go_0 ∷ [])
+    (first_skeleton 1) ≡ true
 one_machine = refl
 
 -- a judge may not begin a round past the limit
-past_limit : is_complete one both (go_0 ∷ (Go 0, Dense) ∷ go_0 ∷ go_0 ∷ go_0 ∷ go_0 ∷ (Go 0, Sparse) ∷ go_0 ∷ go_0 ∷ go_0 ∷ []) (first_skeleton 1) ≡ false
+past_limit : is_complete one both
+    (go_0 ∷ (Go 0, Dense) ∷ go_0 ∷ go_0 ∷ go_0 ∷ go_0 ∷ (Go 0, Sparse) ∷ go_0 ∷ go_0 ∷ go_0 ∷ [])
+    (first_skeleton 1) ≡ false
 past_limit = refl
 
 -- two machines and no round: three goes and two takes
-no_round : is_complete two both (go_0 ∷ go_1 ∷ (Take (tally_name 0 1), Stop) ∷ go_0 ∷ (Take (verdict_name 1 1), Stop) ∷ []) (first_skeleton 2) ≡ true
+no_round : is_complete two both
+    (go_0 ∷ go_1 ∷ (Take (tally_name 0 1), Stop) ∷ go_0 ∷ (Take (verdict_name 1 1), Stop) ∷ [])
+    (first_skeleton 2) ≡ true
 no_round = refl
 
 -- the judge waits for the tally
-waits : is_complete two both (go_0 ∷ go_1 ∷ go_0 ∷ (Take (tally_name 0 1), Stop) ∷ (Take (verdict_name 1 1), Stop) ∷ []) (first_skeleton 2) ≡ false
+waits : is_complete two both
+    (go_0 ∷ go_1 ∷ go_0 ∷ (Take (tally_name 0 1), Stop) ∷ (Take (verdict_name 1 1), Stop) ∷ [])
+    (first_skeleton 2) ≡ false
 waits = refl
 
 -- two machines begin round 1 again as a sparse one: a push comes before its receiver needs it
 resumed : is_complete two both
-    (go_0 ∷ (Take (push_name 1 0 1), Stop) ∷ go_1 ∷ (Take (push_name 1 1 0), Stop) ∷ go_1 ∷ go_0 ∷ (Take (tally_name 1 1), Stop) ∷ go_0 ∷ (Take (verdict_name 2 1), Stop) ∷ [])
+    (go_0 ∷ (Take (push_name 1 0 1), Stop) ∷ go_1 ∷ (Take (push_name 1 1 0), Stop) ∷ go_1 ∷ go_0 ∷
+    (Take (tally_name 1 1), Stop) ∷ go_0 ∷ (Take (verdict_name 2 1), Stop) ∷ [])
     (resumed_skeleton 2 1 Sparse) ≡ true
 resumed = refl
 
 -- two machines and one dense round with a carry, from its begin: 13 goes and 12 takes
 dense_round : is_complete two both
-    (go_0 ∷ go_1 ∷ (Take (refresh_name 1 0 1), Stop) ∷ (Take (refresh_name 1 1 0), Stop) ∷ go_0 ∷ go_0 ∷ go_1 ∷ (Take (dep_name 1 0 0 0 1), Stop) ∷ go_1
-    ∷ go_1 ∷ (Take (dep_name 1 0 1 0 1), Stop) ∷ go_1 ∷ (Take (dep_name 1 0 1 1 0), Stop) ∷ (Take (dep_name 1 0 0 1 0), Stop) ∷ go_0 ∷ go_0
-    ∷ (Take (update_name 1 0 0 1 0), Stop) ∷ (Take (update_name 1 0 1 1 0), Stop) ∷ (Take (update_name 1 0 0 0 1), Stop) ∷ (Take (update_name 1 0 1 0 1), Stop)
+    (go_0 ∷ go_1 ∷ (Take (refresh_name 1 0 1), Stop) ∷
+    (Take (refresh_name 1 1 0), Stop) ∷ go_0 ∷ go_0 ∷ go_1 ∷ (Take (dep_name 1 0 0 0 1), Stop) ∷ go_1
+    ∷ go_1 ∷ (Take (dep_name 1 0 1 0 1), Stop) ∷ go_1 ∷ (Take (dep_name 1 0 1 1 0), Stop) ∷
+    (Take (dep_name 1 0 0 1 0), Stop) ∷ go_0 ∷ go_0
+    ∷ (Take (update_name 1 0 0 1 0), Stop) ∷ (Take (update_name 1 0 1 1 0), Stop) ∷
+    (Take (update_name 1 0 0 0 1), Stop) ∷ (Take (update_name 1 0 1 0 1), Stop)
     ∷ go_0 ∷ go_1 ∷ (Take (tally_name 1 1), Stop) ∷ go_0 ∷ (Take (verdict_name 2 1), Stop) ∷ [])
     (resumed_skeleton 2 1 Dense) ≡ true
 dense_round = refl
