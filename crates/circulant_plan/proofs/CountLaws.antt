@@ -50,7 +50,7 @@ tally_none r = refl
 tally_one : (m r : ℕ) → 1 ≤ m → length (tally_gives m r) ≡ 1
 tally_one m r some = let b = not_zero m (λ e. omega arith) in rw b refl
 
-length-map_others : (f : ℕ → Name) (p m : ℕ) → m < p → length (map f (others_of p m)) ≡ p - 1
+pub length-map_others : (f : ℕ → Name) (p m : ℕ) → m < p → length (map f (others_of p m)) ≡ p - 1
 length-map_others f p m lt = length-map (others_of p m) f ∙ length-others p m lt
 
 length-flat_map_append : {X Y : Type 0} (f : X → List Y) (xs ys : List X) →

@@ -1,7 +1,7 @@
 -- The neighbours that lie with the machines of the first steps.
 use Rattle.std.proofs.Common.{◌≡◌, ◌≢◌, ℕ, zero, suc, ◌+◌, ◌-◌, ◌<◌, ◌≤◌, Bool, true, false, ◌||◌, List, [], ◌∷◌, ◌++◌, refl, ap, sym, ◌∙◌, arith, ⊎_elim, subst, append-nil, slice_index}
 use Rattle.std.specs.List.{filter}
-use Rattle.std.proofs.lemmas.Bool.{cases_Bool, cases_lt}
+use Rattle.std.proofs.lemmas.Bool.{or_left, or_right, cases_Bool, cases_lt}
 use Rattle.std.proofs.lemmas.List.Elements.{filter-append}
 use Rattle.vert_base.specs.declared.graph.Edge.{Edge}
 use Rattle.vert_base.specs.Neighbours.{source, ins_of, neighbours_of}
@@ -10,14 +10,6 @@ use Rattle.circulant_plan.specs.Laws.{ReadsEarlyOnes}
 use Rattle.circulant_plan.proofs.SpanLaws.{rises_far}
 use Rattle.circulant_plan.proofs.CircleLaws.{order_once}
 use Rattle.circulant_plan.proofs.ReadingLaws.{bound, lies_is, lies_above, lies_below, order_within, end_is, start_is, bound_rises, by_parts}
-
-or_right : (a b : Bool) → b ≡ true → (a || b) ≡ true
-or_right true b e = refl
-or_right false b e = e
-
-or_left : (a b : Bool) → a ≡ true → (a || b) ≡ true
-or_left true b e = refl
-or_left false b e = absurd (grind arith)
 
 both_false : (a b : Bool) → a ≡ false → b ≡ false → (a || b) ≡ false
 both_false true b e f = absurd (grind arith)

@@ -1,7 +1,8 @@
 -- What a spot sends is needed later.
 use Rattle.std.proofs.Common.{◌≡◌, ◌≢◌, ℕ, ◌+◌, ◌-◌, ◌<◌, ◌≤◌, Bool, true, false, cond, ◌&&◌, nat_lt, List, [], ◌∷◌, map, refl, ap, sym, subst, inl, inr, arith, ⊎_elim}
 use Rattle.std.specs.List.{range_with_len}
-use Rattle.std.proofs.lemmas.Bool.{cases_lt, cases_eq}
+use Rattle.std.proofs.lemmas.Bool.{and_from, cases_lt, cases_eq}
+use Rattle.std.proofs.Math.Nat.{mod-lt}
 use Rattle.vert_base.specs.declared.message.Name.{Name}
 use Rattle.vert_base.specs.declared.value.Ruling.{Ruling}
 use Rattle.vert_base.specs.declared.value.Ruling.TheVariants.{Stop, Dense, Sparse}
@@ -13,10 +14,9 @@ use Rattle.circulant_plan.specs.Ring.{order_of, chunk_of, after_machine, before_
 use Rattle.circulant_plan.specs.Table.{others_of, name_if, updates_to, needs_of, tally_gives, gives_of}
 use Rattle.circulant_plan.specs.Deliveries.{HasSpot, place_at, IsNeededLater, SentIsNeeded}
 use Rattle.circulant_plan.proofs.Members.{Has, has_from_contains, contains_from_has, has_left, has_right, has_map_cases, has_map, has_flat_map, has_range, has_others_cases, has_others}
-use Rattle.circulant_plan.proofs.Choices.{has_name_if_cases, has_name_if, both_true}
+use Rattle.circulant_plan.proofs.Choices.{has_name_if_cases, has_name_if}
 use Rattle.circulant_plan.proofs.StandingLaws.{is_zero, not_zero, below_true, below_false}
 use Rattle.circulant_plan.proofs.CircleLaws.{chunk_other, order_of_chunk, before_after, after_other, step_of_chunk, step_early}
-use Rattle.std.proofs.Math.Nat.{mod-lt}
 
 module _ (ring : Ring) (small : ring.machines ≤ 64) where
   -- the list of one tally
@@ -154,7 +154,7 @@ module _ (ring : Ring) (small : ring.machines ≤ 64) where
       let back : before_machine k p ≡ m = before_after m p within in
       let same : s + 1 - 1 ≡ s = omega arith in
       let test : (ring.carry && nat_lt 0 (s + 1)) ≡ true =
-      both_true ring.carry (nat_lt 0 (s + 1)) carries (below_true 0 (s + 1) (omega arith)) in
+      and_from ring.carry (nat_lt 0 (s + 1)) carries (below_true 0 (s + 1) (omega arith)) in
       let plain : Has (name_if (ring.carry && nat_lt 0 (s + 1)) (dep_name r s h m k)) (dep_name r s h m k) =
       has_name_if (ring.carry && nat_lt 0 (s + 1)) (dep_name r s h m k) test in
       let half_way : Has (name_if (ring.carry && nat_lt 0 (s + 1)) (dep_name r s h (before_machine k p) k))

@@ -2,8 +2,6 @@
 use Rattle.std.proofs.Common.{inl, inr, subst, ⊎_elim, ◌<◌, ◌≡◌, ℕ, zero, suc, ◌+◌, ◌-◌, ◌≤◌, Bool, true, false, ◌==◌, nat_lt, List, [], ◌∷◌, ◌++◌, length, map, refl, ap, sym, ◌∙◌, arith}
 use Rattle.std.specs.Prelude.{if◌then◌else◌}
 use Rattle.std.specs.List.{range_with_len}
-use Rattle.std.proofs.lemmas.List.{length-append, length-map}
-use Rattle.std.proofs.lemmas.List.FromFn.{length-range_with_len}
 use Rattle.vert_base.specs.declared.message.Name.{Name}
 use Rattle.vert_base.specs.declared.message.NameKind.TheVariants.{Dep, Update}
 use Rattle.vert_base.specs.declared.value.Ruling.{Ruling}
@@ -16,6 +14,7 @@ use Rattle.circulant_plan.specs.declared.spot.Spot.TheVariants.{Tell, Judge, Beg
 use Rattle.circulant_plan.specs.Names.{refresh_name, dep_name, update_name, push_name, tally_name, verdict_name}
 use Rattle.circulant_plan.specs.Ring.{chunk_of, after_machine}
 use Rattle.circulant_plan.specs.Table.{others_of, name_if, gives_of}
+use Rattle.circulant_plan.proofs.CountLaws.{length-map_others}
 use Rattle.circulant_plan.proofs.Members.{Has, has_map_cases}
 use Rattle.circulant_plan.proofs.Choices.{has_name_if_cases}
 use Rattle.circulant_plan.proofs.NameLists.{Once}
@@ -30,12 +29,7 @@ name_if_few true x = omega arith
 name_if_few false x = omega arith
 
 few_others : (f : ℕ → Name) (p m : ℕ) → m < p → p ≤ 64 → length (map f (others_of p m)) ≤ 64
-few_others f p m lt few =
-    let a = length-append (range_with_len 0 m) (range_with_len (m + 1) (p - 1 - m)) in
-    let b = length-range_with_len 0 m in
-    let c = length-range_with_len (m + 1) (p - 1 - m) in
-    let d = length-map (others_of p m) f in
-    omega arith
+few_others f p m lt few = let same = length-map_others f p m lt in omega arith
 
 -- an action sends at most 64 messages
 pub gives_few : (ring : Ring) → ring.machines ≤ 64 → (m : ℕ) → m < ring.machines →

@@ -1,7 +1,8 @@
 -- What a spot needs was sent before.
 use Rattle.std.proofs.Common.{◌≡◌, ◌≢◌, ℕ, zero, suc, ◌+◌, ◌-◌, ◌*◌, ◌<◌, ◌≤◌, true, false, cond, ◌&&◌, nat_lt, List, [], ◌∷◌, map, refl, ap, sym, subst, inl, inr, arith, ⊎_elim}
 use Rattle.std.specs.List.{range_with_len}
-use Rattle.std.proofs.lemmas.Bool.{cases_eq}
+use Rattle.std.proofs.lemmas.Bool.{and_parts, cases_eq}
+use Rattle.std.proofs.Math.Nat.{mod-lt}
 use Rattle.vert_base.specs.declared.message.Name.{Name}
 use Rattle.vert_base.specs.declared.value.Ruling.{Ruling}
 use Rattle.vert_base.specs.declared.value.Ruling.TheVariants.{Stop, Dense, Sparse}
@@ -13,10 +14,9 @@ use Rattle.circulant_plan.specs.Ring.{order_of, chunk_of, after_machine, before_
 use Rattle.circulant_plan.specs.Table.{others_of, name_if, needs_of, gives_of}
 use Rattle.circulant_plan.specs.Deliveries.{HasSpot, tally_at, place_at, IsSentBefore, NeededIsSent}
 use Rattle.circulant_plan.proofs.Members.{Has, has_from_contains, contains_from_has, has_append_cases, has_map_cases, has_map, has_flat_map_cases, has_range_cases, has_others_cases, has_others}
-use Rattle.circulant_plan.proofs.Choices.{has_name_if_cases, has_name_if, below_from, and_left, and_right}
+use Rattle.circulant_plan.proofs.Choices.{has_name_if_cases, has_name_if, below_from}
 use Rattle.circulant_plan.proofs.StandingLaws.{is_zero, not_zero, below_true}
 use Rattle.circulant_plan.proofs.CircleLaws.{chunk_other, order_other, chunk_of_order, after_before, before_other}
-use Rattle.std.proofs.Math.Nat.{mod-lt}
 
 module _ (ring : Ring) (small : ring.machines ≤ 64) where
   -- a tally is sent where its round closes
@@ -108,8 +108,8 @@ module _ (ring : Ring) (small : ring.machines ≤ 64) where
       }))
       (λ states.
       let c = has_name_if_cases (ring.carry && nat_lt 0 s) (dep_name r (s - 1) h (before_machine m p) m) x states in
-      let carries = and_left ring.carry (nat_lt 0 s) c.0 in
-      let some = below_from 0 s (and_right ring.carry (nat_lt 0 s) c.0) in
+      let carries = (and_parts ring.carry (nat_lt 0 s) c.0).0 in
+      let some = below_from 0 s (and_parts ring.carry (nat_lt 0 s) c.0).1 in
       let k = before_machine m p in
       let inside : k < p = mod-lt (m + p - 1) (omega arith) in
       let early : nat_lt (s - 1) (p - 1) ≡ true = below_true (s - 1) (p - 1) (omega arith) in

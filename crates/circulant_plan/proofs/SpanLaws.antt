@@ -1,13 +1,14 @@
 -- Spans of keys in lists whose keys don't fall, and the chunks of a ring put one after another.
 use Rattle.std.proofs.Common.{◌≡◌, ℕ, zero, suc, ◌+◌, ◌-◌, ◌<◌, ◌≤◌, ◌*◌, ◌%◌, Bool, true, false, cond, ◌&&◌, leb, ltb, List, [], ◌∷◌, ◌++◌, refl, ap, sym, ◌∙◌, arith, ⊎_elim}
-use Rattle.std.specs.List.{filter, flat_map, range_with_len, AllByRecursion}
 use Rattle.std.specs.Prelude.{◌==◌}
+use Rattle.std.specs.List.{filter, flat_map, range_with_len, AllByRecursion}
 use Rattle.std.proofs.lemmas.Bool.{cases_Bool, cases_lt, eqb-true}
 use Rattle.std.proofs.lemmas.Bool.Decides.{nat_tests}
 use Rattle.std.proofs.lemmas.Nat.{mod-mul-add}
 use Rattle.std.proofs.lemmas.List.Concat.{flat_map-append}
 use Rattle.vert_base.specs.Neighbours.{in_order}
 use Rattle.circulant_plan.specs.Ring.{order_of}
+use Rattle.circulant_plan.proofs.CircleLaws.{order_low}
 
 -- the elements whose key is from lo up to hi, without hi
 abbrev pub span : {X : Type 0} → (X → ℕ) → ℕ → ℕ → List X → List X
@@ -144,11 +145,6 @@ flat_map_shift f g (suc k) c e h =
     ap f c' ∙ (h (i + 1) lt' ∙ sym (ap g e'))) in
     ap (λ ys. ys ++ flat_map f (range_with_len (c + 1) k)) first ∙ ap (λ ys. g e ++ ys) rest
 
-order_early : (d s p : ℕ) → d + 1 + s < p → order_of d s p ≡ d + 1 + s
-order_early d s p h =
-    let e : d + 1 + s ≡ 0 * p + (d + 1 + s) = omega arith in
-    ap (λ q. q % p) e ∙ mod-mul-add 0 p (d + 1 + s) h
-
 order_late : (d s p i : ℕ) → d + 1 + s ≡ p + i → i < p → order_of d s p ≡ i
 order_late d s p i e h =
     let e' : d + 1 + s ≡ 1 * p + i = omega arith in
@@ -168,7 +164,7 @@ by_machines_is key from d p xs up lt h =
     let later : flat_map f (range_with_len 0 a) ≡ flat_map g (range_with_len (d + 1) a) =
     flat_map_shift f g a 0 (d + 1)
     (λ i l. let small : d + 1 + (0 + i) < p = omega arith in let at : order_of d (0 + i) p ≡ d + 1 + i =
-    order_early d (0 + i) p small ∙ omega arith in ap g at) in
+    order_low d (0 + i) p small ∙ omega arith in ap g at) in
     let earlier : flat_map f (range_with_len a (d + 1)) ≡ flat_map g (range_with_len 0 (d + 1)) =
     flat_map_shift f g (d + 1) a 0
     (λ i l. let round : d + 1 + (a + i) ≡ p + (0 + i) = omega arith in let small : 0 + i < p = omega arith

@@ -1,6 +1,5 @@
 pub mod BoundLaws
 pub mod ChoiceLaws
-pub mod ChoiceRows
 pub mod CountKept
 pub mod CountTaken
 pub mod FewLaws
