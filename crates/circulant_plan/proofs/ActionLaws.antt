@@ -32,116 +32,213 @@ module _ (course : Course) (m : ℕ) (within : m < course.ring.machines) where
   open course use {ring, few, mode, not_stop}
 
   -- the spots of machine m
-  abbrev pub Has_spot : Spot → Type 0
-  Has_spot spot = HasSpot ring m (mode (round_of 0 spot)) spot
+  abbrev pub IsSpot : Spot → Type 0
+  IsSpot spot = HasSpot ring m (mode (round_of 0 spot)) spot
 
-  after_254 : (r b : ℕ) → ((m ≡ 0) × (b ≡ 256 * r + 255)) ⊎ ((m ≢ 0) × (b ≡ 256 * r + 256)) → b ≤ 256 * r + 256
+  -- a spot of machine m, whose place is from a on and before b
+  pub record Lies (a b : ℕ) (t : Spot) : Type 0 where
+    pub has : IsSpot t
+    pub going : is_over t ≡ false
+    pub low : a ≤ place_at t
+    pub high : place_at t < b
+
+  -- the place after Tell or a close: that of the judge at machine 0, elsewhere that of the next begin
+  abbrev IsAfter : ℕ → ℕ → Type 0
+  IsAfter r b = ((m ≡ 0) × (b ≡ 256 * r + 255)) ⊎ ((m ≢ 0) × (b ≡ 256 * r + 256))
+
+  after_254 : (r b : ℕ) → IsAfter r b → b ≤ 256 * r + 256
   after_254 r b (inl e) = let f = e.1 in omega arith
   after_254 r b (inr e) = let f = e.1 in omega arith
 
-  no_judge : (r q b : ℕ) → ((m ≡ 0) × (b ≡ 256 * r + 255)) ⊎ ((m ≢ 0) × (b ≡ 256 * r + 256)) → m ≡ 0 →
-      256 * q + 255 < b → q < r
+  no_judge : (r q b : ℕ) → IsAfter r b → m ≡ 0 → 256 * q + 255 < b → q < r
   no_judge r q b (inl e) has lt = let f = e.1 in omega arith
   no_judge r q b (inr e) has lt = absurd (e.0 has)
 
-  tell_between : (b : ℕ) → ((m ≡ 0) × (b ≡ 256 * 0 + 255)) ⊎ ((m ≢ 0) × (b ≡ 256 * 0 + 256)) → (t : Spot) →
-      Has_spot t → is_over t ≡ false → 254 ≤ place_at t → place_at t < b → t ≡ Tell
-  tell_between b at Tell has going low high = refl
-  tell_between b at (Judge q) has going low high = absurd (let n = no_judge 0 q b at has high in omega arith)
-  tell_between b at (Begin q) has going low high = absurd (let n = after_254 0 b at in omega arith)
-  tell_between b at (Scan q s h) has going low high =
-      absurd (let n = after_254 0 b at in let some = has.0 in omega arith)
-  tell_between b at (Close q true) has going low high =
-      absurd (let n = after_254 0 b at in let some = has.0 in omega arith)
-  tell_between b at (Close q false) has going low high =
-      absurd (let n = after_254 0 b at in let some = has.0 in omega arith)
-  tell_between b at Over has going low high = absurd (false≢true (sym going))
-
-  close_true_between : (r b : ℕ) → 1 ≤ r → mode r ≡ Dense →
-      ((m ≡ 0) × (b ≡ 256 * r + 255)) ⊎ ((m ≢ 0) × (b ≡ 256 * r + 256)) → (t : Spot) → Has_spot t →
-      is_over t ≡ false → 256 * r + 254 ≤ place_at t → place_at t < b → t ≡ Close r true
-  close_true_between r b later dense at Tell has going low high = absurd (omega arith)
-  close_true_between r b later dense at (Judge q) has going low high =
-      absurd (let n = no_judge r q b at has high in omega arith)
-  close_true_between r b later dense at (Begin q) has going low high = absurd (let n = after_254 r b at in omega arith)
-  close_true_between r b later dense at (Scan q s h) has going low high =
-      absurd (let n = after_254 r b at in let step = has.1 in let half = has.2 in omega arith)
-  close_true_between r b later dense at (Close q true) has going low high =
-      let n = after_254 r b at in let e : q ≡ r = omega arith in ap (λ i. Close i true) e
-  close_true_between r b later dense at (Close q false) has going low high =
+  tell_between : (b : ℕ) → IsAfter 0 b → (t : Spot) → Lies 254 b t → t ≡ Tell
+  tell_between b at Tell lies = refl
+  tell_between b at (Judge q) lies =
       absurd
-      (let n = after_254 r b at in
-      let e : q ≡ r = omega arith in
-      dense_not_sparse (sym dense ∙ ap mode (sym e) ∙ has.1))
-  close_true_between r b later dense at Over has going low high = absurd (false≢true (sym going))
-
-  close_false_between : (r b : ℕ) → 1 ≤ r → mode r ≡ Sparse →
-      ((m ≡ 0) × (b ≡ 256 * r + 255)) ⊎ ((m ≢ 0) × (b ≡ 256 * r + 256)) → (t : Spot) → Has_spot t →
-      is_over t ≡ false → 256 * r + 254 ≤ place_at t → place_at t < b → t ≡ Close r false
-  close_false_between r b later sparse at Tell has going low high = absurd (omega arith)
-  close_false_between r b later sparse at (Judge q) has going low high =
-      absurd (let n = no_judge r q b at has high in omega arith)
-  close_false_between r b later sparse at (Begin q) has going low high =
-      absurd (let n = after_254 r b at in omega arith)
-  close_false_between r b later sparse at (Scan q s h) has going low high =
-      absurd (let n = after_254 r b at in let step = has.1 in let half = has.2 in omega arith)
-  close_false_between r b later sparse at (Close q false) has going low high =
-      let n = after_254 r b at in let e : q ≡ r = omega arith in ap (λ i. Close i false) e
-  close_false_between r b later sparse at (Close q true) has going low high =
+      (let low = lies.low in
+      let high = lies.high in
+      let n = no_judge 0 q b at lies.has lies.high in
+      omega arith)
+  tell_between b at (Begin q) lies =
+      absurd (let low = lies.low in let high = lies.high in let n = after_254 0 b at in omega arith)
+  tell_between b at (Scan q s h) lies =
       absurd
-      (let n = after_254 r b at in
-      let e : q ≡ r = omega arith in
-      dense_not_sparse (sym has.1 ∙ ap mode e ∙ sparse))
-  close_false_between r b later sparse at Over has going low high = absurd (false≢true (sym going))
+      (let low = lies.low in
+      let high = lies.high in
+      let n = after_254 0 b at in
+      let some = lies.has.0 in
+      omega arith)
+  tell_between b at (Close q true) lies =
+      absurd
+      (let low = lies.low in
+      let high = lies.high in
+      let n = after_254 0 b at in
+      let some = lies.has.0 in
+      omega arith)
+  tell_between b at (Close q false) lies =
+      absurd
+      (let low = lies.low in
+      let high = lies.high in
+      let n = after_254 0 b at in
+      let some = lies.has.0 in
+      omega arith)
+  tell_between b at Over lies = absurd (false≢true (sym lies.going))
 
-  judge_between : (r : ℕ) (t : Spot) → Has_spot t → is_over t ≡ false → 256 * r + 255 ≤ place_at t →
-      place_at t < 256 * r + 256 → t ≡ Judge r
-  judge_between r Tell has going low high = absurd (omega arith)
-  judge_between r (Judge q) has going low high = let e : q ≡ r = omega arith in ap (λ i. Judge i) e
-  judge_between r (Begin q) has going low high = absurd (omega arith)
-  judge_between r (Scan q s h) has going low high = absurd (let step = has.1 in let half = has.2 in omega arith)
-  judge_between r (Close q dense) has going low high = absurd (omega arith)
-  judge_between r Over has going low high = absurd (false≢true (sym going))
+  close_true_between : (r b : ℕ) → HasSpot ring m (mode r) (Close r true) →
+      IsAfter r b → (t : Spot) → Lies (256 * r + 254) b t → t ≡ Close r true
+  close_true_between r b has at Tell lies = absurd (let low = lies.low in let high = lies.high in omega arith)
+  close_true_between r b has at (Judge q) lies =
+      absurd
+      (let low = lies.low in
+      let high = lies.high in
+      let n = no_judge r q b at lies.has lies.high in
+      omega arith)
+  close_true_between r b has at (Begin q) lies =
+      absurd (let low = lies.low in let high = lies.high in let n = after_254 r b at in omega arith)
+  close_true_between r b has at (Scan q s h) lies =
+      absurd
+      (let low = lies.low in
+      let high = lies.high in
+      let n = after_254 r b at in
+      let step = lies.has.1 in
+      let half = lies.has.2 in
+      omega arith)
+  close_true_between r b has at (Close q true) lies =
+      let low = lies.low in
+      let high = lies.high in
+      let n = after_254 r b at in
+      let e : q ≡ r = omega arith in
+      ap (λ i. Close i true) e
+  close_true_between r b has at (Close q false) lies =
+      absurd
+      (let low = lies.low in
+      let high = lies.high in
+      let n = after_254 r b at in
+      let e : q ≡ r = omega arith in
+      dense_not_sparse (sym has.1 ∙ ap mode (sym e) ∙ lies.has.1))
+  close_true_between r b has at Over lies = absurd (false≢true (sym lies.going))
+
+  close_false_between : (r b : ℕ) → HasSpot ring m (mode r) (Close r false) →
+      IsAfter r b → (t : Spot) → Lies (256 * r + 254) b t → t ≡ Close r false
+  close_false_between r b has at Tell lies = absurd (let low = lies.low in let high = lies.high in omega arith)
+  close_false_between r b has at (Judge q) lies =
+      absurd
+      (let low = lies.low in
+      let high = lies.high in
+      let n = no_judge r q b at lies.has lies.high in
+      omega arith)
+  close_false_between r b has at (Begin q) lies =
+      absurd (let low = lies.low in let high = lies.high in let n = after_254 r b at in omega arith)
+  close_false_between r b has at (Scan q s h) lies =
+      absurd
+      (let low = lies.low in
+      let high = lies.high in
+      let n = after_254 r b at in
+      let step = lies.has.1 in
+      let half = lies.has.2 in
+      omega arith)
+  close_false_between r b has at (Close q false) lies =
+      let low = lies.low in
+      let high = lies.high in
+      let n = after_254 r b at in
+      let e : q ≡ r = omega arith in
+      ap (λ i. Close i false) e
+  close_false_between r b has at (Close q true) lies =
+      absurd
+      (let low = lies.low in
+      let high = lies.high in
+      let n = after_254 r b at in
+      let e : q ≡ r = omega arith in
+      dense_not_sparse (sym lies.has.1 ∙ ap mode e ∙ has.1))
+  close_false_between r b has at Over lies = absurd (false≢true (sym lies.going))
+
+  judge_between : (r : ℕ) (t : Spot) → Lies (256 * r + 255) (256 * r + 256) t → t ≡ Judge r
+  judge_between r Tell lies = absurd (let low = lies.low in let high = lies.high in omega arith)
+  judge_between r (Judge q) lies =
+      let low = lies.low in let high = lies.high in let e : q ≡ r = omega arith in ap (λ i. Judge i) e
+  judge_between r (Begin q) lies = absurd (let low = lies.low in let high = lies.high in omega arith)
+  judge_between r (Scan q s h) lies =
+      absurd
+      (let low = lies.low in
+      let high = lies.high in
+      let step = lies.has.1 in
+      let half = lies.has.2 in
+      omega arith)
+  judge_between r (Close q dense) lies = absurd (let low = lies.low in let high = lies.high in omega arith)
+  judge_between r Over lies = absurd (false≢true (sym lies.going))
 
   -- with no scan between them: the round is a sparse one, or the place after the begin is the next
   begin_between : (r b : ℕ) → 1 ≤ r → (mode r ≡ Sparse) ⊎ (b ≡ 256 * r + 1) → b ≤ 256 * r + 254 →
-      (t : Spot) → Has_spot t → is_over t ≡ false → 256 * r ≤ place_at t → place_at t < b → t ≡ Begin r
-  begin_between r b later sparse near Tell has going low high = absurd (omega arith)
-  begin_between r b later sparse near (Judge q) has going low high = absurd (omega arith)
-  begin_between r b later sparse near (Begin q) has going low high = let e : q ≡ r = omega arith in ap (λ i. Begin i) e
-  begin_between r b later (inl sparse) near (Scan q s h) has going low high =
+      (t : Spot) → Lies (256 * r) b t → t ≡ Begin r
+  begin_between r b later sparse near Tell lies = absurd (let low = lies.low in let high = lies.high in omega arith)
+  begin_between r b later sparse near (Judge q) lies =
+      absurd (let low = lies.low in let high = lies.high in omega arith)
+  begin_between r b later sparse near (Begin q) lies =
+      let low = lies.low in let high = lies.high in let e : q ≡ r = omega arith in ap (λ i. Begin i) e
+  begin_between r b later (inl sparse) near (Scan q s h) lies =
       absurd
-      (let step = has.1 in
-      let half = has.2 in
+      (let low = lies.low in
+      let high = lies.high in
+      let step = lies.has.1 in
+      let half = lies.has.2 in
       let e : q ≡ r = omega arith in
-      dense_not_sparse (sym has.3 ∙ ap mode e ∙ sparse))
-  begin_between r b later (inr one) near (Scan q s h) has going low high =
-      absurd (let step = has.1 in let half = has.2 in omega arith)
-  begin_between r b later sparse near (Close q dense) has going low high = absurd (omega arith)
-  begin_between r b later sparse near Over has going low high = absurd (false≢true (sym going))
+      dense_not_sparse (sym lies.has.3 ∙ ap mode e ∙ sparse))
+  begin_between r b later (inr one) near (Scan q s h) lies =
+      absurd
+      (let low = lies.low in
+      let high = lies.high in
+      let step = lies.has.1 in
+      let half = lies.has.2 in
+      omega arith)
+  begin_between r b later sparse near (Close q dense) lies =
+      absurd (let low = lies.low in let high = lies.high in omega arith)
+  begin_between r b later sparse near Over lies = absurd (false≢true (sym lies.going))
 
-  scan_between : (r s h b : ℕ) → 1 ≤ r → mode r ≡ Dense → s < ring.machines → h ≤ 1 →
+  scan_between : (r s h b : ℕ) → HasSpot ring m (mode r) (Scan r s h) →
       (b ≡ 256 * r + 1 + 2 * s + h + 1) ⊎ ((b ≡ 256 * r + 254) × (h ≡ 1) × (ring.machines ≤ s + 1)) →
-      (t : Spot) → Has_spot t → is_over t ≡ false → 256 * r + (1 + 2 * s + h) ≤ place_at t → place_at t < b →
+      (t : Spot) → Lies (256 * r + (1 + 2 * s + h)) b t →
       t ≡ Scan r s h
-  scan_between r s h b later dense step half (inl e) Tell has going low high = absurd (omega arith)
-  scan_between r s h b later dense step half (inr e) Tell has going low high = absurd (let f = e.0 in omega arith)
-  scan_between r s h b later dense step half (inl e) (Judge q) has going low high = absurd (omega arith)
-  scan_between r s h b later dense step half (inr e) (Judge q) has going low high = absurd (let f = e.0 in omega arith)
-  scan_between r s h b later dense step half (inl e) (Begin q) has going low high = absurd (omega arith)
-  scan_between r s h b later dense step half (inr e) (Begin q) has going low high = absurd (let f = e.0 in omega arith)
-  scan_between r s h b later dense step half (inl e) (Scan q u j) has going low high =
-      let step2 = has.1 in let half2 = has.2 in
-      let e1 : q ≡ r = omega arith in let e2 : u ≡ s = omega arith in let e3 : j ≡ h = omega arith in
+  scan_between r s h b has (inl e) Tell lies = absurd (let low = lies.low in let high = lies.high in omega arith)
+  scan_between r s h b has (inr e) Tell lies =
+      absurd (let low = lies.low in let high = lies.high in let f = e.0 in omega arith)
+  scan_between r s h b has (inl e) (Judge q) lies = absurd (let low = lies.low in let high = lies.high in omega arith)
+  scan_between r s h b has (inr e) (Judge q) lies =
+      absurd (let low = lies.low in let high = lies.high in let f = e.0 in omega arith)
+  scan_between r s h b has (inl e) (Begin q) lies = absurd (let low = lies.low in let high = lies.high in omega arith)
+  scan_between r s h b has (inr e) (Begin q) lies =
+      absurd (let low = lies.low in let high = lies.high in let f = e.0 in omega arith)
+  scan_between r s h b has (inl e) (Scan q u j) lies =
+      let low = lies.low in
+      let high = lies.high in
+      let step = has.1 in
+      let half = has.2 in
+      let step2 = lies.has.1 in
+      let half2 = lies.has.2 in
+      let e1 : q ≡ r = omega arith in
+      let e2 : u ≡ s = omega arith in
+      let e3 : j ≡ h = omega arith in
       ap (λ i. Scan i u j) e1 ∙ ap (λ i. Scan r i j) e2 ∙ ap (λ i. Scan r s i) e3
-  scan_between r s h b later dense step half (inr e) (Scan q u j) has going low high =
-      let step2 = has.1 in let half2 = has.2 in let f0 = e.0 in let f1 = e.1 in let f2 = e.2 in
-      let e1 : q ≡ r = omega arith in let e2 : u ≡ s = omega arith in let e3 : j ≡ h = omega arith in
+  scan_between r s h b has (inr e) (Scan q u j) lies =
+      let low = lies.low in
+      let high = lies.high in
+      let step = has.1 in
+      let half = has.2 in
+      let step2 = lies.has.1 in
+      let half2 = lies.has.2 in
+      let f0 = e.0 in
+      let f1 = e.1 in
+      let f2 = e.2 in
+      let e1 : q ≡ r = omega arith in
+      let e2 : u ≡ s = omega arith in
+      let e3 : j ≡ h = omega arith in
       ap (λ i. Scan i u j) e1 ∙ ap (λ i. Scan r i j) e2 ∙ ap (λ i. Scan r s i) e3
-  scan_between r s h b later dense step half (inl e) (Close q d) has going low high = absurd (omega arith)
-  scan_between r s h b later dense step half (inr e) (Close q d) has going low high =
-      absurd (let f = e.0 in omega arith)
-  scan_between r s h b later dense step half e Over has going low high = absurd (false≢true (sym going))
+  scan_between r s h b has (inl e) (Close q d) lies = absurd (let low = lies.low in let high = lies.high in omega arith)
+  scan_between r s h b has (inr e) (Close q d) lies =
+      absurd (let low = lies.low in let high = lies.high in let f = e.0 in omega arith)
+  scan_between r s h b has e Over lies = absurd (false≢true (sym lies.going))
 
   -- what the action of a spot does
   pub record Acts (ruling : Ruling) (spot : Spot) : Type 0 where
@@ -150,16 +247,18 @@ module _ (course : Course) (m : ℕ) (within : m < course.ring.machines) where
     pub has : HasSpot ring m (mode (next_of ring m ruling spot).round) (next_of ring m ruling spot).spot
     pub round : (next_of ring m ruling spot).round ≡ round_of (next_of ring m ruling spot).round
         (next_of ring m ruling spot).spot
-    pub between : (t : Spot) → Has_spot t → is_over t ≡ false → place_at spot ≤ place_at t →
-        place_at t < place_of (next_of ring m ruling spot) → t ≡ spot
+    pub between : (t : Spot) → Lies (place_at spot) (place_of (next_of ring m ruling spot)) t → t ≡ spot
 
-  at_zero : (r : ℕ) → m ≡ 0 → ((m ≡ 0) × (256 * r + 255 ≡ 256 * r + 255)) ⊎ ((m ≢ 0) × (256 * r + 255 ≡ 256 * r + 256))
-  at_zero r e = inl (e, refl)
+  -- the same between places that are no nearer
+  moved : (a b c d : ℕ) (t : Spot) → Lies a b t → c ≤ a → b ≤ d → Lies c d t
+  moved a b c d t lies low high = record {
+    has = lies.has;
+    going = lies.going;
+    low = let l = lies.low in omega arith;
+    high = let l = lies.high in omega arith;
+  }
 
-  at_other : (r b : ℕ) → m ≢ 0 → b ≡ 256 * r + 256 → ((m ≡ 0) × (b ≡ 256 * r + 255)) ⊎ ((m ≢ 0) × (b ≡ 256 * r + 256))
-  at_other r b ne e = inr (ne, e)
-
-  pub acts : (ruling : Ruling) (spot : Spot) → Has_spot spot → is_over spot ≡ false →
+  pub acts : (ruling : Ruling) (spot : Spot) → IsSpot spot → is_over spot ≡ false →
       ((r : ℕ) → spot ≡ Begin r → ruling ≡ mode r) → Acts ruling spot
   acts ruling Tell has going mine =
       ⊎_elim
@@ -188,7 +287,7 @@ module _ (course : Course) (m : ℕ) (within : m < course.ring.machines) where
         near = omega arith;
         has = tt;
         round = refl;
-        between = λ t has_t going_t low high. judge_between r t has_t going_t low (omega arith);
+        between = λ t lies. judge_between r t (moved _ _ _ _ t lies (omega arith) (omega arith));
       }
   acts Dense (Judge r) has going mine =
       record {
@@ -196,7 +295,7 @@ module _ (course : Course) (m : ℕ) (within : m < course.ring.machines) where
         near = omega arith;
         has = omega arith;
         round = refl;
-        between = λ t has_t going_t low high. judge_between r t has_t going_t low (omega arith);
+        between = λ t lies. judge_between r t (moved _ _ _ _ t lies (omega arith) (omega arith));
       }
   acts Sparse (Judge r) has going mine =
       record {
@@ -204,7 +303,7 @@ module _ (course : Course) (m : ℕ) (within : m < course.ring.machines) where
         near = omega arith;
         has = omega arith;
         round = refl;
-        between = λ t has_t going_t low high. judge_between r t has_t going_t low (omega arith);
+        between = λ t lies. judge_between r t (moved _ _ _ _ t lies (omega arith) (omega arith));
       }
   acts Stop (Begin r) has going mine = absurd (not_stop r (sym (mine r refl)))
   acts Dense (Begin r) has going mine =
@@ -214,9 +313,9 @@ module _ (course : Course) (m : ℕ) (within : m < course.ring.machines) where
         has = (has, omega arith, omega arith, sym (mine r refl));
         round = refl;
         between =
-            λ t has_t going_t low high.
-            begin_between r (256 * r + 1) has (inr refl) (omega arith) t has_t going_t (omega arith)
-            (omega arith);
+            λ t lies.
+            begin_between r (256 * r + 1) has (inr refl) (omega arith) t
+            (moved _ _ _ _ t lies (omega arith) (omega arith));
       }
   acts Sparse (Begin r) has going mine =
       record {
@@ -225,9 +324,9 @@ module _ (course : Course) (m : ℕ) (within : m < course.ring.machines) where
         has = (has, sym (mine r refl));
         round = refl;
         between =
-            λ t has_t going_t low high.
-            begin_between r (256 * r + 254) has (inl (sym (mine r refl))) (omega arith) t has_t going_t
-            (omega arith) (omega arith);
+            λ t lies.
+            begin_between r (256 * r + 254) has (inl (sym (mine r refl))) (omega arith) t
+            (moved _ _ _ _ t lies (omega arith) (omega arith));
       }
   acts ruling (Scan r s h) has going mine =
       let some = has.0 in let step = has.1 in let half = has.2 in let dense = has.3 in
@@ -239,9 +338,9 @@ module _ (course : Course) (m : ℕ) (within : m < course.ring.machines) where
         round = rw b refl;
         between =
             rw b
-            (λ t has_t going_t low high.
-            scan_between r s h (256 * r + 1 + 2 * s + h + 1) some dense step half
-            (inl refl) t has_t going_t low (omega arith));
+            (λ t lies.
+            scan_between r s h (256 * r + 1 + 2 * s + h + 1) has (inl refl) t
+            (moved _ _ _ _ t lies (omega arith) (omega arith)));
       })
       (λ (second : h ≢ 0).
       let b = not_zero h second in
@@ -253,9 +352,9 @@ module _ (course : Course) (m : ℕ) (within : m < course.ring.machines) where
         round = rw (b, c) refl;
         between =
             rw (b, c)
-            (λ t has_t going_t low high.
-            scan_between r s h (256 * r + 1 + 2 * s + h + 1) some dense step half
-            (inl refl) t has_t going_t low (omega arith));
+            (λ t lies.
+            scan_between r s h (256 * r + 1 + 2 * s + h + 1) has (inl refl) t
+            (moved _ _ _ _ t lies (omega arith) (omega arith)));
       })
       (λ (last : ring.machines - 1 ≤ s). let c = below_false s (ring.machines - 1) last in record {
         later = rw (b, c) (omega arith);
@@ -264,9 +363,9 @@ module _ (course : Course) (m : ℕ) (within : m < course.ring.machines) where
         round = rw (b, c) refl;
         between =
             rw (b, c)
-            (λ t has_t going_t low high.
-            scan_between r s h (256 * r + 254) some dense step half
-            (inr (refl, omega arith, omega arith)) t has_t going_t low high);
+            (λ t lies.
+            scan_between r s h (256 * r + 254) has (inr (refl, omega arith, omega arith)) t
+            (moved _ _ _ _ t lies (omega arith) (omega arith)));
       })
       (cases_lt s (ring.machines - 1)))
       (cases_eq h 0)
@@ -279,7 +378,7 @@ module _ (course : Course) (m : ℕ) (within : m < course.ring.machines) where
         near = rw b (omega arith);
         has = rw b e;
         round = rw b refl;
-        between = rw b (close_true_between r (256 * r + 255) has.0 has.1 (inl (e, refl)));
+        between = rw b (close_true_between r (256 * r + 255) has (inl (e, refl)));
       })
       (λ (ne : m ≢ 0).
       let b = not_zero m ne in
@@ -290,9 +389,9 @@ module _ (course : Course) (m : ℕ) (within : m < course.ring.machines) where
         round = rw b refl;
         between =
             rw b
-            (λ t has_t going_t low high.
-            close_true_between r (256 * r + 256) has.0 has.1 (inr (ne, refl)) t has_t going_t low
-            (omega arith));
+            (λ t lies.
+            close_true_between r (256 * r + 256) has (inr (ne, refl)) t
+            (moved _ _ _ _ t lies (omega arith) (omega arith)));
       })
       (cases_eq m 0)
   acts ruling (Close r false) has going mine =
@@ -304,7 +403,7 @@ module _ (course : Course) (m : ℕ) (within : m < course.ring.machines) where
         near = rw b (omega arith);
         has = rw b e;
         round = rw b refl;
-        between = rw b (close_false_between r (256 * r + 255) has.0 has.1 (inl (e, refl)));
+        between = rw b (close_false_between r (256 * r + 255) has (inl (e, refl)));
       })
       (λ (ne : m ≢ 0).
       let b = not_zero m ne in
@@ -315,9 +414,9 @@ module _ (course : Course) (m : ℕ) (within : m < course.ring.machines) where
         round = rw b refl;
         between =
             rw b
-            (λ t has_t going_t low high.
-            close_false_between r (256 * r + 256) has.0 has.1 (inr (ne, refl)) t has_t going_t low
-            (omega arith));
+            (λ t lies.
+            close_false_between r (256 * r + 256) has (inr (ne, refl)) t
+            (moved _ _ _ _ t lies (omega arith) (omega arith)));
       })
       (cases_eq m 0)
   acts ruling Over has going mine = absurd (false≢true (sym going))

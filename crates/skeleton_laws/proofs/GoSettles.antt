@@ -202,8 +202,12 @@ module _ (turn : Turn) where
         let t = sending_spot (mode x.round) x in
         let e : place_at t ≡ sent_at x = sent_place (mode x.round) x (not_stop x.round) in
         let q = place_m in
-        a.between t (subst (λ j. HasSpot ring j (mode (round_of 0 t)) t) from (has_round course x named))
-        (sending_not_over (mode x.round) x (not_stop x.round)) (omega arith) (omega arith)
+        a.between t (record {
+          has = subst (λ j. HasSpot ring j (mode (round_of 0 t)) t) from (has_round course x named);
+          going = sending_not_over (mode x.round) x (not_stop x.round);
+          low = omega arith;
+          high = omega arith;
+        })
 
     needed_here : (x : Name) → Named x → x.to ≡ m → v.place m ≤ needed_at ring.machines x →
         needed_at ring.machines x < place_of next → has_name x k.taken ≡ true
@@ -214,7 +218,7 @@ module _ (turn : Turn) where
         let has_t : HasSpot ring m (mode (round_of 0 t)) t =
         subst (λ j. HasSpot ring j (mode (round_of 0 t)) t) to
         (subst (λ i. HasSpot ring x.to (mode i) t) n.round n.has) in
-        let same : t ≡ spot = a.between t has_t (needing_not_over ring.machines x) (omega arith) (omega arith) in
+        let same : t ≡ spot = a.between t (record { has = has_t; going = needing_not_over ring.machines x; low = omega arith; high = omega arith }) in
         let there : Has (needs_of ring m t) x =
         subst (λ j. Has (needs_of ring j t) x) to (has_from_contains (needs_of ring x.to t) x n.needed) in
         taken_need x (subst (λ i. Has (needs_of ring m i) x) same there)
