@@ -1,4 +1,5 @@
 -- The members with the machines of a chunk, in the order of its steps, are the neighbours in the order of the loop.
+use Rattle.vert_base.proofs.Orders.{in_order_below, in_order_rises}
 use Rattle.std.proofs.Common.{◌≡◌, ℕ, zero, suc, ◌+◌, ◌-◌, ◌<◌, ◌≤◌, true, false, nat_lt, leb, List, [], ◌∷◌, ◌++◌, length, get_or, slice_index, refl, ap, sym, ◌∙◌, arith, ⊎_elim}
 use Rattle.std.specs.Prelude.{◌==◌}
 use Rattle.std.specs.List.{filter, flat_map, range_with_len}
@@ -10,7 +11,7 @@ use Rattle.vert_base.specs.declared.graph.Edge.{Edge}
 use Rattle.vert_base.specs.Neighbours.{source, target, ins_of, turned, turn_of, neighbours_of}
 use Rattle.circulant_plan.specs.Ring.{AreEndsUpTo, order_of, start_of, lies_in, IsInChunk, members_with, members_by_steps}
 use Rattle.circulant_plan.specs.Laws.{TurnsAtItsEnd, ReadsInTurn, ReadsByParts}
-use Rattle.circulant_plan.proofs.SpanLaws.{span, by_machines, by_machines_is, rises_far, range_split, flat_map_shift, is_below, in_order_below, in_order_rises, span_to_end, span_from_start}
+use Rattle.circulant_plan.proofs.SpanLaws.{span, by_machines, by_machines_is, rises_far, range_split, flat_map_shift, is_below, span_to_end, span_from_start}
 
 -- where chunk m starts; past the last chunk it is n
 abbrev pub bound : ℕ → List ℕ → ℕ → ℕ

@@ -1,12 +1,11 @@
 -- Spans of keys in lists whose keys don't fall, and the chunks of a ring put one after another.
+use Rattle.vert_base.proofs.Orders.{Rises}
 use Rattle.std.proofs.Common.{◌≡◌, ℕ, zero, suc, ◌+◌, ◌-◌, ◌<◌, ◌≤◌, ◌*◌, ◌%◌, Bool, true, false, cond, ◌&&◌, leb, ltb, List, [], ◌∷◌, ◌++◌, refl, ap, sym, ◌∙◌, arith, ⊎_elim}
-use Rattle.std.specs.Prelude.{◌==◌}
 use Rattle.std.specs.List.{filter, flat_map, range_with_len, AllByRecursion}
-use Rattle.std.proofs.lemmas.Bool.{cases_Bool, cases_lt, eqb-true}
+use Rattle.std.proofs.lemmas.Bool.{cases_lt}
 use Rattle.std.proofs.lemmas.Bool.Decides.{nat_tests}
 use Rattle.std.proofs.lemmas.Nat.{mod-mul-add}
 use Rattle.std.proofs.lemmas.List.Concat.{flat_map-append}
-use Rattle.vert_base.specs.Neighbours.{in_order}
 use Rattle.circulant_plan.specs.Ring.{order_of}
 use Rattle.circulant_plan.proofs.CircleLaws.{order_low}
 
@@ -19,11 +18,6 @@ span key lo hi xs = filter (λ x. leb lo (key x) && ltb (key x) hi) xs
 abbrev pub by_machines : {X : Type 0} → (X → ℕ) → (ℕ → ℕ) → ℕ → ℕ → List X → List X
 by_machines key from d p xs =
     flat_map (λ s. span key (from (order_of d s p)) (from (order_of d s p + 1)) xs) (range_with_len 0 p)
-
--- keys do not fall
-abbrev pub Rises : {X : Type 0} → (X → ℕ) → List X → Type 0
-Rises key [] = Unit {0}
-Rises key (x ∷ xs) = AllByRecursion (λ y. key x ≤ key y) xs × Rises key xs
 
 abbrev within : ℕ → ℕ → ℕ → Bool
 within lo hi k = leb lo k && ltb k hi
@@ -191,59 +185,6 @@ span_to_end key t n [] all = refl
 span_to_end key t n (x ∷ xs) all =
     let low : ltb (key x) n ≡ true = is_below (key x) n all.0 in
     rw (low, and_true) (ap (λ ys. cond (leb t (key x)) (x ∷ ys) ys) (span_to_end key t n xs all.1))
-
-all_append : {X : Type 0} (P : X → Type 0) (xs ys : List X) → AllByRecursion P xs → AllByRecursion P ys →
-    AllByRecursion P (xs ++ ys)
-all_append P [] ys a b = b
-all_append P (x ∷ xs) ys a b = (a.0, all_append P xs ys a.1 b)
-
-all_weaker : {X : Type 0} (P Q : X → Type 0) (xs : List X) → ((x : X) → P x → Q x) → AllByRecursion P xs →
-    AllByRecursion Q xs
-all_weaker P Q [] f a = tt
-all_weaker P Q (x ∷ xs) f a = (f x a.0, all_weaker P Q xs f a.1)
-
-bucket_keys : {X : Type 0} (key : X → ℕ) (k : ℕ) (xs : List X) →
-    AllByRecursion (λ x. key x ≡ k) (filter (λ x. key x == k) xs)
-bucket_keys key k [] = tt
-bucket_keys key k (x ∷ xs) =
-    ⊎_elim
-    (λ (same : (key x == k) ≡ true). rw same (eqb-true _ _ same, bucket_keys key k xs))
-    (λ (other : (key x == k) ≡ false). rw other (bucket_keys key k xs))
-    (cases_Bool (key x == k))
-
-rises_same : {X : Type 0} (key : X → ℕ) (k : ℕ) (xs : List X) → AllByRecursion (λ x. key x ≡ k) xs → Rises key xs
-rises_same key k [] a = tt
-rises_same key k (x ∷ xs) a =
-    let first = a.0 in
-    (all_weaker (λ y. key y ≡ k) (λ y. key x ≤ key y) xs (λ y e. omega arith) a.1, rises_same key k xs a.1)
-
-rises_append : {X : Type 0} (key : X → ℕ) (k : ℕ) (xs ys : List X) → Rises key xs →
-    AllByRecursion (λ x. key x < k) xs → Rises key ys → AllByRecursion (λ y. key y ≡ k) ys →
-    Rises key (xs ++ ys)
-rises_append key k [] ys up below up' at = up'
-rises_append key k (x ∷ xs) ys up below up' at =
-    let low = below.0 in (
-      all_append (λ y. key x ≤ key y) xs ys up.0
-          (all_weaker (λ y. key y ≡ k) (λ y. key x ≤ key y) ys (λ y e. omega arith) at),
-      rises_append key k xs ys up.1 below.1 up' at,
-    )
-
-pub in_order_below : {X : Type 0} (key : X → ℕ) (n : ℕ) (xs : List X) →
-    AllByRecursion (λ x. key x < n) (in_order key n xs)
-in_order_below key zero xs = tt
-in_order_below key (suc n) xs =
-    all_append (λ x. key x < suc n) (in_order key n xs) (filter (λ x. key x == n) xs)
-    (all_weaker (λ x. key x < n) (λ x. key x < suc n) (in_order key n xs) (λ x h. omega arith)
-    (in_order_below key n xs))
-    (all_weaker (λ x. key x ≡ n) (λ x. key x < suc n) (filter (λ x. key x == n) xs) (λ x h. omega arith)
-    (bucket_keys key n xs))
-
-pub in_order_rises : {X : Type 0} (key : X → ℕ) (n : ℕ) (xs : List X) → Rises key (in_order key n xs)
-in_order_rises key zero xs = tt
-in_order_rises key (suc n) xs =
-    rises_append key n (in_order key n xs) (filter (λ x. key x == n) xs) (in_order_rises key n xs)
-    (in_order_below key n xs) (rises_same key n (filter (λ x. key x == n) xs) (bucket_keys key n xs))
-    (bucket_keys key n xs)
 
 pub span_from_start : {X : Type 0} (key : X → ℕ) (t : ℕ) (xs : List X) →
     span key 0 t xs ≡ filter (λ x. ltb (key x) t) xs

@@ -127,8 +127,9 @@ module _ (turn : Turn) (counting : Counting turn.state.ring turn.state.k) where
       let z = judge_round_is r e in
       let g = zero_grows turn in
       subst (λ q. Knows ring q (zero_round now) (standing_of k.standings j).spot) (sym (judged_rulings r e))
-      (knows_later ring k.rulings (zero_round k) (zero_round now) (r + 1) ruling
-      (standing_of k.standings j).spot (omega arith) g (counting.knows j lt))
+      (knows_more ring ((r + 1, ruling) ∷ k.rulings) (zero_round k) (zero_round now) (standing_of k.standings j).spot g
+      (knows_later ring k.rulings (zero_round k) (r + 1, ruling) (standing_of k.standings j).spot (omega arith)
+      (counting.knows j lt)))
   knows_other (other none same) j lt =
       subst (λ q. Knows ring q (zero_round now) (standing_of k.standings j).spot) (sym (same ruling k.rulings))
       (knows_more ring k.rulings (zero_round k) (zero_round now) (standing_of k.standings j).spot
@@ -166,8 +167,13 @@ module _ (turn : Turn) (counting : Counting turn.state.ring turn.state.k) where
       let z = judge_round_is r e in
       let past = none_past turn (mode_in k) (modes_in k) (agrees_in k) r i e lt in
       ap (λ q. done ring w i q s) (judged_rulings r e)
-      ∙ done_same ring w i k.rulings (zero_round k) (r + 1) ruling s.spot s.round (omega arith)
-      (omega arith) (settled.rules.rounds i lt) (counting.knows i lt)
+      ∙ done_same ring w i k.rulings (r + 1, ruling) s (record {
+        last = zero_round k;
+        before = omega arith;
+        within = omega arith;
+        round = settled.rules.rounds i lt;
+        knows = counting.knows i lt;
+      })
   others_same w (other none same) i lt = ap (λ q. done ring w i q (standing_of k.standings i)) (same ruling k.rulings)
 
   pub gone_tally : (w : ℕ → Ruling → Spot → ℕ) → Weighs (w m) → tally ring w now ≡ tally ring w k + w m act spot

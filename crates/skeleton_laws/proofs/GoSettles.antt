@@ -218,7 +218,11 @@ module _ (turn : Turn) where
         let has_t : HasSpot ring m (mode (round_of 0 t)) t =
         subst (λ j. HasSpot ring j (mode (round_of 0 t)) t) to
         (subst (λ i. HasSpot ring x.to (mode i) t) n.round n.has) in
-        let same : t ≡ spot = a.between t (record { has = has_t; going = needing_not_over ring.machines x; low = omega arith; high = omega arith }) in
+        let same : t ≡ spot =
+        a.between t
+        (record
+        { has = has_t; going = needing_not_over ring.machines x; low = omega arith; high = omega arith })
+        in
         let there : Has (needs_of ring m t) x =
         subst (λ j. Has (needs_of ring j t) x) to (has_from_contains (needs_of ring x.to t) x n.needed) in
         taken_need x (subst (λ i. Has (needs_of ring m i) x) same there)

@@ -1,4 +1,5 @@
 -- The least of what is missing.
+use Rattle.skeleton_laws.proofs.NamesInOrder.{before_both, has_ordered_cases, has_ordered, names_rise, not_before_self}
 use Rattle.std.proofs.Common.{◌≡◌, ◌⊎◌, ℕ, ◌+◌, ◌<◌, Bool, true, false, List, [], ◌∷◌, ◌++◌, length, map, Option, Some, refl, ap, sym, ◌∙◌, subst, inl, inr, arith, ⊎_elim, slice_get}
 use Rattle.std.specs.List.{range_with_len}
 use Rattle.std.proofs.lemmas.Bool.{false≢true, false_from_ne_true}
@@ -14,7 +15,7 @@ use Rattle.circulant_plan.proofs.Members.{Has, contains_from_has, has_range}
 use Rattle.circulant_plan.proofs.NameLists.{has_from_name, name_from_has}
 use Rattle.circulant_plan.proofs.Rise.{Rise, rise_least}
 use Rattle.skeleton_laws.specs.Laws.{NamesRise, IsLeast, MissingIsLeast, RisingNamesAreOne}
-use Rattle.skeleton_laws.proofs.ChoiceLaws.{before_both, has_ordered_cases, has_ordered, names_rise, not_before_self, name_in, number_in, is_go, filter_rises, has_filter_cases, has_filter, go_within_slot}
+use Rattle.skeleton_laws.proofs.ChoiceLaws.{name_in, number_in, is_go, filter_rises, has_filter_cases, has_filter, go_within_slot}
 
 -- rising lists
 first_before : (x : Name) (xs : List Name) → NamesRise (x ∷ xs) → (y : Name) → Has (x ∷ xs) y →

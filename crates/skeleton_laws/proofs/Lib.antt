@@ -37,6 +37,7 @@ pub mod Kept
 pub mod LeastLaws
 pub mod Lockstep
 pub mod MoveLaws
+pub mod NamesInOrder
 pub mod NearerLaws
 pub mod OrderLaws
 pub mod ReachedSettles

@@ -193,22 +193,25 @@ Knows ring rulings z (Close r true) = (r ≤ z) × (1 ≤ r) × (ruling_in rulin
 Knows ring rulings z (Close r false) = (r ≤ z) × (1 ≤ r) × (ruling_in rulings r ≡ Sparse)
 Knows ring rulings z Over = Unit {0}
 
-pub knows_later : (ring : Ring) (rulings : List (ℕ × Ruling)) (z y n : ℕ) (a : Ruling) (spot : Spot) →
-    z < n → z ≤ y → Knows ring rulings z spot → Knows ring ((n, a) ∷ rulings) y spot
-knows_later ring rulings z y n a Tell lt le knows = tt
-knows_later ring rulings z y n a (Judge r) lt le knows =
+-- a ruling for a later round leaves what is known
+pub knows_later : (ring : Ring) (rulings : List (ℕ × Ruling)) (z : ℕ) (made : ℕ × Ruling) (spot : Spot) → z < made.0 →
+    Knows ring rulings z spot → Knows ring (made ∷ rulings) z spot
+knows_later ring rulings z made Tell lt knows = tt
+knows_later ring rulings z made (Judge r) lt knows =
     let k = knows.0 in
-    (omega arith, λ some stop. knows.1 some (sym (ruling_other rulings a n r (λ e. omega arith)) ∙ stop))
-knows_later ring rulings z y n a (Begin r) lt le knows = knows
-knows_later ring rulings z y n a (Scan r s h) lt le knows =
+    (knows.0, λ some stop. knows.1 some (sym (ruling_other rulings made.1 made.0 r (λ e. omega arith)) ∙ stop))
+knows_later ring rulings z made (Begin r) lt knows = knows
+knows_later ring rulings z made (Scan r s h) lt knows =
     let k = knows.0 in
-    (omega arith, knows.1, ruling_other rulings a n r (λ e. omega arith) ∙ knows.2, knows.3, knows.4)
-knows_later ring rulings z y n a (Close r true) lt le knows =
-    let k = knows.0 in (omega arith, knows.1, ruling_other rulings a n r (λ e. omega arith) ∙ knows.2)
-knows_later ring rulings z y n a (Close r false) lt le knows =
-    let k = knows.0 in (omega arith, knows.1, ruling_other rulings a n r (λ e. omega arith) ∙ knows.2)
-knows_later ring rulings z y n a Over lt le knows = tt
+    let same = ruling_other rulings made.1 made.0 r (λ e. omega arith) in
+    (knows.0, knows.1, same ∙ knows.2, knows.3, knows.4)
+knows_later ring rulings z made (Close r true) lt knows =
+    let k = knows.0 in (knows.0, knows.1, ruling_other rulings made.1 made.0 r (λ e. omega arith) ∙ knows.2)
+knows_later ring rulings z made (Close r false) lt knows =
+    let k = knows.0 in (knows.0, knows.1, ruling_other rulings made.1 made.0 r (λ e. omega arith) ∙ knows.2)
+knows_later ring rulings z made Over lt knows = tt
 
+-- and so does a later round
 pub knows_more : (ring : Ring) (rulings : List (ℕ × Ruling)) (z y : ℕ) (spot : Spot) → z ≤ y →
     Knows ring rulings z spot → Knows ring rulings y spot
 knows_more ring rulings z y Tell le knows = tt
@@ -272,21 +275,33 @@ module _ (ring : Ring) (w : Ruling → Spot → ℕ) (m : ℕ) where
       ap (closed (suc r)) (ruling_other rulings a n (suc r) (λ e. omega arith)) in
       omega arith
 
-  pub done_same : (rulings : List (ℕ × Ruling)) (z n : ℕ) (a : Ruling) (spot : Spot) (round : ℕ) → z < n →
-      round ≤ n → round ≡ round_of round spot → Knows ring rulings z spot →
-      done_at ((n, a) ∷ rulings) spot round ≡ done_at rulings spot round
-  done_same rulings z n a Tell round lt le e knows = refl
-  done_same rulings z n a (Judge r) round lt le e knows = judge_same rulings n a r (let k = knows.0 in omega arith)
-  done_same rulings z n a (Begin r) round lt le e knows =
-      let b = before_later round_weight r n a rulings (omega arith) in omega arith
-  done_same rulings z n a (Scan r s h) round lt le e knows =
-      let b = before_later round_weight r n a rulings (omega arith) in omega arith
-  done_same rulings z n a (Close r true) round lt le e knows =
-      let b = before_later round_weight r n a rulings (omega arith) in omega arith
-  done_same rulings z n a (Close r false) round lt le e knows =
-      let b = before_later round_weight r n a rulings (omega arith) in omega arith
-  done_same rulings z n a Over round lt le e knows =
-      let b = before_later round_weight round n a rulings (omega arith) in omega arith
+  -- a standing that is of a round before that of a new ruling, or at its begin
+  pub record IsEarlier (rulings : List (ℕ × Ruling)) (n : ℕ) (s : Standing) : Type 0 where
+    pub last : ℕ
+    pub before : last < n
+    pub within : s.round ≤ n
+    pub round : s.round ≡ round_of s.round s.spot
+    pub knows : Knows ring rulings last s.spot
+
+  pub done_same : (rulings : List (ℕ × Ruling)) (made : ℕ × Ruling) (s : Standing) → IsEarlier rulings made.0 s →
+      done (made ∷ rulings) s ≡ done rulings s
+  done_same rulings made s early =
+      at s.spot s.round early.within early.round early.knows where
+        at : (spot : Spot) (round : ℕ) → round ≤ made.0 → round ≡ round_of round spot → Knows ring rulings early.last spot →
+            done_at (made ∷ rulings) spot round ≡ done_at rulings spot round
+        at Tell round le e knows = refl
+        at (Judge r) round le e knows =
+            judge_same rulings made.0 made.1 r (let k = knows.0 in let b = early.before in omega arith)
+        at (Begin r) round le e knows =
+            let b = before_later round_weight r made.0 made.1 rulings (omega arith) in omega arith
+        at (Scan r s h) round le e knows =
+            let b = before_later round_weight r made.0 made.1 rulings (omega arith) in omega arith
+        at (Close r true) round le e knows =
+            let b = before_later round_weight r made.0 made.1 rulings (omega arith) in omega arith
+        at (Close r false) round le e knows =
+            let b = before_later round_weight r made.0 made.1 rulings (omega arith) in omega arith
+        at Over round le e knows =
+            let b = before_later round_weight round made.0 made.1 rulings (omega arith) in omega arith
 
   pub no_judges : m ≢ 0 → (r : ℕ) (f : Spot → ℕ) → sum_of f (judges_of m r) ≡ 0
   no_judges ne r f = rw (not_zero m ne) refl
