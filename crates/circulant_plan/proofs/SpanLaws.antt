@@ -6,7 +6,6 @@ use Rattle.std.proofs.lemmas.Bool.{cases_lt}
 use Rattle.std.proofs.lemmas.Bool.Decides.{nat_tests}
 use Rattle.std.proofs.lemmas.Nat.{mod-mul-add}
 use Rattle.std.proofs.lemmas.List.Concat.{flat_map-append}
-pub use Rattle.vert_base.proofs.Orders.{Rises, in_order_below, in_order_rises}
 use Rattle.circulant_plan.specs.Ring.{order_of}
 use Rattle.circulant_plan.proofs.CircleLaws.{order_low}
 
