@@ -8,15 +8,7 @@ use Rattle.carry_analysis.specs.declared.seen.Seen.{Seen}
 use Rattle.carry_analysis.specs.declared.seen.Seen.TheVariants.{Nowhere}
 use Rattle.carry_analysis.specs.Classes.{Mark, Uses, Breaks, has_break, uses_of}
 use Rattle.carry_analysis.specs.Walks.{Sight, seen_after, walk_after, with_mark, with_use}
-
-with-append : (t : Bool) (u : Use) (all us vs : List Use) → all ≡ us ++ vs → (if t then u ∷ all else all) ≡ (if t then u ∷ us else us) ++ vs
-with-append true u all us vs e = ap (λ l. u ∷ l) e
-with-append false u all us vs e = e
-
-uses-append : (i : ℕ) (a b : List Mark) → uses_of i (a ++ b) ≡ uses_of i a ++ uses_of i b
-uses-append i [] b = refl
-uses-append i (Uses j u ∷ a) b = with-append (i == j) u (uses_of i (a ++ b)) (uses_of i a) (uses_of i b) (uses-append i a b)
-uses-append i (Breaks ∷ a) b = uses-append i a b
+use Rattle.carry_analysis.proofs.StatementMarks.{uses-append}
 
 seen-append : (s : Seen) (us vs : List Use) → seen_after s (us ++ vs) ≡ seen_after (seen_after s us) vs
 seen-append s [] vs = refl

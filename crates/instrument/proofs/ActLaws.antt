@@ -34,9 +34,10 @@ use Rattle.vert_eval.specs.Rounds.{Scene, at_member, loop, member_act, reading}
 use Rattle.vert_eval.specs.Runs.{Act, Ran, act_of, act_step, after, by_flow, emission, followed_by, in_turn, leaves, noted, run, with_target}
 use Rattle.vert_eval.specs.Values.{builtin, named, node_value, other_builtin, other_field, slot_value, value_of, word_at}
 use Rattle.vert_eval.specs.Words.{assigned, binary, is_set, word_of, wrapped}
-use Rattle.instrument.specs.Continued.{combined_words}
-use Rattle.instrument.proofs.MarkLaws.{Allowed, allowed_first, allowed_second, assign_marks, assignable, marks-if, marks-if_else, read_marks, readable}
-use Rattle.instrument.proofs.WordLaws.{AreLeft, assign_same, is_assignable, is_operator, left_after, read_same}
+use Rattle.instrument.specs.Continued.{AreLeft, combined_words}
+use Rattle.carry_analysis.proofs.StatementMarks.{marks-if, marks-if_else}
+use Rattle.instrument.proofs.MarkLaws.{Allowed, allowed_first, allowed_second, assign_marks, assignable, read_marks, readable}
+use Rattle.instrument.proofs.WordLaws.{assign_same, is_assignable, is_operator, left_after, read_same}
 
 -- ---- marks of locals
 

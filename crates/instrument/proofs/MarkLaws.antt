@@ -4,50 +4,20 @@ use Rattle.std.specs.Prelude.{if◌then◌else◌, slice_get}
 use Rattle.std.specs.List.{list_all}
 use Rattle.std.proofs.lemmas.Bool.{and_parts, eq-eqb}
 use Rattle.std.proofs.lemmas.List.Folds.{list_all-append}
-use mathlib.Core.Former.{Count}
-use Rattle.std.specs.Global.{Vec}
-use Rattle.vert_base.specs.declared.text.Span.{Span}
 use Rattle.vert_base.specs.declared.value.Combine.TheVariants as combine
-use Rattle.vert_tree.specs.declared.expression.Expr.{Expr}
 use Rattle.vert_tree.specs.declared.expression.Node.TheVariants as nodes
 use Rattle.vert_tree.specs.declared.name.What.{What}
 use Rattle.vert_tree.specs.declared.name.What.TheVariants as what
 use Rattle.vert_tree.specs.declared.program.Decl.{Decl}
 use Rattle.vert_tree.specs.declared.statement.AssignOp.{AssignOp}
 use Rattle.vert_tree.specs.declared.statement.AssignOp.TheVariants as assign
-use Rattle.vert_tree.specs.declared.statement.Stmt.{Stmt, Row_of-Stmt, end_of-Stmt, more_of-Stmt, If', Some', items-the_row-Stmt, items_hidden-the_row-Stmt-0}
 use Rattle.vert_tree.specs.declared.statement.Stmt as statements
 use Rattle.vert_tree.specs.Plain.{nowhere}
 use Rattle.carry_analysis.specs.declared.classes.Class.{Class}
 use Rattle.carry_analysis.specs.declared.classes.Class.TheVariants.{Constant, Reduced, Carried}
-use Rattle.carry_analysis.specs.Classes.{Mark, Uses, Breaks, body_marks, class_of, expr_marks, is_added, is_lowered, is_raised, is_read, let_classes, node_marks, row_marks, statement_marks, uses_of}
+use Rattle.carry_analysis.specs.Classes.{Mark, class_of, is_added, is_lowered, is_raised, is_read, let_classes, node_marks, statement_marks, uses_of}
+use Rattle.carry_analysis.proofs.StatementMarks.{uses-append}
 use Rattle.instrument.proofs.WordLaws.{is_assignable, is_readable}
-
--- ---- the marks of an `if`
-
-marks_of_row : (n : _) (row : Row_of-Stmt n) → row_marks row ≡ body_marks (items-the_row-Stmt n row)
-marks_of_row n end_of-Stmt = refl
-marks_of_row n (more_of-Stmt s rest) = ap (λ l. statement_marks s ++ l) (marks_of_row _ rest)
-
-abbrev held_of : Stmt → (n : Count) × Row_of-Stmt n
-held_of (If' s test m held otherwise) = (_, held)
-held_of _ = (_, end_of-Stmt)
-
-abbrev otherwise_of : Stmt → (n : Count) × Row_of-Stmt n
-otherwise_of (If' s test m held (Some' k row)) = (_, row)
-otherwise_of _ = (_, end_of-Stmt)
-
-pub marks-if : (s : Span) (test : Expr) (held : Vec Stmt) → statement_marks (statements.If s test held None) ≡ expr_marks test ++ (body_marks held.items ++ [])
-marks-if s test held =
-    let b = held_of (statements.If s test held None) in
-    ap (λ l. expr_marks test ++ (l ++ [])) (marks_of_row b.0 b.1 ∙ ap body_marks (items_hidden-the_row-Stmt-0 held))
-
-pub marks-if_else : (s : Span) (test : Expr) (held otherwise : Vec Stmt) → statement_marks (statements.If s test held (Some otherwise)) ≡ expr_marks test ++ (body_marks held.items ++ body_marks otherwise.items)
-marks-if_else s test held otherwise =
-    let b = held_of (statements.If s test held (Some otherwise)) in
-    let o = otherwise_of (statements.If s test held (Some otherwise)) in
-    ap (λ l. expr_marks test ++ (l ++ row_marks o.1)) (marks_of_row b.0 b.1 ∙ ap body_marks (items_hidden-the_row-Stmt-0 held))
-    ∙ ap (λ l. expr_marks test ++ (body_marks held.items ++ l)) (marks_of_row o.0 o.1 ∙ ap body_marks (items_hidden-the_row-Stmt-0 otherwise))
 
 -- ---- what is allowed
 
@@ -66,15 +36,6 @@ is_allowed_at (Some c) i ms = is_allowed c i ms
 -- each let is used as its class allows
 pub record Allowed (cs : List Class) (ms : List Mark) : Type 0 where
   pub each : (i : ℕ) → is_allowed_at (slice_get cs i) i ms ≡ true
-
-with-append : {U : Type 0} (t : Bool) (u : U) (all us vs : List U) → all ≡ us ++ vs → (if t then u ∷ all else all) ≡ (if t then u ∷ us else us) ++ vs
-with-append true u all us vs e = ap (λ l. u ∷ l) e
-with-append false u all us vs e = e
-
-uses-append : (i : ℕ) (a b : List Mark) → uses_of i (a ++ b) ≡ uses_of i a ++ uses_of i b
-uses-append i [] b = refl
-uses-append i (Uses j u ∷ a) b = with-append (i == j) u (uses_of i (a ++ b)) (uses_of i a) (uses_of i b) (uses-append i a b)
-uses-append i (Breaks ∷ a) b = uses-append i a b
 
 tests_parts : {U : Type 0} (test : U → Bool) (all a b : List U) → all ≡ a ++ b → list_all test all ≡ true → (list_all test a ≡ true) × (list_all test b ≡ true)
 tests_parts test all a b e h = and_parts (list_all test a) (list_all test b) (sym (ap (list_all test) e ∙ list_all-append test a b) ∙ h)

@@ -24,11 +24,11 @@ use Rattle.vert_eval.proofs.RunLaws.{followed-Broke, followed-Going, loop-append
 use Rattle.instrument.specs.declared.split.SplitLoop.{SplitLoop}
 use Rattle.instrument.specs.Loops.{loop_split}
 use Rattle.instrument.specs.Segments.{begun, carried_words, given, only_lets, own_words, received_over, left_after, with_neutral, with_received, with_words}
-use Rattle.instrument.specs.Continued.{BeginsWithOwn, ComesTogether, Ends, GoesOn, IsSplit, LeavesNeutral, SameOutcome, combined_words, segment, segments, unless_broke, whole, with_segment, with_segments}
+use Rattle.instrument.specs.Continued.{BeginsWithOwn, ComesTogether, Ends, GoesOn, IsSplit, LeavesNeutral, LetsStay, SameOutcome, combined_words, segment, segments, unless_broke, whole, with_segment, with_segments}
 use Rattle.instrument.proofs.ActLaws.{Quiet, loop_steady, or_nothing, over, over_ran}
 use Rattle.instrument.proofs.MarkLaws.{classes_allow}
 use Rattle.instrument.proofs.TypedLaws.{body_stands, length-let_classes}
-use Rattle.instrument.proofs.WordLaws.{AreLeft, carried_same, own_are_left, own_over, rejoined, restarted}
+use Rattle.instrument.proofs.WordLaws.{carried_same, own_are_left, own_over, rejoined, restarted}
 
 -- ---- lengths
 
@@ -38,7 +38,7 @@ length-with_lets (d ∷ ds) env =
     let more : Env = record env { locals = record { items = env.locals.items ++ value_of d.value env ∷ [] } } in
     omega (arith, length-with_lets ds more, length-append env.locals.items (value_of d.value env ∷ []))
 
-length-own : (ds : List Decl) (env : Env) → length (own_words ds env) ≡ length ds
+pub length-own : (ds : List Decl) (env : Env) → length (own_words ds env) ≡ length ds
 length-own ds env = omega (arith, length-with_lets ds (record env { locals = record { items = [] } }))
 
 length-received_over : (cs : List Class) (ws xs : List ℤ) → length (received_over cs ws xs) ≡ length xs
@@ -116,7 +116,7 @@ module _ (d : Dense) (env : Env) where
       ((loop_steady cs s d.body.items members (classes_allow d.lets.items (body_marks d.body.items))).quiet (begin received) (quiet_begin received)).each i op is clear
 
   module _ (p : Program) (h : IsSplit p d env) where
-    left : (s : Scene) (members : List Edge) → AreLeft cs own (whole s d env members).env.locals.items
+    pub left : (s : Scene) → LetsStay s d env
     left s members = (loop_steady cs s d.body.items members (classes_allow d.lets.items (body_marks d.body.items))).left own first (own_are_left cs own as_many h.words)
 
     -- what is combined with a segment that begins where the loop stands is the loop's own environment, at

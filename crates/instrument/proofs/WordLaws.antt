@@ -16,7 +16,7 @@ use Rattle.slot_merge.proofs.CombineLaws.{combined_of-assoc, combined_of-comm, M
 use Rattle.vert_eval.specs.Values.{word_at}
 use Rattle.vert_eval.specs.Words.{assigned}
 use Rattle.instrument.specs.Segments.{carried_words, received_over, with_neutral}
-use Rattle.instrument.specs.Continued.{combined_word, combined_words}
+use Rattle.instrument.specs.Continued.{AreLeft, IsLeft, combined_word, combined_words}
 
 -- ---- what each class allows
 
@@ -88,20 +88,6 @@ carried_same (Reduced op ∷ cs) (b ∷ before) (x ∷ xs) = carried_same cs bef
 carried_same (Carried ∷ cs) (b ∷ before) (x ∷ xs) = ap (λ l. x ∷ l) (carried_same cs before xs)
 
 -- ---- words from which a segment can go on
-
--- a word that a loop left of a let with this value of its own
-abbrev pub IsLeft : Class → ℤ → ℤ → Type 0
-IsLeft Constant own x = x ≡ own
-IsLeft Carried own x = Unit {0}
-IsLeft (Reduced op) own x = combined_of op x (neutral op) ≡ x
-
-abbrev pub AreLeft : List Class → List ℤ → List ℤ → Type 0
-AreLeft [] [] [] = Unit {0}
-AreLeft (c ∷ cs) (o ∷ own) (x ∷ xs) = IsLeft c o x × AreLeft cs own xs
-AreLeft [] (o ∷ own) xs = ⊥
-AreLeft [] [] (x ∷ xs) = ⊥
-AreLeft (c ∷ cs) [] xs = ⊥
-AreLeft (c ∷ cs) (o ∷ own) [] = ⊥
 
 -- one operand more comes behind what changes nothing
 swapped : (op : Combine) (x v : ℤ) → op ≢ combine.First → combined_of op x (neutral op) ≡ x → combined_of op (combined_of op x v) (neutral op) ≡ combined_of op x v

@@ -1,6 +1,6 @@
 -- The law of split loops: segments of a loop, each of which begins with what the one before it gave,
 -- come to what the whole loop comes to.
-use Rattle.std.specs.Prelude.{◌≡◌, ℕ, ℤ, List, [], ◌∷◌, ◌++◌, All, FitsSigned, Option, None, Some, bit_or, flat_map, length, slice_get, true}
+use Rattle.std.specs.Prelude.{◌≡◌, ℕ, ℤ, List, [], ◌∷◌, ◌++◌, All, FitsSigned, Option, None, Some, bit_or, flat_map, length, slice_get, true, ⊤}
 use Rattle.std.specs.Int.{bit_at, w64}
 use Rattle.vert_base.specs.declared.graph.Edge.{Edge}
 use Rattle.vert_base.specs.declared.value.Combine.{Combine}
@@ -33,6 +33,22 @@ combined_words [] before words = words
 combined_words (c ∷ cs) [] words = words
 combined_words (c ∷ cs) (b ∷ before) [] = []
 combined_words (c ∷ cs) (b ∷ before) (x ∷ xs) = combined_word c b x ∷ combined_words cs before xs
+
+-- a word that a loop may leave in a let that has this word of its own: a constant let keeps its own
+-- word, and what a reduced let has doesn't change where the neutral value is combined with it
+abbrev pub IsLeft : Class → ℤ → ℤ → Type 0
+IsLeft Constant own x = x ≡ own
+IsLeft Carried own x = ⊤
+IsLeft (Reduced op) own x = combined_of op x (neutral op) ≡ x
+
+-- let by let, and as many words as lets
+abbrev pub AreLeft : List Class → List ℤ → List ℤ → Type 0
+AreLeft [] [] [] = ⊤
+AreLeft (c ∷ cs) (o ∷ own) (x ∷ xs) = IsLeft c o x × AreLeft cs own xs
+AreLeft [] (o ∷ own) xs = ⊥
+AreLeft [] [] (x ∷ xs) = ⊥
+AreLeft (c ∷ cs) [] xs = ⊥
+AreLeft (c ∷ cs) (o ∷ own) [] = ⊥
 
 -- a run with what a segment adds to it
 abbrev pub with_segment : SplitLoop → Ran → Ran → Ran
@@ -113,6 +129,12 @@ LeavesNeutral s d env =
     slice_get (loop_split d).classes.locals.items i ≡ Some (Reduced op) →
     bit_at (segment s d env received members).env.touched i ≡ 0 →
     word_at (segment s d env received members).env.locals.items i ≡ neutral op
+
+-- whatever its members, the loop leaves in the lets words that their classes allow
+abbrev pub LetsStay : Scene → Dense → Env → Type 0
+LetsStay s d env =
+    (members : List Edge) →
+    AreLeft (loop_split d).classes.locals.items (own_words d.lets.items env) (whole s d env members).env.locals.items
 
 -- the loop over all parts comes to what the segments add to the lets' own values, one after another
 abbrev pub ComesTogether : Scene → Dense → Env → Type 0

@@ -1,6 +1,7 @@
 -- Changes of locals that may come in any order.
 use Rattle.std.proofs.Common.{◌≡◌, ◌≢◌, ℕ, zero, suc, ℤ, Bool, true, false, IsTrue, List, [], ◌∷◌, ◌++◌, IsPermutation, set, refl, sym, ap, subst, ◌∙◌, Some}
 use Rattle.std.specs.List.{list_all}
+use Rattle.std.proofs.lemmas.Bool.{and_parts}
 use Rattle.vert_base.specs.declared.value.Combine.{Combine}
 use Rattle.vert_base.specs.declared.value.Combine.TheVariants as combine
 use Rattle.vert_tree.specs.declared.name.What.TheVariants as what
@@ -20,7 +21,7 @@ use Rattle.order_free.specs.Fixed.{is_constant}
 use Rattle.order_laws.proofs.Loops.{SameButNeighbour-trans}
 use Rattle.order_free.proofs.Fits.{takes}
 use Rattle.order_free.proofs.Keeps.{word_other}
-use Rattle.order_laws.proofs.Blindness.{left_true, moved, right_true}
+use Rattle.order_laws.proofs.Blindness.{moved}
 use Rattle.order_free.proofs.Values.{SameHeld, both_true, relet}
 
 -- what `op=` does to the let of a place
@@ -128,8 +129,8 @@ module _ (kind : ℕ → Class) where
   changes_hold [] a h = record { same = λ i k. refl }
   changes_hold (c ∷ cs) a h = record {
     same = λ i k.
-        (changes_hold cs (changed c a) (right_true (change_fits c) (list_all change_fits cs) h)).same i k
-        ∙ word_other a.locals.items c.place i _ (λ e. still_other (kind c.place) c.op (subst (λ n. IsTrue (is_still n)) e k) (left_true (change_fits c) (list_all change_fits cs) h));
+        (changes_hold cs (changed c a) (and_parts (change_fits c) (list_all change_fits cs) h).1).same i k
+        ∙ word_other a.locals.items c.place i _ (λ e. still_other (kind c.place) c.op (subst (λ n. IsTrue (is_still n)) e k) (and_parts (change_fits c) (list_all change_fits cs) h).0);
   }
 
   flip_changes : (c d : Change) (a : Env) → IsTrue (change_fits c) → IsTrue (change_fits d) → SameButNeighbour (changed d (changed c a)) (changed c (changed d a))
@@ -146,13 +147,13 @@ module _ (kind : ℕ → Class) where
   kept = record {
     same = λ cs. record { fit = λ h. h; same = λ h a. refl };
     under = λ c cs ds p. record {
-      fit = λ h. both_true (change_fits c) (list_all change_fits ds) (left_true (change_fits c) (list_all change_fits cs) h) (p.fit (right_true (change_fits c) (list_all change_fits cs) h));
-      same = λ h a. p.same (right_true (change_fits c) (list_all change_fits cs) h) (changed c a);
+      fit = λ h. both_true (change_fits c) (list_all change_fits ds) (and_parts (change_fits c) (list_all change_fits cs) h).0 (p.fit (and_parts (change_fits c) (list_all change_fits cs) h).1);
+      same = λ h a. p.same (and_parts (change_fits c) (list_all change_fits cs) h).1 (changed c a);
     };
     flip = λ c d cs.
-        let first : Fits (c ∷ d ∷ cs) → IsTrue (change_fits c) = λ h. left_true (change_fits c) (list_all change_fits (d ∷ cs)) h in
-        let second : Fits (c ∷ d ∷ cs) → IsTrue (change_fits d) = λ h. left_true (change_fits d) (list_all change_fits cs) (right_true (change_fits c) (list_all change_fits (d ∷ cs)) h) in
-        let others : Fits (c ∷ d ∷ cs) → Fits cs = λ h. right_true (change_fits d) (list_all change_fits cs) (right_true (change_fits c) (list_all change_fits (d ∷ cs)) h) in
+        let first : Fits (c ∷ d ∷ cs) → IsTrue (change_fits c) = λ h. (and_parts (change_fits c) (list_all change_fits (d ∷ cs)) h).0 in
+        let second : Fits (c ∷ d ∷ cs) → IsTrue (change_fits d) = λ h. (and_parts (change_fits d) (list_all change_fits cs) (and_parts (change_fits c) (list_all change_fits (d ∷ cs)) h).1).0 in
+        let others : Fits (c ∷ d ∷ cs) → Fits cs = λ h. (and_parts (change_fits d) (list_all change_fits cs) (and_parts (change_fits c) (list_all change_fits (d ∷ cs)) h).1).1 in
         record {
           fit = λ h. both_true (change_fits d) (list_all change_fits (c ∷ cs)) (second h) (both_true (change_fits c) (list_all change_fits cs) (first h) (others h));
           same = λ h a. changes_beside cs (changed d (changed c a)) (changed c (changed d a)) (flip_changes c d a (first h) (second h));

@@ -1,7 +1,7 @@
 -- A block of a loop body changes locals alone, and of these only those that it assigns.
 use Rattle.std.proofs.Common.{◌≡◌, ◌==◌, ℕ, zero, suc, ℤ, Bool, true, false, ◌&&◌, IsTrue, List, [], ◌∷◌, ◌++◌, set, refl, ap, ◌∙◌}
 use Rattle.std.specs.Prelude.{if◌then◌else◌}
-use Rattle.std.proofs.lemmas.Bool.{eq-eqb}
+use Rattle.std.proofs.lemmas.Bool.{and_parts, eq-eqb}
 use Rattle.vert_base.specs.declared.text.Span.{Span}
 use Rattle.vert_tree.specs.declared.name.Ident.{Ident}
 use Rattle.vert_tree.specs.declared.name.What.{What}
@@ -21,7 +21,6 @@ use Rattle.vert_eval.specs.Values.{node_value, word_at}
 use Rattle.vert_eval.specs.Words.{is_set}
 use Rattle.order_free.proofs.Statements.{Closed, run_holds}
 use Rattle.order_free.proofs.Uses.{Idle, idle_left, idle_right, refused}
-use Rattle.order_laws.proofs.Blindness.{left_true, right_true}
 use Rattle.order_free.proofs.Values.{relet}
 
 -- ---- words
@@ -53,7 +52,7 @@ next_word Broke i a x y p q = p
 
 keeps_next : (t u : Bool) (ms ns : List Mark) (f g : Act) → Keeps t ms f → Keeps u ns g → Keeps (t && u) (ms ++ ns) (λ env. followed_by (f env) g)
 keeps_next t u ms ns f g p q = record {
-  rest = λ h a. next_rest (f a).flow a (f a) (g (f a).env) (p.rest (left_true t u h) a) (q.rest (right_true t u h) (f a).env);
+  rest = λ h a. next_rest (f a).flow a (f a) (g (f a).env) (p.rest (and_parts t u h).0 a) (q.rest (and_parts t u h).1 (f a).env);
   words = λ i h a. next_word (f a).flow i a (f a) (g (f a).env) (p.words i (idle_left i ms ns h) a) (q.words i (idle_right i ms ns h) (f a).env);
 }
 
@@ -72,8 +71,8 @@ module _ (c : Counts) where
       Keeps (expr_placed c test && (t && u)) (expr_marks test ++ (ms ++ ns)) (λ env. if is_set (node_value test.node env) then f env else g env)
   keeps_choice t u test ms ns f g p q = record {
     rest = λ h a.
-        let both = right_true (expr_placed c test) (t && u) h in
-        choice_rest (is_set (node_value test.node a)) f g a (p.rest (left_true t u both) a) (q.rest (right_true t u both) a);
+        let both = (and_parts (expr_placed c test) (t && u) h).1 in
+        choice_rest (is_set (node_value test.node a)) f g a (p.rest (and_parts t u both).0 a) (q.rest (and_parts t u both).1 a);
     words = λ i h a.
         let both = idle_right i (expr_marks test) (ms ++ ns) h in
         choice_word (is_set (node_value test.node a)) i f g a (p.words i (idle_left i ms ns both) a) (q.words i (idle_right i ms ns both) a);

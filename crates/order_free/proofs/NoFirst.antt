@@ -1,7 +1,7 @@
 -- Where no slot of kind `first` is told, no block emits to one.
 use Rattle.std.proofs.Common.{◌≡◌, ℕ, zero, suc, ◌+◌, Bool, true, false, not, ◌&&◌, ◌||◌, IsTrue, List, [], ◌∷◌, map, slice_get, refl, sym, ap, subst, ◌∙◌, arith, Option, Some, None}
 use Rattle.std.specs.Prelude.{if◌then◌else◌}
-use Rattle.std.proofs.lemmas.Bool.{eq-eqb}
+use Rattle.std.proofs.lemmas.Bool.{eq-eqb, or_parts}
 use Rattle.vert_base.specs.declared.value.Combine.{Combine}
 use Rattle.vert_base.specs.declared.value.Combine.TheVariants.{Min, Max, Sum, First}
 use Rattle.vert_tree.specs.declared.name.What.{What}
@@ -20,14 +20,6 @@ use Rattle.order_laws.specs.OrderFree.{is_first as is_first_op, level_no_first, 
 use Rattle.instrument.specs.Loops.{any_true, body_emits, is_slot_at, level_emits, stmt_emits}
 use Rattle.order_free.specs.Emits.{dense_emits, first_slot, is_first, least_first, neighbour_emits, sparse_emits}
 use Rattle.order_free.proofs.Values.{both_true}
-
-or_left : (a b : Bool) → a || b ≡ false → a ≡ false
-or_left true b h = cc
-or_left false b h = refl
-
-or_right : (a b : Bool) → a || b ≡ false → b ≡ false
-or_right true b h = cc
-or_right false b h = h
 
 module _ (test : ℕ → Bool) where
   here_fails : (op : Combine) (b : Bool) (at : ℕ) (rest : Option ℕ) → (if is_first op && b then Some at else rest) ≡ None → IsTrue (is_first_op (Some op)) → b ≡ false
@@ -72,8 +64,8 @@ module _ (ops : List Combine) where
   all_spare [] h = refl
   all_spare (s ∷ ss) h =
       both_true (stmt_no_first ops s.0) (all_true (map (stmt_no_first ops) (stmts ss)))
-      (s.1 (λ i k. or_left (stmt_emits i s.0) (any_true (map (stmt_emits i) (stmts ss))) (h i k)))
-      (all_spare ss (λ i k. or_right (stmt_emits i s.0) (any_true (map (stmt_emits i) (stmts ss))) (h i k)))
+      (s.1 (λ i k. (or_parts (stmt_emits i s.0) (any_true (map (stmt_emits i) (stmts ss))) (h i k)).0))
+      (all_spare ss (λ i k. (or_parts (stmt_emits i s.0) (any_true (map (stmt_emits i) (stmts ss))) (h i k)).1))
 
   emit_spares : (w : What) → Spares (λ i. is_slot_at i w) → IsTrue (not (names_first ops w))
   emit_spares (what.Slot j) h = by (first_at j) refl
@@ -91,11 +83,11 @@ module _ (ops : List Combine) where
   level_spares (level.Assign t op e) h = refl
   level_spares (level.SetActive at e) h = refl
   level_spares (level.If at test held None) h =
-      both_true (all_true (map (stmt_no_first ops) (stmts held.items))) true (all_spare held.items (λ i k. or_left (any_true (map (stmt_emits i) (stmts held.items))) false (h i k))) refl
+      both_true (all_true (map (stmt_no_first ops) (stmts held.items))) true (all_spare held.items (λ i k. (or_parts (any_true (map (stmt_emits i) (stmts held.items))) false (h i k)).0)) refl
   level_spares (level.If at test held (Some body)) h =
       both_true (all_true (map (stmt_no_first ops) (stmts held.items))) (all_true (map (stmt_no_first ops) (stmts body.items)))
-      (all_spare held.items (λ i k. or_left (any_true (map (stmt_emits i) (stmts held.items))) (any_true (map (stmt_emits i) (stmts body.items))) (h i k)))
-      (all_spare body.items (λ i k. or_right (any_true (map (stmt_emits i) (stmts held.items))) (any_true (map (stmt_emits i) (stmts body.items))) (h i k)))
+      (all_spare held.items (λ i k. (or_parts (any_true (map (stmt_emits i) (stmts held.items))) (any_true (map (stmt_emits i) (stmts body.items))) (h i k)).0))
+      (all_spare body.items (λ i k. (or_parts (any_true (map (stmt_emits i) (stmts held.items))) (any_true (map (stmt_emits i) (stmts body.items))) (h i k)).1))
   level_spares (level.Emit at slot e) h = emit_spares slot.what h
   level_spares (level.Break at) h = refl
 
@@ -108,8 +100,8 @@ module _ (ops : List Combine) where
   body_spares : (body : List Stmt) → Spares (λ i. body_emits i body) → IsTrue (no_first ops body)
   body_spares [] h = refl
   body_spares (s ∷ ss) h =
-      both_true (stmt_no_first ops s) (no_first ops ss) (stmt_spares s (λ i k. or_left (stmt_emits i s) (body_emits i ss) (h i k)))
-      (body_spares ss (λ i k. or_right (stmt_emits i s) (body_emits i ss) (h i k)))
+      both_true (stmt_no_first ops s) (no_first ops ss) (stmt_spares s (λ i k. (or_parts (stmt_emits i s) (body_emits i ss) (h i k)).0))
+      (body_spares ss (λ i k. (or_parts (stmt_emits i s) (body_emits i ss) (h i k)).1))
 
   dense_spares : (o : Option Dense) → Spares (λ i. dense_emits i o) → IsTrue (option_all (λ d. no_first ops d.body.items) o)
   dense_spares None h = refl
@@ -126,5 +118,5 @@ program_spares p h =
     let spares : Spares ops (neighbour_emits p) = λ i k.
     let same : 0 + i ≡ i = omega arith in
     subst (λ n. neighbour_emits p n ≡ false) same (none_told (neighbour_emits p) p.slots.items 0 i h k) in
-    both_true _ _ (dense_spares ops p.dense (λ i k. or_left (dense_emits i p.dense) (sparse_emits i p.sparse) (spares i k)))
-    (sparse_spares ops p.sparse (λ i k. or_right (dense_emits i p.dense) (sparse_emits i p.sparse) (spares i k)))
+    both_true _ _ (dense_spares ops p.dense (λ i k. (or_parts (dense_emits i p.dense) (sparse_emits i p.sparse) (spares i k)).0))
+    (sparse_spares ops p.sparse (λ i k. (or_parts (dense_emits i p.dense) (sparse_emits i p.sparse) (spares i k)).1))

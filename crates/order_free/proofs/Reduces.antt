@@ -3,6 +3,7 @@ use Rattle.std.proofs.Common.{◌≡◌, ℕ, Bool, true, false, ◌&&◌, IsTru
 use Rattle.std.specs.Prelude.{if◌then◌else◌}
 use Rattle.std.specs.List.{flat_map, list_all}
 use Rattle.std.proofs.lemmas.List.Sorted.{IsPermutation-append_comm, IsPermutation-append_left, IsPermutation-append_right, IsPermutation-refl, IsPermutation-trans}
+use Rattle.std.proofs.lemmas.Bool.{and_parts}
 use Rattle.vert_base.specs.declared.graph.Edge.{Edge}
 use Rattle.vert_base.specs.declared.text.Span.{Span}
 use Rattle.vert_base.specs.Neighbours.{source}
@@ -36,7 +37,6 @@ use Rattle.order_laws.proofs.Loops.{SameButNeighbour-sym, SameButNeighbour-trans
 use Rattle.order_free.proofs.Changes.{Change, Fits, change_fits, changed, changes_beside, changes_hold, changes_permuted, changes_rest, is_still, takes_op, with_append, with_changes}
 use Rattle.order_free.proofs.Fits.{mark_fits, takes}
 use Rattle.order_free.proofs.Statements.{Closed, run_holds}
-use Rattle.order_laws.proofs.Blindness.{left_true, right_true}
 use Rattle.order_free.proofs.Values.{all_both, all_left, all_right, both_true, value_relet}
 
 -- what a run does: changes of locals, and emissions
@@ -105,7 +105,7 @@ module _ (kind : ℕ → Class) where
   name_still : (at : Span) (n : ℕ) (w : What) →
       let name : Ident = record { span = at; name = n; what = w } in
       IsTrue (all_fit (node_marks (nodes.Name name))) → IsTrue (all_still (node_marks (nodes.Name name)))
-  name_still at n (what.Local i) h = both_true (is_still kind i) true (read_still (kind i) (left_true _ true h)) refl
+  name_still at n (what.Local i) h = both_true (is_still kind i) true (read_still (kind i) (and_parts _ true h).0) refl
   name_still at n (what.Field i) h = refl
   name_still at n (what.Slot i) h = refl
   name_still at n (what.Send i) h = refl
@@ -159,10 +159,10 @@ module _ (kind : ℕ → Class) where
     op_taken : (i : ℕ) (op : AssignOp) (e : Expr) (at : Span) (n : ℕ) →
         let target : Ident = record { span = at; name = n; what = what.Local i } in
         IsTrue (all_fit (statement_marks (statements.Assign target op e))) → IsTrue (takes_op (kind i) op)
-    op_taken i assign.Set e at n h = left_true _ true (all_right (mark_fits kind) (expr_marks e) _ h)
-    op_taken i assign.Add e at n h = left_true _ true (all_right (mark_fits kind) (expr_marks e) _ h)
-    op_taken i assign.Least e at n h = left_true _ true (all_right (mark_fits kind) (expr_marks e) _ h)
-    op_taken i assign.Greatest e at n h = left_true _ true (all_right (mark_fits kind) (expr_marks e) _ h)
+    op_taken i assign.Set e at n h = (and_parts _ true (all_right (mark_fits kind) (expr_marks e) _ h)).0
+    op_taken i assign.Add e at n h = (and_parts _ true (all_right (mark_fits kind) (expr_marks e) _ h)).0
+    op_taken i assign.Least e at n h = (and_parts _ true (all_right (mark_fits kind) (expr_marks e) _ h)).0
+    op_taken i assign.Greatest e at n h = (and_parts _ true (all_right (mark_fits kind) (expr_marks e) _ h)).0
 
     reduces_assign : (at : Span) (n : ℕ) (w : What) (op : AssignOp) (e : Expr) →
         let target : Ident = record { span = at; name = n; what = w } in
@@ -185,15 +185,15 @@ module _ (kind : ℕ → Class) where
     reducing = record {
       nothing = record { act = λ t h. reduces_leaves };
       next = λ t u ms ns f g p q. record {
-        act = λ both h. reduces_next f g (p.act (left_true t u both) (all_left (mark_fits kind) ms ns h)) (q.act (right_true t u both) (all_right (mark_fits kind) ms ns h));
+        act = λ both h. reduces_next f g (p.act (and_parts t u both).0 (all_left (mark_fits kind) ms ns h)) (q.act (and_parts t u both).1 (all_right (mark_fits kind) ms ns h));
       };
       choice = λ t u test ms ns f g p q. record {
         act = λ all h.
-            let both = right_true (expr_placed c test) (t && u) all in
+            let both = (and_parts (expr_placed c test) (t && u) all).1 in
             let inner = all_right (mark_fits kind) (expr_marks test) (ms ++ ns) h in
             reduces_choice test.node f g (all_left (mark_fits kind) (expr_marks test) (ms ++ ns) h)
-            (p.act (left_true t u both) (all_left (mark_fits kind) ms ns inner))
-            (q.act (right_true t u both) (all_right (mark_fits kind) ms ns inner));
+            (p.act (and_parts t u both).0 (all_left (mark_fits kind) ms ns inner))
+            (q.act (and_parts t u both).1 (all_right (mark_fits kind) ms ns inner));
       };
       assign = λ target op e. record { act = reduces_assign target.span target.name target.what op e };
       active = λ s e. record { act = λ t h. cc };

@@ -3,47 +3,22 @@ use Rattle.std.proofs.Common.{◌≡◌, Bool, true, ◌&&◌, List, [], ◌∷�
 use Rattle.std.specs.Prelude.{if◌then◌else◌}
 use Rattle.std.specs.List.{list_all}
 use Rattle.std.specs.Global.{Vec}
-use mathlib.Core.Former.{Count}
 use Rattle.vert_base.specs.declared.text.Span.{Span}
 use Rattle.vert_tree.specs.declared.name.Ident.{Ident}
 use Rattle.vert_tree.specs.declared.expression.Expr.{Expr}
 use Rattle.vert_tree.specs.declared.statement.AssignOp.{AssignOp}
-use Rattle.vert_tree.specs.declared.statement.Stmt.{Stmt, Stmt-F, Row_of-Stmt, end_of-Stmt, more_of-Stmt, If', Some', items-the_row-Stmt, items_hidden-the_row-Stmt-0}
+use Rattle.vert_tree.specs.declared.statement.Stmt.{Stmt, Stmt-F}
 use Rattle.vert_tree.specs.declared.statement.Stmt as statements
 use Rattle.vert_tree.specs.declared.statement.Stmt.TheOpen as level
 use Rattle.vert_tree.specs.declared.statement.Stmt.TheVariants.{rolls-Assign, rolls-SetActive, rolls-If, rolls-Emit, rolls-Break}
 use Rattle.vert_tree.specs.declared.statement.Stmt.TheViews.{out-Stmt, roll-Stmt, roll-out-Stmt}
 use Rattle.vert_tree.specs.declared.statement.Stmt.TheFolds.{fold-roll-Stmt, ind-Stmt, map-Stmt}
 use Rattle.vert_tree.specs.Places.{Counts, Rights, body_placed, expr_placed, level_placed, stmt_placed}
-use Rattle.carry_analysis.specs.Classes.{Mark, body_marks, expr_marks, row_marks, statement_marks}
+use Rattle.carry_analysis.specs.Classes.{Mark, body_marks, expr_marks, statement_marks}
+use Rattle.carry_analysis.proofs.StatementMarks.{marks-if, marks-if_else}
 use Rattle.vert_eval.specs.Runs.{Act, act_of, act_step, followed_by, in_turn, leaves, run}
 use Rattle.vert_eval.specs.Values.{node_value}
 use Rattle.vert_eval.specs.Words.{is_set}
-
--- ---- the marks of an `if`
-marks_of_row : (n : _) (row : Row_of-Stmt n) → row_marks row ≡ body_marks (items-the_row-Stmt n row)
-marks_of_row n end_of-Stmt = refl
-marks_of_row n (more_of-Stmt s rest) = ap (λ l. statement_marks s ++ l) (marks_of_row _ rest)
-
-abbrev held_of : Stmt → (n : Count) × Row_of-Stmt n
-held_of (If' s test m held otherwise) = (_, held)
-held_of _ = (_, end_of-Stmt)
-
-abbrev otherwise_of : Stmt → (n : Count) × Row_of-Stmt n
-otherwise_of (If' s test m held (Some' k row)) = (_, row)
-otherwise_of _ = (_, end_of-Stmt)
-
-pub marks-if : (s : Span) (test : Expr) (held : Vec Stmt) → statement_marks (statements.If s test held None) ≡ expr_marks test ++ (body_marks held.items ++ [])
-marks-if s test held =
-    let b = held_of (statements.If s test held None) in
-    ap (λ l. expr_marks test ++ (l ++ [])) (marks_of_row b.0 b.1 ∙ ap body_marks (items_hidden-the_row-Stmt-0 held))
-
-pub marks-if_else : (s : Span) (test : Expr) (held otherwise : Vec Stmt) → statement_marks (statements.If s test held (Some otherwise)) ≡ expr_marks test ++ (body_marks held.items ++ body_marks otherwise.items)
-marks-if_else s test held otherwise =
-    let b = held_of (statements.If s test held (Some otherwise)) in
-    let o = otherwise_of (statements.If s test held (Some otherwise)) in
-    ap (λ l. expr_marks test ++ (l ++ row_marks o.1)) (marks_of_row b.0 b.1 ∙ ap body_marks (items_hidden-the_row-Stmt-0 held))
-    ∙ ap (λ l. expr_marks test ++ (body_marks held.items ++ l)) (marks_of_row o.0 o.1 ∙ ap body_marks (items_hidden-the_row-Stmt-0 otherwise))
 
 -- the statement that opens as this `if`
 pub shut : (stmt : Stmt) (s : Span) (test : Expr) (held : Vec Stmt) (otherwise : Option (Vec Stmt)) → out-Stmt stmt ≡ level.If s test held otherwise → stmt ≡ statements.If s test held otherwise

@@ -3,6 +3,7 @@ use Rattle.std.proofs.Common.{◌≡◌, ℕ, ℤ, pos, Bool, true, false, ◌&&
 use Rattle.std.specs.Prelude.{if◌then◌else◌, is_some, unwrap_or, neg_ℤ, not}
 use Rattle.std.specs.Int.{int_min, int_max}
 use Rattle.std.specs.List.{list_all}
+use Rattle.std.proofs.lemmas.Bool.{and_parts}
 use Rattle.vert_base.specs.declared.graph.Neighbour.{Neighbour}
 use Rattle.vert_base.specs.declared.text.Span.{Span}
 use Rattle.vert_base.specs.declared.value.Row.{Row}
@@ -152,14 +153,6 @@ leaves_marked r t env = record {
   draws = λ at tag. refl;
 }
 
-pub left_true : (t u : Bool) → IsTrue (t && u) → IsTrue t
-left_true true u h = refl
-left_true false u h = h
-
-pub right_true : (t u : Bool) → IsTrue (t && u) → IsTrue u
-right_true true u h = h
-right_true false u h = cc
-
 -- ---- runs
 -- runs that leave environments so related, and do the same
 pub record SameRun (R : Env → Env → Type 0) (x y : Ran) : Type 0 where
@@ -170,12 +163,12 @@ pub record SameRun (R : Env → Env → Type 0) (x y : Ran) : Type 0 where
 
 -- a relation of environments in which the same expressions have the same values, and which
 -- assignments keep
-record IsBlind (R : Env → Env → Type 0) (H : Bool → Type 0) (r : Readable) : Type 0 where
-  left : (t u : Bool) → H (t && u) → H t
-  right : (t u : Bool) → H (t && u) → H u
-  values : (e : Expr) → H (expr_read r e) → (a b : Env) → R a b → value_of e b ≡ value_of e a
-  targets : (w : What) (op : AssignOp) (x : ℤ) (a b : Env) → R a b → R (with_target w op x a) (with_target w op x b)
-  flags : (x : Bool) (a b : Env) → R a b → R (record a { next_active = x }) (record b { next_active = x })
+pub record IsBlind (R : Env → Env → Type 0) (H : Bool → Type 0) (r : Readable) : Type 0 where
+  pub left : (t u : Bool) → H (t && u) → H t
+  pub right : (t u : Bool) → H (t && u) → H u
+  pub values : (e : Expr) → H (expr_read r e) → (a b : Env) → R a b → value_of e b ≡ value_of e a
+  pub targets : (w : What) (op : AssignOp) (x : ℤ) (a b : Env) → R a b → R (with_target w op x a) (with_target w op x b)
+  pub flags : (x : Bool) (a b : Env) → R a b → R (record a { next_active = x }) (record b { next_active = x })
 
 module _ (R : Env → Env → Type 0) (H : Bool → Type 0) (r : Readable) (blind : IsBlind R H r) where
   abbrev Same : Act → Type 0
@@ -268,7 +261,7 @@ module _ (R : Env → Env → Type 0) (H : Bool → Type 0) (r : Readable) (blin
       (subst (λ act. H (level_read r (map-Stmt Stmt Bool (stmt_read r) (below y))) → Same act) (sym (fold-roll-Stmt Act act_step (below y)))
       (level_same y))))
 
-  run_same : (body : List Stmt) → H (body_read r body) → Same (run body)
+  pub run_same : (body : List Stmt) → H (body_read r body) → Same (run body)
   run_same [] h = same_leaves
   run_same (s ∷ ss) h =
       same_next (act_of s) (run ss) (act_same s (blind.left (stmt_read r s) (body_read r ss) h)) (run_same ss (blind.right (stmt_read r s) (body_read r ss) h))
@@ -285,9 +278,9 @@ target_moved (what.Total i) op x a o row t = refl
 
 tests_blind : IsBlind SameButNeighbour IsTrue in_tests
 tests_blind = record {
-  left = left_true;
-  right = right_true;
-  values = λ e h a b k. ap (value_of e) k ∙ node_same IsTrue in_tests left_true right_true a (moved b.other b.other_row b.touched a) (leaves_moved b.other b.other_row b.touched a) e.node h;
+  left = (λ t u h. (and_parts t u h).0);
+  right = (λ t u h. (and_parts t u h).1);
+  values = λ e h a b k. ap (value_of e) k ∙ node_same IsTrue in_tests (and_parts (λ t u h. (and_parts t u h).1) a (moved b.other b.other_row b.touched a)).0 (leaves_moved b.other b.other_row b.touched a) e.node h;
   targets = λ w op x a b k. subst (λ c. SameButNeighbour (with_target w op x a) (with_target w op x c)) (sym k) (target_moved w op x a b.other b.other_row b.touched);
   flags = λ x a b k. ap (λ c. let left : Env = record c { next_active = x } in left) k;
 }

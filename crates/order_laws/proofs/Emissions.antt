@@ -2,7 +2,7 @@
 use Rattle.std.proofs.Common.{◌≡◌, ◌≢◌, ◌==◌, ℕ, ℤ, suc, ◌+◌, Bool, true, false, cond, not, IsTrue, List, [], ◌∷◌, ◌++◌, map, filter, IsPermutation, refl, sym, ap, subst, ◌∙◌, arith, Option, Some, None, slice_get, true≢false}
 use Rattle.std.specs.Prelude.{if◌then◌else◌}
 use Rattle.std.specs.List.{AllByRecursion, flat_map, list_all}
-use Rattle.std.proofs.lemmas.Bool.{ne_eqb}
+use Rattle.std.proofs.lemmas.Bool.{and_parts, ne_eqb}
 use Rattle.std.proofs.lemmas.List.Sorted.{IsPermutation-append_left}
 use Rattle.vert_base.specs.declared.graph.Edge.{Edge}
 use Rattle.vert_base.specs.declared.value.Combine.{Combine}
@@ -24,7 +24,6 @@ use Rattle.vert_eval.specs.Runs.{Act, Ran, act_of, act_step, after, by_flow, emi
 use Rattle.vert_eval.specs.Values.{value_of}
 use Rattle.vert_eval.specs.Words.{is_set}
 use Rattle.order_laws.specs.OrderFree.{is_first, level_no_first, names_first, no_first, stmt_no_first}
-use Rattle.order_laws.proofs.Blindness.{left_true, right_true}
 
 -- ---- words in every order
 combined_step : (op : Combine) (e : Emission) (es : List Emission) (b : Bool) →
@@ -159,17 +158,17 @@ module _ (ops : List Combine) where
   all_fine : (ss : List Held) → IsTrue (tests ss) → Combining (in_turn (map act_of (stmts ss)))
   all_fine [] h = fine_leaves
   all_fine (s ∷ ss) h =
-      fine_next (act_of s.0) (in_turn (map act_of (stmts ss))) (s.1 (left_true (stmt_no_first ops s.0) (tests ss) h)) (all_fine ss (right_true (stmt_no_first ops s.0) (tests ss) h))
+      fine_next (act_of s.0) (in_turn (map act_of (stmts ss))) (s.1 (and_parts (stmt_no_first ops s.0) (tests ss) h).0) (all_fine ss (and_parts (stmt_no_first ops s.0) (tests ss) h).1)
 
   level_fine : (y : Stmt-F Held) → IsTrue (level_no_first ops (map-Stmt Stmt Bool (stmt_no_first ops) (below y))) → Combining (act_step (map-Stmt Stmt Act act_of (below y)))
   level_fine (level.Assign t op e) h = λ env. tt
   level_fine (level.SetActive at e) h = λ env. tt
   level_fine (level.If at test held None) h =
-      fine_if (λ env. is_set (value_of test env)) (in_turn (map act_of (stmts held.items))) leaves (all_fine held.items (left_true (tests held.items) true h)) fine_leaves
+      fine_if (λ env. is_set (value_of test env)) (in_turn (map act_of (stmts held.items))) leaves (all_fine held.items (and_parts (tests held.items) true h).0) fine_leaves
   level_fine (level.If at test held (Some body)) h =
       fine_if (λ env. is_set (value_of test env)) (in_turn (map act_of (stmts held.items))) (in_turn (map act_of (stmts body.items)))
-      (all_fine held.items (left_true (tests held.items) (tests body.items) h))
-      (all_fine body.items (right_true (tests held.items) (tests body.items) h))
+      (all_fine held.items (and_parts (tests held.items) (tests body.items) h).0)
+      (all_fine body.items (and_parts (tests held.items) (tests body.items) h).1)
   level_fine (level.Emit at slot e) h = λ env. fine_emission slot.what (value_of e env) h
   level_fine (level.Break at) h = λ env. tt
 
@@ -183,7 +182,7 @@ module _ (ops : List Combine) where
   -- a block that names no slot of kind first emits to none
   pub run_fine : (body : List Stmt) → IsTrue (no_first ops body) → (env : Env) → AllByRecursion (Combines 0 ops) (run body env).emitted
   run_fine [] h = fine_leaves
-  run_fine (s ∷ ss) h = fine_next (act_of s) (run ss) (act_fine s (left_true (stmt_no_first ops s) (no_first ops ss) h)) (run_fine ss (right_true (stmt_no_first ops s) (no_first ops ss) h))
+  run_fine (s ∷ ss) h = fine_next (act_of s) (run ss) (act_fine s (and_parts (stmt_no_first ops s) (no_first ops ss) h).0) (run_fine ss (and_parts (stmt_no_first ops s) (no_first ops ss) h).1)
 
   pub loop_fine : (s : Scene) (body : List Stmt) → IsTrue (no_first ops body) → (members : List Edge) (env : Env) → AllByRecursion (Combines 0 ops) (loop s body members env).emitted
   loop_fine s body h [] env = tt

@@ -3,6 +3,7 @@ use Rattle.std.proofs.Common.{◌≡◌, ℕ, ℤ, zero, suc, ◌+◌, ◌-◌, 
 use Rattle.std.specs.Prelude.{if◌then◌else◌, is_some}
 use Rattle.std.specs.List.{AllByRecursion, flat_map, list_all}
 use Rattle.std.proofs.lemmas.List.{append-nil}
+use Rattle.std.proofs.lemmas.Bool.{and_parts}
 use Rattle.vert_base.specs.declared.graph.Edge.{Edge}
 use Rattle.vert_base.specs.declared.value.Combine.{Combine}
 use Rattle.vert_base.specs.declared.value.Ruling.{Ruling}
@@ -25,7 +26,7 @@ use Rattle.vert_eval.specs.Values.{value_of}
 use Rattle.vert_eval.specs.Words.{is_set}
 use Rattle.order_laws.specs.Agreement.{LoopAgrees}
 use Rattle.order_laws.specs.OrderFree.{AnyLoopAgrees, IsOrderFree, ResumesAlike, RunsAlike, Told, no_first, told, with_ends}
-use Rattle.order_laws.proofs.Blindness.{left_true, right_true, run_blind}
+use Rattle.order_laws.proofs.Blindness.{run_blind}
 use Rattle.order_laws.proofs.Emissions.{Combines, all-flat_map, loop_fine, run_fine, slot_values-alike}
 use Rattle.order_laws.proofs.Members.{flat_map-permutation, neighbours_of-permutation}
 
@@ -61,7 +62,7 @@ tail_tests d h =
     let lets = decls_read in_tests d.lets.items in
     let body = body_read in_loop d.body.items in
     let tail = body_read in_tests d.tail.items in
-    right_true body tail (right_true lets (body && tail) (right_true (expr_read in_tests d.when_test) (lets && (body && tail)) h))
+    (and_parts body tail (and_parts lets (body && tail) (and_parts (expr_read in_tests d.when_test) (lets && (body && tail)) h).1).1).1
 
 dense_part_alike : (ops : List Combine) (o : Option Dense) (s : Scene) (first second : List ℕ) (ms ns : List Edge) → IsPermutation ms ns →
     AnyLoopAgrees o → IsTrue (option_all (λ d. no_first ops d.body.items) o) → IsTrue (option_all dense_read o) →
@@ -106,38 +107,31 @@ sparse_part_alike ops (Some sparse) s first second ms ns moved none env = sent_a
 -- ---- a round
 readable_of : (p : Program) → IsTrue (is_typed p) → IsTrue (is_readable p)
 readable_of p h =
-    let last = declares_once p && totals_combine p in
-    let modes = mode_stands p.mode (is_some p.dense) (is_some p.sparse) in
-    let a = is_readable p && last in
-    let b = modes && a in
-    let c = version_stands p && b in
-    let d = names_stand p && c in
-    let e = is_shallow p && d in
-    let f = is_limited p && e in
-    let g = is_kinded p && f in
-    left_true (is_readable p) last (right_true modes a (right_true (version_stands p) b (right_true (names_stand p) c (right_true (is_shallow p) d (right_true (is_limited p) e
-    (right_true (is_kinded p) f (right_true (is_placed p) g h)))))))
+    let kinded = and_parts (is_placed p) _ h in
+    let limited = and_parts (is_kinded p) _ kinded.1 in
+    let shallow = and_parts (is_limited p) _ limited.1 in
+    let names = and_parts (is_shallow p) _ shallow.1 in
+    let version = and_parts (names_stand p) _ names.1 in
+    let modes = and_parts (version_stands p) _ version.1 in
+    let readable = and_parts (mode_stands p.mode (is_some p.dense) (is_some p.sparse)) _ modes.1 in
+    (and_parts (is_readable p) _ readable.1).0
 
 dense_tests : (p : Program) → IsTrue (is_readable p) → IsTrue (option_all dense_read p.dense)
 dense_tests p h =
-    let stop = option_all (expr_read in_stop) p.stop in
-    let a = body_read in_update p.update.items && stop in
-    let b = option_all sparse_read p.sparse && a in
-    let c = option_all dense_read p.dense && b in
-    let d = expr_read in_fields p.start && c in
-    let e = list_all (λ t. expr_read in_tests t.value) p.totals.items && d in
-    left_true (option_all dense_read p.dense) b (right_true (expr_read in_fields p.start) c (right_true (list_all (λ t. expr_read in_tests t.value) p.totals.items) d
-    (right_true (decls_read in_fields p.fields.items) e h)))
+    let totals = and_parts (decls_read in_fields p.fields.items) _ h in
+    let start = and_parts (list_all (λ t. expr_read in_tests t.value) p.totals.items) _ totals.1 in
+    let dense = and_parts (expr_read in_fields p.start) _ start.1 in
+    (and_parts (option_all dense_read p.dense) _ dense.1).0
 
 module _ (p : Program) (free : IsOrderFree p) (s : Scene) (first second : List ℕ) where
   members_moved : (v : ℕ) → IsPermutation (members_of (over first s).graph v) (members_of (over second s).graph v)
   members_moved v = neighbours_of-permutation s.graph.vertices first second s.graph.edges v
 
   none_dense : IsTrue (option_all (λ d. no_first (slot_ops p) d.body.items) p.dense)
-  none_dense = left_true (option_all (λ d. no_first (slot_ops p) d.body.items) p.dense) (option_all (λ d. no_first (slot_ops p) d.body.items) p.sparse) free.slots
+  none_dense = (and_parts (option_all (λ d. no_first (slot_ops p) d.body.items) p.dense) (option_all (λ d. no_first (slot_ops p) d.body.items) p.sparse) free.slots).0
 
   none_sparse : IsTrue (option_all (λ d. no_first (slot_ops p) d.body.items) p.sparse)
-  none_sparse = right_true (option_all (λ d. no_first (slot_ops p) d.body.items) p.dense) (option_all (λ d. no_first (slot_ops p) d.body.items) p.sparse) free.slots
+  none_sparse = (and_parts (option_all (λ d. no_first (slot_ops p) d.body.items) p.dense) (option_all (λ d. no_first (slot_ops p) d.body.items) p.sparse) free.slots).1
 
   gathered_alike : (r : Ruling) (v : ℕ) → values (slot_ops p) (gathered p r (over first s) v) ≡ values (slot_ops p) (gathered p r (over second s) v)
   gathered_alike ruling.Stop v = refl

@@ -8,12 +8,12 @@ use Rattle.slot_merge.specs.Combine.{Emission, combined_of, combined, words_for,
 use Rattle.slot_merge.specs.Partials.{empty_partial, keyed, with_word, put_word, with_emission, with_emissions}
 
 -- a partial after several words under one key
-abbrev with_each : ℕ → List ℤ → Partial → Partial
+abbrev pub with_each : ℕ → List ℤ → Partial → Partial
 with_each key [] p = p
 with_each key (x ∷ xs) p = with_each key xs (with_word key x p)
 
 -- the partials from a number on, each after its words
-abbrev spread : ℕ → ℕ → List Partial → List Emission → List Partial
+abbrev pub spread : ℕ → ℕ → List Partial → List Emission → List Partial
 spread key at [] es = []
 spread key at (p ∷ ps) es = with_each key (words_for at es) p ∷ spread key (at + 1) ps es
 
@@ -52,7 +52,7 @@ spread_put key at (suc j) (p ∷ ps) e es h =
     ∙ ap (λ ws. with_each key ws p ∷ spread key (at + 1) (put_at key ps j e.word) es) (sym (words_elsewhere at e es (λ s. omega arith)))
     ∙ ap (λ qs. with_each key (words_for at (e ∷ es)) p ∷ qs) (spread_put key (at + 1) j ps e es (omega arith))
 
-spread_is : (key : ℕ) (ps : List Partial) (es : List Emission) → with_emissions key ps es ≡ spread key 0 ps es
+pub spread_is : (key : ℕ) (ps : List Partial) (es : List Emission) → with_emissions key ps es ≡ spread key 0 ps es
 spread_is key ps [] = sym (spread-nil key 0 ps)
 spread_is key ps (e ∷ es) = spread_is key (with_emission key ps e) es ∙ spread_put key 0 e.slot ps e es (omega arith)
 

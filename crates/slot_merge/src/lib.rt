@@ -4,7 +4,7 @@
 mod laws;
 mod partial;
 
-pub use laws::merging;
+pub use laws::{filling, merging};
 pub use partial::{Emits, Partial};
 
 #[cfg(test)]
