@@ -155,10 +155,6 @@ rejoined (Constant ∷ cs) (o ∷ own) (x ∷ xs) p = ap (λ l. o ∷ l) (rejoin
 rejoined (Reduced op ∷ cs) (o ∷ own) (x ∷ xs) p = ap (λ l. combined_of op x (neutral op) ∷ l) (rejoined cs own xs p.1) ∙ ap (λ y. y ∷ xs) p.0
 rejoined (Carried ∷ cs) (o ∷ own) (x ∷ xs) p = ap (λ l. x ∷ l) (rejoined cs own xs p.1)
 
--- what a segment begins with holds the words received
-pub given_back : (cs : List Class) (own xs : List ℤ) → AreLeft cs own xs → carried_words cs (restarted cs own xs) ≡ carried_words cs xs
-given_back cs own xs p = sym (carried_same cs xs (restarted cs own xs)) ∙ ap (carried_words cs) (rejoined cs own xs p)
-
 -- words received that are those of the lets change nothing
 pub own_over : (cs : List Class) (own : List ℤ) → received_over cs (carried_words cs own) own ≡ own
 own_over [] own = refl

@@ -44,7 +44,7 @@ pub record SameLeaves (H : Bool → Type 0) (r : Readable) (a b : Env) : Type 0 
   pub slots : H r.slots → (w : What) → slot_value w b ≡ slot_value w a
   pub fields : H r.others → (w : What) → other_field w b ≡ other_field w a
   pub others : (w : Builtin) → H (r.others && is_other_word w) → other_builtin w b ≡ other_builtin w a
-  pub draws : (at : Span) (tag : ℕ) → node_value (Draw at tag) b ≡ node_value (Draw at tag) a
+  pub draws : H r.own → (at : Span) (tag : ℕ) → node_value (Draw at tag) b ≡ node_value (Draw at tag) a
 
 module _ (H : Bool → Type 0) (r : Readable) (left : (t u : Bool) → H (t && u) → H t) (right : (t u : Bool) → H (t && u) → H u) (a b : Env) (same : SameLeaves H r a b) where
   -- an expression has the same value in both
@@ -57,7 +57,7 @@ module _ (H : Bool → Type 0) (r : Readable) (left : (t u : Bool) → H (t && u
   node_same (Value name) h = ap (λ o. unwrap_or o (pos 0)) (same.slots h name.what)
   node_same (OtherField name) h = same.fields h name.what
   node_same (OtherWord w) h = same.others w h
-  node_same (Draw at tag) h = same.draws at tag
+  node_same (Draw at tag) h = same.draws h at tag
   node_same (Neg' _ _ x) h = ap (λ v. wrapped (neg_ℤ v)) (node_same x h)
   node_same (Not' _ _ x) h = ap (λ v. word_of (not (is_set v))) (node_same x h)
   node_same (Binary' op _ _ x _ _ y) h =
@@ -134,7 +134,7 @@ leaves_moved o row t env = record {
   slots = λ h. absurd (false_holds h);
   fields = λ h. absurd (false_holds h);
   others = λ w h. absurd (false_holds h);
-  draws = λ at tag. refl;
+  draws = λ h at tag. refl;
 }
   where
     false_holds : IsTrue false → ⊥
@@ -150,7 +150,7 @@ leaves_marked r t env = record {
   slots = λ h. slots_moved env.other env.other_row t env;
   fields = λ h. fields_marked t env;
   others = λ w h. others_marked t env w;
-  draws = λ at tag. refl;
+  draws = λ h at tag. refl;
 }
 
 -- ---- runs
@@ -278,9 +278,9 @@ target_moved (what.Total i) op x a o row t = refl
 
 tests_blind : IsBlind SameButNeighbour IsTrue in_tests
 tests_blind = record {
-  left = (λ t u h. (and_parts t u h).0);
-  right = (λ t u h. (and_parts t u h).1);
-  values = λ e h a b k. ap (value_of e) k ∙ node_same IsTrue in_tests (and_parts (λ t u h. (and_parts t u h).1) a (moved b.other b.other_row b.touched a)).0 (leaves_moved b.other b.other_row b.touched a) e.node h;
+  left = λ t u h. (and_parts t u h).0;
+  right = λ t u h. (and_parts t u h).1;
+  values = λ e h a b k. ap (value_of e) k ∙ node_same IsTrue in_tests (λ t u r. (and_parts t u r).0) (λ t u r. (and_parts t u r).1) a (moved b.other b.other_row b.touched a) (leaves_moved b.other b.other_row b.touched a) e.node h;
   targets = λ w op x a b k. subst (λ c. SameButNeighbour (with_target w op x a) (with_target w op x c)) (sym k) (target_moved w op x a b.other b.other_row b.touched);
   flags = λ x a b k. ap (λ c. let left : Env = record c { next_active = x } in left) k;
 }

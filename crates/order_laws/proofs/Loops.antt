@@ -13,9 +13,6 @@ use Rattle.vert_eval.proofs.RunLaws.{loop-append}
 use Rattle.order_laws.specs.Agreement.{Agree, AgreeToEnd, FlipsPairs, FlipsTwo, LoopAgrees, SameButNeighbour}
 use Rattle.order_laws.proofs.Blindness.{SameButMarks, SameRun, run_unmarked}
 
-pub SameButNeighbour-refl : (a : Env) → SameButNeighbour a a
-SameButNeighbour-refl a = refl
-
 pub SameButNeighbour-trans : (a b c : Env) → SameButNeighbour a b → SameButNeighbour b c → SameButNeighbour a c
 SameButNeighbour-trans a b c p q = q ∙ ap (λ x. let left : Env = record x { other = c.other; other_row = c.other_row; touched = c.touched } in left) p
 
@@ -29,12 +26,6 @@ pub Agree-trans : (r q t : Ran) → Agree r q → Agree q t → Agree r t
 Agree-trans r q t a b = record {
   env = SameButNeighbour-trans r.env q.env t.env a.env b.env;
   emitted = IsPermutation-trans r.emitted q.emitted t.emitted a.emitted b.emitted;
-}
-
-pub Agree-sym : (r q : Ran) → Agree r q → Agree q r
-Agree-sym r q a = record {
-  env = SameButNeighbour-sym r.env q.env a.env;
-  emitted = IsPermutation-sym r.emitted q.emitted a.emitted;
 }
 
 -- after the same run

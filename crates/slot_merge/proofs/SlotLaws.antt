@@ -88,10 +88,3 @@ length-slot_values at (op ∷ ops) es = ap suc (length-slot_values (at + 1) ops 
 pub with_emissions-append : (key : ℕ) (ps : List Partial) (es more : List Emission) → with_emissions key ps (es ++ more) ≡ with_emissions key (with_emissions key ps es) more
 with_emissions-append key ps [] more = refl
 with_emissions-append key ps (e ∷ es) more = with_emissions-append key (with_emission key ps e) es more
-
-length-spread : (key at : ℕ) (ps : List Partial) (es : List Emission) → length (spread key at ps es) ≡ length ps
-length-spread key at [] es = refl
-length-spread key at (p ∷ ps) es = ap suc (length-spread key (at + 1) ps es)
-
-pub length-with_emissions : (key : ℕ) (ps : List Partial) (es : List Emission) → length (with_emissions key ps es) ≡ length ps
-length-with_emissions key ps es = ap length (spread_is key ps es) ∙ length-spread key 0 ps es

@@ -1,9 +1,11 @@
 -- What blocks don't read: the key, and in a sparse body the neighbour's id, degrees and row.
 use Rattle.std.proofs.Common.{◌≡◌, ℕ, ℤ, Bool, true, false, IsTrue, List, [], ◌∷◌, ◌++◌, refl, sym, ap, subst, ◌∙◌}
-use Rattle.std.specs.Prelude.{if◌then◌else◌}
+use Rattle.std.specs.Prelude.{◌&&◌, if◌then◌else◌}
+use Rattle.std.specs.List.{flat_map}
 use Rattle.std.proofs.lemmas.Bool.{and_parts}
 use Rattle.vert_base.specs.declared.graph.Edge.{Edge}
 use Rattle.vert_base.specs.declared.graph.Neighbour.{Neighbour}
+use Rattle.vert_base.specs.declared.value.Combine.{Combine}
 use Rattle.vert_base.specs.declared.value.Row.{Row}
 use Rattle.vert_base.specs.Neighbours.{source}
 use Rattle.vert_tree.specs.declared.expression.Builtin.{Builtin}
@@ -12,17 +14,18 @@ use Rattle.vert_tree.specs.declared.name.What.{What}
 use Rattle.vert_tree.specs.declared.name.What.TheVariants as what
 use Rattle.vert_tree.specs.declared.program.Dense.{Dense}
 use Rattle.vert_tree.specs.declared.statement.AssignOp.{AssignOp}
-use Rattle.vert_tree.specs.Readable.{in_sparse, in_tests}
+use Rattle.vert_tree.specs.declared.program.Sparse.{Sparse}
+use Rattle.vert_tree.specs.Readable.{in_sparse, in_stop, in_tests, word_read}
 use Rattle.vert_eval.specs.declared.environment.Env.{Env}
 use Rattle.vert_eval.specs.declared.environment.Flow.{Flow}
 use Rattle.vert_eval.specs.declared.environment.Flow.TheVariants.{Going, Broke}
-use Rattle.vert_eval.specs.Rounds.{Scene, at_member, dense_at, dense_block, loop, member_act, with_lets}
+use Rattle.vert_eval.specs.Rounds.{Scene, at_member, dense_at, dense_block, emitted_over, loop, member_act, sender_at, sent_by, with_lets}
 use Rattle.vert_eval.specs.Runs.{Act, Ran, after, by_flow, followed_by, leaves, run, with_target}
 use Rattle.vert_eval.specs.Values.{builtin, named, other_builtin, other_field, slot_value, value_of}
 use Rattle.vert_eval.specs.Words.{is_set}
 use Rattle.order_laws.proofs.Blindness.{IsBlind, SameLeaves, SameRun, node_same, run_same}
 use Rattle.value_laws.specs.Blind.{AlikeRuns, SameButKey, SameWeight}
-use Rattle.value_laws.specs.Laws.{DenseAtAnyKey, LetsAtAnyKey, LoopsAtAnyKey, RunsAtAnyKey, SparseAtAnyNeighbour, ValuesAtAnyKey}
+use Rattle.value_laws.specs.Laws.{DenseAtAnyKey, LetsAtAnyKey, LoopsAtAnyKey, RunsAtAnyKey, SparseAtAnyKey, SparseAtAnyNeighbour, StopsAnywhere, ValuesAtAnyKey}
 
 -- ---- the key
 abbrev Any : Bool → Type 0
@@ -80,7 +83,7 @@ leaves_keyed k env = record {
   slots = λ h. slots_keyed k env;
   fields = λ h. fields_keyed k env;
   others = λ w h. others_keyed k env w;
-  draws = λ at tag. refl;
+  draws = λ h at tag. refl;
 }
 
 pub value_keyed : ValuesAtAnyKey
@@ -158,6 +161,64 @@ dense_keyed s d members a b h =
     by true = block_keyed s d members a b h
     by false = record { env = h; emitted = refl; reads = refl; flow = refl }
 
+received_keyed : (s : Scene) (ops : List Combine) (sparse : Sparse) (a b : Env) → SameButKey a b → (e : Edge) →
+    emitted_over s ops sparse b e ≡ emitted_over s ops sparse a e
+received_keyed s ops sparse a b h e =
+    let sender = sender_at s ops (source e) in
+    let sent : Env → Env = λ env. record (at_member s e env) { sends = record { items = sent_by sparse sender } } in
+    ap (λ es. if sender.row.active && is_set (value_of sparse.when_test sender) then es else [])
+    (run_keyed sparse.body.items (sent a) (sent b) (ap sent h)).emitted
+
+emitted_keyed : (s : Scene) (ops : List Combine) (sparse : Sparse) (a b : Env) → SameButKey a b → (members : List Edge) →
+    flat_map (emitted_over s ops sparse b) members ≡ flat_map (emitted_over s ops sparse a) members
+emitted_keyed s ops sparse a b h [] = refl
+emitted_keyed s ops sparse a b h (e ∷ es) =
+    ap (λ l. l ++ flat_map (emitted_over s ops sparse b) es) (received_keyed s ops sparse a b h e)
+    ∙ ap (λ l. emitted_over s ops sparse a e ++ l) (emitted_keyed s ops sparse a b h es)
+
+pub sparse_keyed : SparseAtAnyKey
+sparse_keyed s ops sparse members a b h =
+    record { env = h; emitted = emitted_keyed s ops sparse a b h members; reads = refl; flow = refl }
+
+-- ---- the stop test at another vertex
+abbrev elsewhere : Env → Env → Env
+elsewhere b a = record a { id = b.id; indeg = b.indeg; outdeg = b.outdeg; draws = b.draws; other = b.other; other_row = b.other_row }
+
+words_elsewhere : (b a : Env) (w : Builtin) → IsTrue (word_read in_stop w) → builtin w (elsewhere b a) ≡ builtin w a
+words_elsewhere b a word.Id h = cc
+words_elsewhere b a word.Count h = refl
+words_elsewhere b a word.Round h = refl
+words_elsewhere b a word.InDeg h = cc
+words_elsewhere b a word.OutDeg h = cc
+words_elsewhere b a word.Active h = cc
+words_elsewhere b a word.Weight h = cc
+
+names_elsewhere : (b a : Env) (w : What) → named w (elsewhere b a) ≡ named w a
+names_elsewhere b a what.Unread = refl
+names_elsewhere b a (what.Field i) = refl
+names_elsewhere b a (what.Slot i) = refl
+names_elsewhere b a (what.Local i) = refl
+names_elsewhere b a (what.Send i) = refl
+names_elsewhere b a (what.Total i) = refl
+
+leaves_elsewhere : (b a : Env) → SameLeaves IsTrue in_stop a (elsewhere b a)
+leaves_elsewhere b a = record {
+  words = words_elsewhere b a;
+  names = names_elsewhere b a;
+  slots = λ h. absurd (false_holds h);
+  fields = λ h. absurd (false_holds h);
+  others = λ w h. absurd (false_holds h);
+  draws = λ h at tag. absurd (false_holds h);
+}
+  where
+    false_holds : IsTrue false → ⊥
+    false_holds h = cc
+
+pub stop_anywhere : StopsAnywhere
+stop_anywhere e h a b k =
+    ap (value_of e) k
+    ∙ node_same IsTrue in_stop (λ t u r. (and_parts t u r).0) (λ t u r. (and_parts t u r).1) a (elsewhere b a) (leaves_elsewhere b a) e.node h
+
 -- ---- a sparse body at another neighbour with the same weight
 abbrev beside : Neighbour → Row → Env → Env
 beside o row env = record env { other = o; other_row = row }
@@ -186,7 +247,7 @@ leaves_beside o row env same = record {
   slots = λ h. absurd (false_holds h);
   fields = λ h. absurd (false_holds h);
   others = λ w h. absurd (false_holds h);
-  draws = λ at tag. refl;
+  draws = λ h at tag. refl;
 }
   where
     false_holds : IsTrue false → ⊥
@@ -202,9 +263,9 @@ target_beside (what.Total i) op x a o row same = record { rest = refl; weight = 
 
 weight_blind : IsBlind SameWeight IsTrue in_sparse
 weight_blind = record {
-  left = (λ t u h. (and_parts t u h).0);
-  right = (λ t u h. (and_parts t u h).1);
-  values = λ e h a b k. ap (value_of e) k.rest ∙ node_same IsTrue in_sparse (and_parts (λ t u h. (and_parts t u h).1) a (beside b.other b.other_row a)).0 (leaves_beside b.other b.other_row a k.weight) e.node h;
+  left = λ t u h. (and_parts t u h).0;
+  right = λ t u h. (and_parts t u h).1;
+  values = λ e h a b k. ap (value_of e) k.rest ∙ node_same IsTrue in_sparse (λ t u r. (and_parts t u r).0) (λ t u r. (and_parts t u r).1) a (beside b.other b.other_row a) (leaves_beside b.other b.other_row a k.weight) e.node h;
   targets = λ w op x a b k. subst (λ c. SameWeight (with_target w op x a) (with_target w op x c)) (sym k.rest) (target_beside w op x a b.other b.other_row k.weight);
   flags = λ x a b k. record { rest = ap (λ c. let left : Env = record c { next_active = x } in left) k.rest; weight = k.weight };
 }
