@@ -1,8 +1,8 @@
 -- What is refused and what is printed, by what is asked over the files of a shelf.
 use Rattle.std.proofs.Common.{◌≡◌, ◌⊎◌, inl, inr, ℕ, List, Option, Some, None, Result, Ok, Err, refl, sym, ap, subst, ◌∙◌}
 use Rattle.edge_reader.specs.EdgeList.{Graph}
-use Rattle.symple_face.specs.Causes.{Rose}
-use Rattle.symple_face.specs.Files.{File, file_named}
+use Rattle.outside.specs.Causes.{Rose}
+use Rattle.outside.specs.Files.{File, file_named}
 use Rattle.symple_run.specs.declared.status.Status.{Status}
 use Rattle.symple_run.specs.declared.status.Status.TheVariants as status
 use Rattle.symple_run.specs.declared.failure.Failure.{Failure}

@@ -5,9 +5,9 @@ use Rattle.edge_reader.specs.declared.edges.Edges.{Edges}
 use Rattle.edge_reader.specs.EdgeList.{Graph}
 use Rattle.edge_reader.specs.Gives.{graph_of_edges}
 use Rattle.instrument.specs.Shown.{shown}
-use Rattle.symple_face.specs.Causes.{Rose}
-use Rattle.symple_face.specs.Files.{File}
-use Rattle.symple_face.specs.declared.sink.SinkFault.{SinkFault}
+use Rattle.outside.specs.Causes.{Rose}
+use Rattle.outside.specs.Files.{File}
+use Rattle.outside.specs.declared.sink.SinkFault.{SinkFault}
 use Rattle.symple_run.specs.declared.failure.Failure.{Failure}
 use Rattle.symple_run.specs.declared.failure.Failure.TheVariants as failure
 use Rattle.symple_run.specs.Answers.{Change, Ends, Failed, Gained, IsLoaded, Stayed}

@@ -5,7 +5,7 @@ use Rattle.chunk_split.specs.Bounds.{ends_of}
 use Rattle.order_free.specs.Free.{freedom_of, is_free}
 use Rattle.order_laws.specs.OrderFree.{RunsAlike}
 use Rattle.program_reader.specs.Accepted.{Says}
-use Rattle.symple_face.specs.Files.{File}
+use Rattle.outside.specs.Files.{File}
 use Rattle.symple_run.specs.declared.status.Status.TheVariants as status
 use Rattle.symple_run.specs.Answers.{AreUnder, Change, Ends, Gained, IsLoaded, IsUnder, status_after}
 use Rattle.symple_run.specs.Freedom.{AlikeAtAllCounts, FreeAnswer}

@@ -1,8 +1,8 @@
 -- What a command leaves.
 use Rattle.std.specs.Prelude.{◌≡◌, ◌⊎◌, ℕ, List, Option, Some, None}
-use Rattle.symple_face.specs.Bytes.{gained, GainedPart}
-use Rattle.symple_face.specs.Causes.{Rose}
-use Rattle.symple_face.specs.Files.{File, file_named}
+use Rattle.outside.specs.Bytes.{gained, GainedPart}
+use Rattle.outside.specs.Causes.{Rose}
+use Rattle.outside.specs.Files.{File, file_named}
 use Rattle.symple_run.specs.declared.status.Status.{Status}
 use Rattle.symple_run.specs.declared.status.Status.TheVariants.{Done}
 use Rattle.symple_run.specs.Lines as line

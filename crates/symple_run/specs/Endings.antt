@@ -2,7 +2,7 @@
 use Rattle.std.specs.Prelude.{◌≡◌, ℕ, List, Option, Some, None, Result, Ok, Err}
 use Rattle.chunk_split.specs.Bounds.{ends_of}
 use Rattle.edge_reader.specs.EdgeList.{Graph}
-use Rattle.symple_face.specs.Files.{File}
+use Rattle.outside.specs.Files.{File}
 use Rattle.symple_run.specs.declared.failure.Failure.{Failure}
 use Rattle.symple_run.specs.declared.failure.Failure.TheVariants as failure
 use Rattle.symple_run.specs.Answers.{AreUnder, Change, Ends, Failed, Gained, IsLoaded, Stayed}

@@ -4,7 +4,7 @@ use Rattle.edge_reader.specs.EdgeList as edges
 use Rattle.order_free.specs.Free.{freedom_of, is_free}
 use Rattle.order_laws.specs.OrderFree.{told}
 use Rattle.program_reader.specs.Accepted.{Says}
-use Rattle.symple_face.specs.Files.{File}
+use Rattle.outside.specs.Files.{File}
 use Rattle.symple_run.specs.Answers.{Change, Gained, IsUnder}
 use Rattle.symple_run.specs.Outputs.{free_text, job_of}
 use Rattle.vert_eval.specs.SourceRun.{source_run}

@@ -2,8 +2,8 @@
 use Rattle.std.specs.Prelude.{◌≡◌, ◌⊎◌, ℕ, List, Option, None, Result, Ok, Err}
 use Rattle.edge_reader.specs.declared.edges.Edges.{Edges}
 use Rattle.edge_reader.specs.Gives.{graph_of_edges}
-use Rattle.symple_face.specs.Causes.{Rose}
-use Rattle.symple_face.specs.Files.{File}
+use Rattle.outside.specs.Causes.{Rose}
+use Rattle.outside.specs.Files.{File}
 use Rattle.symple_run.specs.declared.failure.Failure.{Failure}
 use Rattle.symple_run.specs.declared.failure.Failure.TheVariants as failure
 use Rattle.symple_run.specs.Answers.{IsTold, IsUnder}

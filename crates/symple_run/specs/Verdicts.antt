@@ -5,7 +5,7 @@ use Rattle.edge_reader.specs.declared.fault.EdgeFault.TheVariants.{Line as AtLin
 use Rattle.edge_reader.specs.EdgeList.{Graph}
 use Rattle.edge_reader.specs.EdgeText.{reading_of_text}
 use Rattle.edge_reader.specs.EdgePairs.{reading_of_pairs}
-use Rattle.symple_face.specs.Files.{File, file_named}
+use Rattle.outside.specs.Files.{File, file_named}
 use Rattle.program_reader.specs.declared.refusal.Refusal.{Refusal}
 use Rattle.symple_run.specs.Lines as line
 use Rattle.symple_run.specs.Notes.{Fault, NoCommand, BadWords, NoLoad, BadProgram, BadLine, BadByte, NoMemory}

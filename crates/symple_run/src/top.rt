@@ -1,8 +1,8 @@
 ghost use Rattle.std.specs.Prelude.{◌≡◌, ◌≤◌, ◌⊎◌, ℕ, List, Result, map, Some, None};
 ghost use Rattle.std.specs.String.{string_bytes};
 ghost use Rattle.edge_reader.specs.Gives.{graph_of_edges};
-ghost use Rattle.symple_face.specs.Causes.{Rose};
-ghost use Rattle.symple_face.specs.Files.{File};
+ghost use Rattle.outside.specs.Causes.{Rose};
+ghost use Rattle.outside.specs.Files.{File};
 ghost use Rattle.symple_run.specs.Answers.{Answers};
 ghost use Rattle.symple_run.specs.Endings.{CutsInto, EndsBy, Plays, failure_for};
 ghost use Rattle.symple_run.specs.Freedom.{FreeAnswer};
