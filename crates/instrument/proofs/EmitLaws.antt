@@ -4,6 +4,7 @@ use Rattle.std.specs.List.{list_any, range_with_len}
 use Rattle.std.proofs.lemmas.List.{map-id}
 use Rattle.std.proofs.lemmas.List.FromFn.{filter_of_map_range_with_len_more}
 use Rattle.std.specs.Global.{Vec}
+use Rattle.std.proofs.Math.Bool.{or-false}
 use Rattle.vert_base.specs.declared.text.Span.{Span}
 use Rattle.vert_tree.specs.declared.expression.Expr.{Expr}
 use Rattle.vert_tree.specs.declared.statement.Stmt.{Stmt}
@@ -17,14 +18,10 @@ any_of_map : {X : Type 0} (p : X → Bool) (xs : List X) → any_true (map p xs)
 any_of_map p [] = refl
 any_of_map p (x ∷ xs) = ap (λ b. p x || b) (any_of_map p xs)
 
-or_false : (b : Bool) → (b || false) ≡ b
-or_false true = refl
-or_false false = refl
-
 emits-if : (slot : ℕ) (s : Span) (test : Expr) (held : Vec Stmt) → stmt_emits slot (statements.If s test held None) ≡ body_emits slot held.items
 emits-if slot s test held =
     ap (stmt_emits slot) (sym (rolls-If s test held None)) ∙ fold-roll-Stmt Bool (level_emits slot) (level.If s test held None)
-    ∙ or_false (any_true (map (stmt_emits slot) held.items)) ∙ any_of_map (stmt_emits slot) held.items
+    ∙ or-false (any_true (map (stmt_emits slot) held.items)) ∙ any_of_map (stmt_emits slot) held.items
 
 emits-if_else : (slot : ℕ) (s : Span) (test : Expr) (held others : Vec Stmt) → stmt_emits slot (statements.If s test held (Some others)) ≡ (body_emits slot held.items || body_emits slot others.items)
 emits-if_else slot s test held others =

@@ -16,7 +16,7 @@ use Rattle.instrument.specs.declared.split.SplitLoop.{SplitLoop}
 use Rattle.instrument.specs.Loops.{loop_split}
 use Rattle.instrument.specs.Segments.{lets_in}
 
-limited : (p : Program) → is_typed p ≡ true → is_limited p ≡ true
+pub limited : (p : Program) → is_typed p ≡ true → is_limited p ≡ true
 limited p typed =
     let rest : Bool = is_shallow p && (names_stand p && (version_stands p && (mode_stands p.mode (is_some p.dense) (is_some p.sparse) && (is_readable p && (declares_once p && totals_combine p))))) in
     let a = and_parts (is_placed p) (is_kinded p && (is_limited p && rest)) typed in

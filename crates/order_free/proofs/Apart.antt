@@ -1,7 +1,7 @@
 -- The forms of loop bodies don't overlap.
 use Rattle.std.proofs.Common.{◌≡◌, ℕ, Bool, true, false, ◌&&◌, IsTrue, List, [], ◌∷◌, ◌++◌, refl, sym, ap, ◌∙◌, Option, Some, None}
 use Rattle.std.specs.Global.{Vec}
-use Rattle.std.proofs.lemmas.Bool.{and_parts}
+use Rattle.std.proofs.lemmas.Bool.{and_parts, and_right}
 use Rattle.vert_base.specs.declared.text.Span.{Span}
 use Rattle.vert_tree.specs.declared.expression.Expr.{Expr}
 use Rattle.vert_tree.specs.declared.statement.Stmt.{Stmt, Stmt-F}
@@ -104,13 +104,9 @@ module _ (classes : List Class) where
   not_both (s ∷ t ∷ []) h = no_stop (counter_of classes (out-Stmt s)) (out-Stmt t) (and_parts (is_last_step classes None (out-Stmt s)) (is_break (out-Stmt t)) h).1
   not_both (s ∷ t ∷ u ∷ more) h = refl
 
-  and_false : (t u : Bool) → u ≡ false → (t && u) ≡ false
-  and_false true u e = e
-  and_false false u e = refl
-
   one_apart : (z : Stmt-F Stmt) → IsTrue (finds_one classes z) → counts_members classes z ≡ false
   one_apart (level.If at test held None) h =
-      and_false (reads_known classes None test.node) (counts_up classes held.items) (not_both held.items (and_parts (reads_known classes None test.node) (ends_loop classes None held.items) h).1)
+      and_right (reads_known classes None test.node) (counts_up classes held.items) (not_both held.items (and_parts (reads_known classes None test.node) (ends_loop classes None held.items) h).1)
   one_apart (level.If at test held (Some body)) h = cc
   one_apart (level.Assign t o v) h = cc
   one_apart (level.SetActive at v) h = cc

@@ -1,7 +1,7 @@
 -- Changes of locals that may come in any order.
 use Rattle.std.proofs.Common.{◌≡◌, ◌≢◌, ℕ, zero, suc, ℤ, Bool, true, false, IsTrue, List, [], ◌∷◌, ◌++◌, IsPermutation, set, refl, sym, ap, subst, ◌∙◌, Some}
 use Rattle.std.specs.List.{list_all}
-use Rattle.std.proofs.lemmas.Bool.{and_parts}
+use Rattle.std.proofs.lemmas.Bool.{and_from, and_parts}
 use Rattle.vert_base.specs.declared.value.Combine.{Combine}
 use Rattle.vert_base.specs.declared.value.Combine.TheVariants as combine
 use Rattle.vert_tree.specs.declared.name.What.TheVariants as what
@@ -22,7 +22,7 @@ use Rattle.order_laws.proofs.Loops.{SameButNeighbour-trans}
 use Rattle.order_free.proofs.Fits.{takes}
 use Rattle.order_free.proofs.Keeps.{word_other}
 use Rattle.order_laws.proofs.Blindness.{moved}
-use Rattle.order_free.proofs.Values.{SameHeld, both_true, relet}
+use Rattle.order_free.proofs.Values.{SameHeld, relet}
 
 -- what `op=` does to the let of a place
 pub record Change : Type 0 where
@@ -147,7 +147,7 @@ module _ (kind : ℕ → Class) where
   kept = record {
     same = λ cs. record { fit = λ h. h; same = λ h a. refl };
     under = λ c cs ds p. record {
-      fit = λ h. both_true (change_fits c) (list_all change_fits ds) (and_parts (change_fits c) (list_all change_fits cs) h).0 (p.fit (and_parts (change_fits c) (list_all change_fits cs) h).1);
+      fit = λ h. and_from (change_fits c) (list_all change_fits ds) (and_parts (change_fits c) (list_all change_fits cs) h).0 (p.fit (and_parts (change_fits c) (list_all change_fits cs) h).1);
       same = λ h a. p.same (and_parts (change_fits c) (list_all change_fits cs) h).1 (changed c a);
     };
     flip = λ c d cs.
@@ -155,7 +155,7 @@ module _ (kind : ℕ → Class) where
         let second : Fits (c ∷ d ∷ cs) → IsTrue (change_fits d) = λ h. (and_parts (change_fits d) (list_all change_fits cs) (and_parts (change_fits c) (list_all change_fits (d ∷ cs)) h).1).0 in
         let others : Fits (c ∷ d ∷ cs) → Fits cs = λ h. (and_parts (change_fits d) (list_all change_fits cs) (and_parts (change_fits c) (list_all change_fits (d ∷ cs)) h).1).1 in
         record {
-          fit = λ h. both_true (change_fits d) (list_all change_fits (c ∷ cs)) (second h) (both_true (change_fits c) (list_all change_fits cs) (first h) (others h));
+          fit = λ h. and_from (change_fits d) (list_all change_fits (c ∷ cs)) (second h) (and_from (change_fits c) (list_all change_fits cs) (first h) (others h));
           same = λ h a. changes_beside cs (changed d (changed c a)) (changed c (changed d a)) (flip_changes c d a (first h) (second h));
         };
     both = λ cs ds es p q. record {

@@ -2,7 +2,7 @@
 use Rattle.std.proofs.Common.{◌≡◌, ◌==◌, ◌<◌, ◌≤◌, ℕ, zero, suc, ◌+◌, Bool, true, false, ◌&&◌, ◌||◌, IsTrue, List, [], ◌∷◌, ◌++◌, length, filter, nat_lt, refl, sym, ap, subst, ◌∙◌, arith, Some, None}
 use Rattle.std.specs.Prelude.{if◌then◌else◌, is_none}
 use Rattle.std.specs.List.{list_all}
-use Rattle.std.proofs.lemmas.Bool.{and_parts, eq-eqb, ltb-false, ltb-true}
+use Rattle.std.proofs.lemmas.Bool.{and_from, and_parts, eq-eqb, ltb-false, ltb-true}
 use Rattle.vert_base.specs.declared.text.Span.{Span}
 use Rattle.vert_base.specs.declared.value.Combine.TheVariants as combine
 use Rattle.vert_tree.specs.declared.name.Ident.{Ident}
@@ -24,7 +24,7 @@ use Rattle.carry_analysis.specs.Classes.{Mark, Uses, Breaks, body_marks, carried
 use Rattle.vert_eval.specs.Runs.{Act}
 use Rattle.order_free.proofs.Statements.{Closed, run_holds}
 use Rattle.order_free.proofs.Uses.{Use, without}
-use Rattle.order_free.proofs.Values.{all_both, both_true}
+use Rattle.order_free.proofs.Values.{all_both}
 
 -- ---- what a class tells of a use
 -- the class takes this use, by whether it is a read, `+=`, `min=` or `max=`
@@ -70,7 +70,7 @@ module _ (c : Counts) where
   name_below : (at : Span) (n : ℕ) (w : What) →
       let name : Ident = record { span = at; name = n; what = w } in
       IsTrue (node_placed c (nodes.Name name)) → IsTrue (below (node_marks (nodes.Name name)))
-  name_below at n (what.Local i) h = both_true (nat_lt i c.locals) true h refl
+  name_below at n (what.Local i) h = and_from (nat_lt i c.locals) true h refl
   name_below at n (what.Field i) h = refl
   name_below at n (what.Slot i) h = refl
   name_below at n (what.Send i) h = refl
@@ -108,7 +108,7 @@ module _ (c : Counts) where
       let target : Ident = record { span = at; name = n; what = w } in
       IsTrue (level_placed loop_rights c (level.Assign target op e)) → IsTrue (below (statement_marks (statements.Assign target op e)))
   target_below at n (what.Local i) op e h =
-      all_both (mark_below c.locals) (expr_marks e) _ (node_below e.node (and_parts (nat_lt i c.locals) (expr_placed c e) h).1) (both_true (nat_lt i c.locals) true (and_parts (nat_lt i c.locals) (expr_placed c e) h).0 refl)
+      all_both (mark_below c.locals) (expr_marks e) _ (node_below e.node (and_parts (nat_lt i c.locals) (expr_placed c e) h).1) (and_from (nat_lt i c.locals) true (and_parts (nat_lt i c.locals) (expr_placed c e) h).0 refl)
   target_below at n (what.Field i) op e h = cc
   target_below at n (what.Slot i) op e h = cc
   target_below at n (what.Send i) op e h = cc
@@ -158,7 +158,7 @@ module _ (whole : List Mark) (n : ℕ) (free : (i : ℕ) → i < n → is_carrie
       IsTrue (list_all (mark_below n) ms) → has_break ms ≡ false → IsTrue (list_all (mark_fits (class_in whole)) ms)
   fits_from [] sub low none = refl
   fits_from (Uses i u ∷ ms) sub low none =
-      both_true (takes_use (class_in whole i) u) (list_all (mark_fits (class_in whole)) ms)
+      and_from (takes_use (class_in whole i) u) (list_all (mark_fits (class_in whole)) ms)
       (taken (list_all is_read (uses_of i whole)) (list_all is_added (uses_of i whole)) (list_all is_lowered (uses_of i whole)) (list_all is_raised (uses_of i whole)) (is_read u) (is_added u) (is_lowered u) (is_raised u)
       (here is_read) (here is_added) (here is_lowered) (here is_raised) (free i (ltb-true i n (and_parts (nat_lt i n) (list_all (mark_below n) ms) low).0)))
       (fits_from ms (λ p j h. without p (j == i) u (uses_of j ms) (sub p j h)) (and_parts (nat_lt i n) (list_all (mark_below n) ms) low).1 none)

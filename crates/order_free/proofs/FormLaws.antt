@@ -4,7 +4,7 @@ use Rattle.std.specs.Prelude.{if◌then◌else◌}
 use Rattle.std.specs.List.{list_all}
 use Rattle.std.specs.Global.{Vec}
 use Rattle.std.proofs.lemmas.List.{append-nil}
-use Rattle.std.proofs.lemmas.Bool.{and_parts}
+use Rattle.std.proofs.lemmas.Bool.{and_from, and_parts}
 use Rattle.vert_base.specs.declared.text.Span.{Span}
 use Rattle.vert_tree.specs.declared.name.What.{What}
 use Rattle.vert_tree.specs.declared.name.What.TheVariants as what
@@ -38,7 +38,6 @@ use Rattle.order_free.proofs.Keeps.{run_keeps}
 use Rattle.order_free.proofs.Uses.{Idle, idle_left, idle_right}
 use Rattle.carry_analysis.proofs.StatementMarks.{marks-if}
 use Rattle.order_free.proofs.Statements.{shut}
-use Rattle.order_free.proofs.Values.{both_true}
 
 -- ---- what reads no neighbour
 abbrev reads_alone : Stmt-F Stmt → Bool
@@ -72,9 +71,9 @@ module _ (classes : List Class) where
 
   end_reads : (counter : Option ℕ) (body : List Stmt) → IsTrue (ends_loop classes counter body) → IsTrue (body_read in_tests body)
   end_reads counter [] h = cc
-  end_reads counter (s ∷ []) h = both_true (stmt_read in_tests s) true (opened s (break_reads (out-Stmt s) h)) refl
+  end_reads counter (s ∷ []) h = and_from (stmt_read in_tests s) true (opened s (break_reads (out-Stmt s) h)) refl
   end_reads counter (s ∷ t ∷ more) h =
-      both_true (stmt_read in_tests s) (body_read in_tests (t ∷ more))
+      and_from (stmt_read in_tests s) (body_read in_tests (t ∷ more))
       (opened s (step_reads counter (out-Stmt s) (and_parts (is_last_step classes counter (out-Stmt s)) (ends_loop classes counter (t ∷ more)) h).0))
       (end_reads counter (t ∷ more) (and_parts (is_last_step classes counter (out-Stmt s)) (ends_loop classes counter (t ∷ more)) h).1)
 
@@ -119,7 +118,7 @@ module _ (classes : List Class) where
   bound_reads c (nodes.Binary' op.Le _ _ a _ _ b) h = cc
   bound_reads c (nodes.Binary' op.Gt _ _ a _ _ b) h = cc
   bound_reads c (nodes.Binary' op.Ge _ _ a _ _ b) h =
-      both_true (node_read in_tests a) (node_read in_tests b) (let_reads c a (and_parts (is_let c a) (is_fixed classes None b) h).0)
+      and_from (node_read in_tests a) (node_read in_tests b) (let_reads c a (and_parts (is_let c a) (is_fixed classes None b) h).0)
       (and_parts (node_read in_tests b) (reads_known classes None b) (and_parts (is_let c a) (is_fixed classes None b) h).1).0
   bound_reads c (nodes.Binary' op.And _ _ a _ _ b) h = cc
   bound_reads c (nodes.Binary' op.Or _ _ a _ _ b) h = cc
@@ -133,8 +132,8 @@ module _ (classes : List Class) where
   stop_reads c (level.SetActive at e) h = cc
   stop_reads c (level.If at test held None) h =
       let ends = (and_parts (is_bound classes c test.node) (ends_loop classes (Some c) held.items) h).1 in
-      both_true (expr_read in_tests test) _ (bound_reads c test.node (and_parts (is_bound classes c test.node) (ends_loop classes (Some c) held.items) h).0)
-      (both_true (all_true (map (stmt_read in_tests) held.items)) true (all_mapped (stmt_read in_tests) held.items ∙ end_reads (Some c) held.items ends) refl)
+      and_from (expr_read in_tests test) _ (bound_reads c test.node (and_parts (is_bound classes c test.node) (ends_loop classes (Some c) held.items) h).0)
+      (and_from (all_true (map (stmt_read in_tests) held.items)) true (all_mapped (stmt_read in_tests) held.items ∙ end_reads (Some c) held.items ends) refl)
   stop_reads c (level.If at test held (Some body)) h = cc
   stop_reads c (level.Emit at slot e) h = cc
   stop_reads c (level.Break at) h = cc
@@ -170,8 +169,8 @@ module _ (classes : List Class) where
       by_counter : (o : Option ℕ) → counter_of classes (out-Stmt s) ≡ o → IsTrue (stops_counter classes o (out-Stmt t)) → IsTrue (body_read in_tests (s ∷ t ∷ []))
       by_counter None e k = cc
       by_counter (Some c) e k =
-          both_true (stmt_read in_tests s) (body_read in_tests (t ∷ [])) (opened s (count_reads (out-Stmt s) c e))
-          (both_true (stmt_read in_tests t) true (opened t (stop_reads c (out-Stmt t) k)) refl)
+          and_from (stmt_read in_tests s) (body_read in_tests (t ∷ [])) (opened s (count_reads (out-Stmt s) c e))
+          (and_from (stmt_read in_tests t) true (opened t (stop_reads c (out-Stmt t) k)) refl)
   count_up_reads (s ∷ t ∷ u ∷ more) h = cc
 
 -- ---- the loop of an `if`

@@ -1,7 +1,7 @@
 -- Where no slot of kind `first` is told, no block emits to one.
 use Rattle.std.proofs.Common.{◌≡◌, ℕ, zero, suc, ◌+◌, Bool, true, false, not, ◌&&◌, ◌||◌, IsTrue, List, [], ◌∷◌, map, slice_get, refl, sym, ap, subst, ◌∙◌, arith, Option, Some, None}
 use Rattle.std.specs.Prelude.{if◌then◌else◌}
-use Rattle.std.proofs.lemmas.Bool.{eq-eqb, or_parts}
+use Rattle.std.proofs.lemmas.Bool.{and_from, eq-eqb, or_parts}
 use Rattle.vert_base.specs.declared.value.Combine.{Combine}
 use Rattle.vert_base.specs.declared.value.Combine.TheVariants.{Min, Max, Sum, First}
 use Rattle.vert_tree.specs.declared.name.What.{What}
@@ -19,7 +19,6 @@ use Rattle.vert_eval.specs.Rounds.{slot_ops}
 use Rattle.order_laws.specs.OrderFree.{is_first as is_first_op, level_no_first, names_first, no_first, program_no_first, stmt_no_first}
 use Rattle.instrument.specs.Loops.{any_true, body_emits, is_slot_at, level_emits, stmt_emits}
 use Rattle.order_free.specs.Emits.{dense_emits, first_slot, is_first, least_first, neighbour_emits, sparse_emits}
-use Rattle.order_free.proofs.Values.{both_true}
 
 module _ (test : ℕ → Bool) where
   here_fails : (op : Combine) (b : Bool) (at : ℕ) (rest : Option ℕ) → (if is_first op && b then Some at else rest) ≡ None → IsTrue (is_first_op (Some op)) → b ≡ false
@@ -63,7 +62,7 @@ module _ (ops : List Combine) where
   all_spare : (ss : List Held) → Spares (λ i. any_true (map (stmt_emits i) (stmts ss))) → IsTrue (all_true (map (stmt_no_first ops) (stmts ss)))
   all_spare [] h = refl
   all_spare (s ∷ ss) h =
-      both_true (stmt_no_first ops s.0) (all_true (map (stmt_no_first ops) (stmts ss)))
+      and_from (stmt_no_first ops s.0) (all_true (map (stmt_no_first ops) (stmts ss)))
       (s.1 (λ i k. (or_parts (stmt_emits i s.0) (any_true (map (stmt_emits i) (stmts ss))) (h i k)).0))
       (all_spare ss (λ i k. (or_parts (stmt_emits i s.0) (any_true (map (stmt_emits i) (stmts ss))) (h i k)).1))
 
@@ -83,9 +82,9 @@ module _ (ops : List Combine) where
   level_spares (level.Assign t op e) h = refl
   level_spares (level.SetActive at e) h = refl
   level_spares (level.If at test held None) h =
-      both_true (all_true (map (stmt_no_first ops) (stmts held.items))) true (all_spare held.items (λ i k. (or_parts (any_true (map (stmt_emits i) (stmts held.items))) false (h i k)).0)) refl
+      and_from (all_true (map (stmt_no_first ops) (stmts held.items))) true (all_spare held.items (λ i k. (or_parts (any_true (map (stmt_emits i) (stmts held.items))) false (h i k)).0)) refl
   level_spares (level.If at test held (Some body)) h =
-      both_true (all_true (map (stmt_no_first ops) (stmts held.items))) (all_true (map (stmt_no_first ops) (stmts body.items)))
+      and_from (all_true (map (stmt_no_first ops) (stmts held.items))) (all_true (map (stmt_no_first ops) (stmts body.items)))
       (all_spare held.items (λ i k. (or_parts (any_true (map (stmt_emits i) (stmts held.items))) (any_true (map (stmt_emits i) (stmts body.items))) (h i k)).0))
       (all_spare body.items (λ i k. (or_parts (any_true (map (stmt_emits i) (stmts held.items))) (any_true (map (stmt_emits i) (stmts body.items))) (h i k)).1))
   level_spares (level.Emit at slot e) h = emit_spares slot.what h
@@ -100,7 +99,7 @@ module _ (ops : List Combine) where
   body_spares : (body : List Stmt) → Spares (λ i. body_emits i body) → IsTrue (no_first ops body)
   body_spares [] h = refl
   body_spares (s ∷ ss) h =
-      both_true (stmt_no_first ops s) (no_first ops ss) (stmt_spares s (λ i k. (or_parts (stmt_emits i s) (body_emits i ss) (h i k)).0))
+      and_from (stmt_no_first ops s) (no_first ops ss) (stmt_spares s (λ i k. (or_parts (stmt_emits i s) (body_emits i ss) (h i k)).0))
       (body_spares ss (λ i k. (or_parts (stmt_emits i s) (body_emits i ss) (h i k)).1))
 
   dense_spares : (o : Option Dense) → Spares (λ i. dense_emits i o) → IsTrue (option_all (λ d. no_first ops d.body.items) o)
@@ -118,5 +117,5 @@ program_spares p h =
     let spares : Spares ops (neighbour_emits p) = λ i k.
     let same : 0 + i ≡ i = omega arith in
     subst (λ n. neighbour_emits p n ≡ false) same (none_told (neighbour_emits p) p.slots.items 0 i h k) in
-    both_true _ _ (dense_spares ops p.dense (λ i k. (or_parts (dense_emits i p.dense) (sparse_emits i p.sparse) (spares i k)).0))
+    and_from _ _ (dense_spares ops p.dense (λ i k. (or_parts (dense_emits i p.dense) (sparse_emits i p.sparse) (spares i k)).0))
     (sparse_spares ops p.sparse (λ i k. (or_parts (dense_emits i p.dense) (sparse_emits i p.sparse) (spares i k)).1))

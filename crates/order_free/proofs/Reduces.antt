@@ -3,7 +3,7 @@ use Rattle.std.proofs.Common.{◌≡◌, ℕ, Bool, true, false, ◌&&◌, IsTru
 use Rattle.std.specs.Prelude.{if◌then◌else◌}
 use Rattle.std.specs.List.{flat_map, list_all}
 use Rattle.std.proofs.lemmas.List.Sorted.{IsPermutation-append_comm, IsPermutation-append_left, IsPermutation-append_right, IsPermutation-refl, IsPermutation-trans}
-use Rattle.std.proofs.lemmas.Bool.{and_parts}
+use Rattle.std.proofs.lemmas.Bool.{and_from, and_parts}
 use Rattle.vert_base.specs.declared.graph.Edge.{Edge}
 use Rattle.vert_base.specs.declared.text.Span.{Span}
 use Rattle.vert_base.specs.Neighbours.{source}
@@ -37,7 +37,7 @@ use Rattle.order_laws.proofs.Loops.{SameButNeighbour-sym, SameButNeighbour-trans
 use Rattle.order_free.proofs.Changes.{Change, Fits, change_fits, changed, changes_beside, changes_hold, changes_permuted, changes_rest, is_still, takes_op, with_append, with_changes}
 use Rattle.order_free.proofs.Fits.{mark_fits, takes}
 use Rattle.order_free.proofs.Statements.{Closed, run_holds}
-use Rattle.order_free.proofs.Values.{all_both, all_left, all_right, both_true, value_relet}
+use Rattle.order_free.proofs.Values.{all_both, all_left, all_right, value_relet}
 
 -- what a run does: changes of locals, and emissions
 pub record Trace : Type 0 where
@@ -105,7 +105,7 @@ module _ (kind : ℕ → Class) where
   name_still : (at : Span) (n : ℕ) (w : What) →
       let name : Ident = record { span = at; name = n; what = w } in
       IsTrue (all_fit (node_marks (nodes.Name name))) → IsTrue (all_still (node_marks (nodes.Name name)))
-  name_still at n (what.Local i) h = both_true (is_still kind i) true (read_still (kind i) (and_parts _ true h).0) refl
+  name_still at n (what.Local i) h = and_from (is_still kind i) true (read_still (kind i) (and_parts _ true h).0) refl
   name_still at n (what.Field i) h = refl
   name_still at n (what.Slot i) h = refl
   name_still at n (what.Send i) h = refl
@@ -170,7 +170,7 @@ module _ (kind : ℕ → Class) where
     reduces_assign at n (what.Local i) op e placed h = record {
       trace = λ a. record { changes = record { place = i; op = op; word = value_of e a } ∷ []; emitted = [] };
       does = λ a. refl;
-      fits = λ a. both_true (takes_op (kind i) op) true (op_taken i op e at n h) refl;
+      fits = λ a. and_from (takes_op (kind i) op) true (op_taken i op e at n h) refl;
       steady = λ a cs fit.
           ap (λ x. let t : Trace = record { changes = record { place = i; op = op; word = x } ∷ []; emitted = [] } in t)
           (value_steady e.node (all_left (mark_fits kind) (expr_marks e) _ h) a cs fit);

@@ -7,6 +7,7 @@ use Rattle.std.proofs.lemmas.List.Sorted.{IsPermutation-append_left}
 use Rattle.vert_base.specs.declared.graph.Edge.{Edge}
 use Rattle.vert_base.specs.declared.value.Combine.{Combine}
 use Rattle.vert_base.specs.declared.value.Combine.TheVariants.{Min, Max, Sum, First}
+use Rattle.vert_base.proofs.Orders.{all_append}
 use Rattle.vert_tree.specs.declared.name.What.{What}
 use Rattle.vert_tree.specs.declared.name.What.TheVariants as what
 use Rattle.vert_tree.specs.declared.statement.Stmt.{Stmt, Stmt-F}
@@ -99,13 +100,9 @@ slot_values-alike at (op ∷ ops) es fs tail h k moved =
     ∙ ap (λ vs. combined op (words_for at (fs ++ tail)) ∷ vs) (slot_values-alike (at + 1) ops es fs tail (combines_later at op ops es h) (combines_later at op ops fs k) moved)
 
 -- ---- what a block emits
-pub all-append : {X : Type 0} (P : X → Type 0) (xs ys : List X) → AllByRecursion P xs → AllByRecursion P ys → AllByRecursion P (xs ++ ys)
-all-append P [] ys h k = k
-all-append P (x ∷ xs) ys h k = (h.0, all-append P xs ys h.1 k)
-
 pub all-flat_map : {X Y : Type 0} (P : Y → Type 0) (f : X → List Y) → ((x : X) → AllByRecursion P (f x)) → (xs : List X) → AllByRecursion P (flat_map f xs)
 all-flat_map P f h [] = tt
-all-flat_map P f h (x ∷ xs) = all-append P (f x) (flat_map f xs) (h x) (all-flat_map P f h xs)
+all-flat_map P f h (x ∷ xs) = all_append P (f x) (flat_map f xs) (h x) (all-flat_map P f h xs)
 
 module _ (ops : List Combine) where
   abbrev Fine : Ran → Type 0
@@ -119,7 +116,7 @@ module _ (ops : List Combine) where
 
   fine_by_flow : (flow : Flow) (r q : Ran) → Fine r → Fine q → Fine (by_flow flow r (after r q))
   fine_by_flow Broke r q h k = h
-  fine_by_flow Going r q h k = all-append (Combines 0 ops) r.emitted q.emitted h k
+  fine_by_flow Going r q h k = all_append (Combines 0 ops) r.emitted q.emitted h k
 
   fine_next : (f g : Act) → Combining f → Combining g → Combining (λ env. followed_by (f env) g)
   fine_next f g p q env = fine_by_flow (f env).flow (f env) (g (f env).env) (p env) (q (f env).env)

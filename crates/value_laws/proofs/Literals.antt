@@ -1,5 +1,5 @@
 -- The literals of statements fit where those of their parts do, and lists of what fits, one element more.
-use Rattle.std.proofs.Common.{◌≡◌, ◌<◌, ◌≤◌, ◌+◌, ℕ, Bool, true, List, map, length, take, get_or, Option, None, Some, refl, sym, ap, subst, ◌∙◌, take-all}
+use Rattle.std.proofs.Common.{◌≡◌, ◌<◌, ◌+◌, ℕ, Bool, true, List, map, length, take, get_or, Option, None, Some, refl, sym, ap, subst, ◌∙◌}
 use Rattle.std.specs.List.{list_all}
 use Rattle.std.specs.Global.{Vec}
 use Rattle.std.proofs.lemmas.Bool.{and_from}
