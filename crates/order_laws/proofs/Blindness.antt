@@ -276,7 +276,7 @@ target_moved (what.Local i) op x a o row t = refl
 target_moved (what.Send i) op x a o row t = refl
 target_moved (what.Total i) op x a o row t = refl
 
-tests_blind : IsBlind SameButNeighbour IsTrue in_tests
+pub tests_blind : IsBlind SameButNeighbour IsTrue in_tests
 tests_blind = record {
   left = λ t u h. (and_parts t u h).0;
   right = λ t u h. (and_parts t u h).1;

@@ -23,9 +23,10 @@ use Rattle.vert_eval.specs.Rounds.{Scene, at_member, dense_at, dense_block, emit
 use Rattle.vert_eval.specs.Runs.{Act, Ran, after, by_flow, followed_by, leaves, run, with_target}
 use Rattle.vert_eval.specs.Values.{builtin, named, other_builtin, other_field, slot_value, value_of}
 use Rattle.vert_eval.specs.Words.{is_set}
-use Rattle.order_laws.proofs.Blindness.{IsBlind, SameLeaves, SameRun, node_same, run_same}
+use Rattle.order_laws.specs.Agreement.{SameButNeighbour}
+use Rattle.order_laws.proofs.Blindness.{IsBlind, SameLeaves, SameRun, node_same, run_blind, run_same, tests_blind}
 use Rattle.value_laws.specs.Blind.{AlikeRuns, SameButKey, SameWeight}
-use Rattle.value_laws.specs.Laws.{DenseAtAnyKey, LetsAtAnyKey, LoopsAtAnyKey, RunsAtAnyKey, SparseAtAnyKey, SparseAtAnyNeighbour, StopsAnywhere, ValuesAtAnyKey}
+use Rattle.value_laws.specs.Laws.{DenseAtAnyKey, LetsAtAnyKey, LoopsAtAnyKey, RunsAtAnyKey, SparseAtAnyKey, SparseAtAnyNeighbour, StopsAnywhere, TailsAtAnyNeighbour, TestsAtAnyNeighbour, ValuesAtAnyKey}
 
 -- ---- the key
 abbrev Any : Bool → Type 0
@@ -87,9 +88,12 @@ leaves_keyed k env = record {
 }
 
 pub value_keyed : ValuesAtAnyKey
-value_keyed e a b h = ap (value_of e) h ∙ node_same Any in_tests (λ t u h. tt) (λ t u h. tt) a (keyed b.key a) (leaves_keyed b.key a) e.node tt
+value_keyed e a b h =
+    ap (value_of e) h ∙ node_same Any in_tests (λ t u h. tt) (λ t u h. tt) a (keyed b.key a)
+    (leaves_keyed b.key a) e.node tt
 
-target_keyed : (w : What) (op : AssignOp) (x : ℤ) (a : Env) (k : ℕ) → SameButKey (with_target w op x a) (with_target w op x (keyed k a))
+target_keyed : (w : What) (op : AssignOp) (x : ℤ) (a : Env) (k : ℕ) →
+    SameButKey (with_target w op x a) (with_target w op x (keyed k a))
 target_keyed what.Unread op x a k = refl
 target_keyed (what.Field i) op x a k = refl
 target_keyed (what.Slot i) op x a k = refl
@@ -102,7 +106,8 @@ key_blind = record {
   left = λ t u h. tt;
   right = λ t u h. tt;
   values = λ e h a b k. value_keyed e a b k;
-  targets = λ w op x a b k. subst (λ c. SameButKey (with_target w op x a) (with_target w op x c)) (sym k) (target_keyed w op x a b.key);
+  targets = λ w op x a b k. subst (λ c. SameButKey (with_target w op x a) (with_target w op x c)) (sym k)
+      (target_keyed w op x a b.key);
   flags = λ x a b k. ap (λ c. let left : Env = record c { next_active = x } in left) k;
 }
 
@@ -110,16 +115,21 @@ alike : (R : Env → Env → Type 0) (x y : Ran) → SameRun R x y → AlikeRuns
 alike R x y p = record { env = p.env; emitted = p.emitted; reads = p.reads; flow = p.flow }
 
 pub run_keyed : RunsAtAnyKey
-run_keyed body a b h = alike SameButKey (run body a) (run body b) (run_same SameButKey Any in_tests key_blind body tt a b h)
+run_keyed body a b h =
+    alike SameButKey (run body a) (run body b) (run_same SameButKey Any in_tests key_blind body tt a b h)
 
 pub lets_keyed : LetsAtAnyKey
 lets_keyed [] a b h = h
 lets_keyed (d ∷ ds) a b h =
-    lets_keyed ds _ _ (subst (λ c. SameButKey (record a { locals = record { items = a.locals.items ++ value_of d.value a ∷ [] } }) (record c { locals = record { items = c.locals.items ++ value_of d.value c ∷ [] } })) (sym h)
-    (ap (λ x. let left : Env = record (keyed b.key a) { locals = record { items = a.locals.items ++ x ∷ [] } } in left) (value_keyed d.value a (keyed b.key a) refl)))
+    lets_keyed ds _ _ (subst
+        (λ c. SameButKey (record a { locals = record { items = a.locals.items ++ value_of d.value a ∷ [] } })
+        (record c { locals = record { items = c.locals.items ++ value_of d.value c ∷ [] } })) (sym h)
+    (ap (λ x. let left : Env = record (keyed b.key a) { locals = record { items = a.locals.items ++ x ∷ [] } } in left)
+        (value_keyed d.value a (keyed b.key a) refl)))
 
 -- runs that are alike, one after another
-alike_after : (R : Env → Env → Type 0) (x y z w : Ran) → AlikeRuns R x y → AlikeRuns R z w → AlikeRuns R (after x z) (after y w)
+alike_after : (R : Env → Env → Type 0) (x y z w : Ran) → AlikeRuns R x y → AlikeRuns R z w →
+    AlikeRuns R (after x z) (after y w)
 alike_after R x y z w p q = record {
   env = q.env;
   emitted = ap (λ es. es ++ w.emitted) p.emitted ∙ ap (λ es. x.emitted ++ es) q.emitted;
@@ -127,11 +137,13 @@ alike_after R x y z w p q = record {
   flow = q.flow;
 }
 
-alike_by_flow : (flow : Flow) (R : Env → Env → Type 0) (x y z w : Ran) → AlikeRuns R x y → AlikeRuns R z w → AlikeRuns R (by_flow flow x (after x z)) (by_flow flow y (after y w))
+alike_by_flow : (flow : Flow) (R : Env → Env → Type 0) (x y z w : Ran) → AlikeRuns R x y → AlikeRuns R z w →
+    AlikeRuns R (by_flow flow x (after x z)) (by_flow flow y (after y w))
 alike_by_flow Broke R x y z w p q = p
 alike_by_flow Going R x y z w p q = alike_after R x y z w p q
 
-alike_followed : (R : Env → Env → Type 0) (x y : Ran) (f : Act) → ((a b : Env) → R a b → AlikeRuns R (f a) (f b)) → AlikeRuns R x y → AlikeRuns R (followed_by x f) (followed_by y f)
+alike_followed : (R : Env → Env → Type 0) (x y : Ran) (f : Act) → ((a b : Env) → R a b → AlikeRuns R (f a) (f b)) →
+    AlikeRuns R x y → AlikeRuns R (followed_by x f) (followed_by y f)
 alike_followed R x y f q p =
     subst (λ flow. AlikeRuns R (followed_by x f) (by_flow flow y (after y (f y.env)))) (sym p.flow)
     (alike_by_flow x.flow R x y (f x.env) (f y.env) p (q x.env y.env p.env))
@@ -142,22 +154,28 @@ loop_keyed s body (e ∷ es) a b h =
     alike_followed SameButKey (member_act s body e a) (member_act s body e b) (loop s body es) (loop_keyed s body es)
     (at_one (run_keyed body (at_member s e a) (at_member s e b) (ap (at_member s e) h)))
   where
-    at_one : AlikeRuns SameButKey (run body (at_member s e a)) (run body (at_member s e b)) → AlikeRuns SameButKey (member_act s body e a) (member_act s body e b)
+    at_one : AlikeRuns SameButKey (run body (at_member s e a)) (run body (at_member s e b)) →
+        AlikeRuns SameButKey (member_act s body e a) (member_act s body e b)
     at_one p = record { env = p.env; emitted = p.emitted; reads = ap (λ us. source e ∷ us) p.reads; flow = p.flow }
 
-block_keyed : (s : Scene) (d : Dense) (members : List Edge) (a b : Env) → SameButKey a b → AlikeRuns SameButKey (dense_block s d members a) (dense_block s d members b)
+block_keyed : (s : Scene) (d : Dense) (members : List Edge) (a b : Env) → SameButKey a b →
+    AlikeRuns SameButKey (dense_block s d members a) (dense_block s d members b)
 block_keyed s d members a b h =
     let x = loop s d.body.items members (with_lets d.lets.items a) in
     let y = loop s d.body.items members (with_lets d.lets.items b) in
-    let looped = loop_keyed s d.body.items members (with_lets d.lets.items a) (with_lets d.lets.items b) (lets_keyed d.lets.items a b h) in
-    alike_after SameButKey x y (run d.tail.items x.env) (run d.tail.items y.env) looped (run_keyed d.tail.items x.env y.env looped.env)
+    let looped = loop_keyed s d.body.items members (with_lets d.lets.items a) (with_lets d.lets.items b)
+        (lets_keyed d.lets.items a b h) in
+    alike_after SameButKey x y (run d.tail.items x.env) (run d.tail.items y.env) looped
+        (run_keyed d.tail.items x.env y.env looped.env)
 
 pub dense_keyed : DenseAtAnyKey
 dense_keyed s d members a b h =
-    subst (λ v. AlikeRuns SameButKey (dense_at s d members a) (if is_set v then dense_block s d members b else leaves b)) (sym (value_keyed d.when_test a b h))
+    subst (λ v. AlikeRuns SameButKey (dense_at s d members a)
+        (if is_set v then dense_block s d members b else leaves b)) (sym (value_keyed d.when_test a b h))
     (by (is_set (value_of d.when_test a)))
   where
-    by : (t : Bool) → AlikeRuns SameButKey (if t then dense_block s d members a else leaves a) (if t then dense_block s d members b else leaves b)
+    by : (t : Bool) → AlikeRuns SameButKey (if t then dense_block s d members a else leaves a)
+        (if t then dense_block s d members b else leaves b)
     by true = block_keyed s d members a b h
     by false = record { env = h; emitted = refl; reads = refl; flow = refl }
 
@@ -169,7 +187,8 @@ received_keyed s ops sparse a b h e =
     ap (λ es. if sender.row.active && is_set (value_of sparse.when_test sender) then es else [])
     (run_keyed sparse.body.items (sent a) (sent b) (ap sent h)).emitted
 
-emitted_keyed : (s : Scene) (ops : List Combine) (sparse : Sparse) (a b : Env) → SameButKey a b → (members : List Edge) →
+emitted_keyed : (s : Scene) (ops : List Combine) (sparse : Sparse) (a b : Env) → SameButKey a b →
+    (members : List Edge) →
     flat_map (emitted_over s ops sparse b) members ≡ flat_map (emitted_over s ops sparse a) members
 emitted_keyed s ops sparse a b h [] = refl
 emitted_keyed s ops sparse a b h (e ∷ es) =
@@ -182,7 +201,8 @@ sparse_keyed s ops sparse members a b h =
 
 -- ---- the stop test at another vertex
 abbrev elsewhere : Env → Env → Env
-elsewhere b a = record a { id = b.id; indeg = b.indeg; outdeg = b.outdeg; draws = b.draws; other = b.other; other_row = b.other_row }
+elsewhere b a = record
+    a { id = b.id; indeg = b.indeg; outdeg = b.outdeg; draws = b.draws; other = b.other; other_row = b.other_row }
 
 words_elsewhere : (b a : Env) (w : Builtin) → IsTrue (word_read in_stop w) → builtin w (elsewhere b a) ≡ builtin w a
 words_elsewhere b a word.Id h = cc
@@ -217,13 +237,15 @@ leaves_elsewhere b a = record {
 pub stop_anywhere : StopsAnywhere
 stop_anywhere e h a b k =
     ap (value_of e) k
-    ∙ node_same IsTrue in_stop (λ t u r. (and_parts t u r).0) (λ t u r. (and_parts t u r).1) a (elsewhere b a) (leaves_elsewhere b a) e.node h
+    ∙ node_same IsTrue in_stop (λ t u r. (and_parts t u r).0) (λ t u r. (and_parts t u r).1) a (elsewhere b a)
+        (leaves_elsewhere b a) e.node h
 
 -- ---- a sparse body at another neighbour with the same weight
 abbrev beside : Neighbour → Row → Env → Env
 beside o row env = record env { other = o; other_row = row }
 
-words_beside : (o : Neighbour) (row : Row) (env : Env) → o.weight ≡ env.other.weight → (w : Builtin) → builtin w (beside o row env) ≡ builtin w env
+words_beside : (o : Neighbour) (row : Row) (env : Env) → o.weight ≡ env.other.weight → (w : Builtin) →
+    builtin w (beside o row env) ≡ builtin w env
 words_beside o row env same word.Id = refl
 words_beside o row env same word.Count = refl
 words_beside o row env same word.Round = refl
@@ -240,7 +262,8 @@ names_beside o row env (what.Local i) = refl
 names_beside o row env (what.Send i) = refl
 names_beside o row env (what.Total i) = refl
 
-leaves_beside : (o : Neighbour) (row : Row) (env : Env) → o.weight ≡ env.other.weight → SameLeaves IsTrue in_sparse env (beside o row env)
+leaves_beside : (o : Neighbour) (row : Row) (env : Env) → o.weight ≡ env.other.weight →
+    SameLeaves IsTrue in_sparse env (beside o row env)
 leaves_beside o row env same = record {
   words = λ w h. words_beside o row env same w;
   names = names_beside o row env;
@@ -253,7 +276,8 @@ leaves_beside o row env same = record {
     false_holds : IsTrue false → ⊥
     false_holds h = cc
 
-target_beside : (w : What) (op : AssignOp) (x : ℤ) (a : Env) (o : Neighbour) (row : Row) → o.weight ≡ a.other.weight → SameWeight (with_target w op x a) (with_target w op x (beside o row a))
+target_beside : (w : What) (op : AssignOp) (x : ℤ) (a : Env) (o : Neighbour) (row : Row) → o.weight ≡ a.other.weight →
+    SameWeight (with_target w op x a) (with_target w op x (beside o row a))
 target_beside what.Unread op x a o row same = record { rest = refl; weight = same }
 target_beside (what.Field i) op x a o row same = record { rest = refl; weight = same }
 target_beside (what.Slot i) op x a o row same = record { rest = refl; weight = same }
@@ -265,10 +289,22 @@ weight_blind : IsBlind SameWeight IsTrue in_sparse
 weight_blind = record {
   left = λ t u h. (and_parts t u h).0;
   right = λ t u h. (and_parts t u h).1;
-  values = λ e h a b k. ap (value_of e) k.rest ∙ node_same IsTrue in_sparse (λ t u r. (and_parts t u r).0) (λ t u r. (and_parts t u r).1) a (beside b.other b.other_row a) (leaves_beside b.other b.other_row a k.weight) e.node h;
-  targets = λ w op x a b k. subst (λ c. SameWeight (with_target w op x a) (with_target w op x c)) (sym k.rest) (target_beside w op x a b.other b.other_row k.weight);
-  flags = λ x a b k. record { rest = ap (λ c. let left : Env = record c { next_active = x } in left) k.rest; weight = k.weight };
+  values = λ e h a b k. ap (value_of e) k.rest
+      ∙ node_same IsTrue in_sparse (λ t u r. (and_parts t u r).0) (λ t u r. (and_parts t u r).1) a
+      (beside b.other b.other_row a) (leaves_beside b.other b.other_row a k.weight) e.node h;
+  targets = λ w op x a b k. subst (λ c. SameWeight (with_target w op x a) (with_target w op x c)) (sym k.rest)
+      (target_beside w op x a b.other b.other_row k.weight);
+  flags = λ x a b k. record { rest = ap
+      (λ c. let left : Env = record c { next_active = x } in left) k.rest; weight = k.weight };
 }
 
 pub sparse_anywhere : SparseAtAnyNeighbour
-sparse_anywhere body h a b k = alike SameWeight (run body a) (run body b) (run_same SameWeight IsTrue in_sparse weight_blind body h a b k)
+sparse_anywhere body h a b k =
+    alike SameWeight (run body a) (run body b) (run_same SameWeight IsTrue in_sparse weight_blind body h a b k)
+
+-- ---- tests and a tail at another neighbour
+pub test_anywhere : TestsAtAnyNeighbour
+test_anywhere e h a b k = tests_blind.values e h a b k
+
+pub tail_anywhere : TailsAtAnyNeighbour
+tail_anywhere body h a b k = alike SameButNeighbour (run body a) (run body b) (run_blind body h a b k)

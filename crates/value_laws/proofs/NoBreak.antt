@@ -60,29 +60,38 @@ level_marks (level.SetActive at e) = []
 level_marks (level.Emit at slot e) = []
 
 rolled_marks : (z : Stmt-F Stmt) → has_break (statement_marks (roll-Stmt z)) ≡ false → has_break (level_marks z) ≡ false
-rolled_marks (level.If at test held None) h = subst (λ l. has_break l ≡ false) (ap statement_marks (rolls-If at test held None) ∙ marks-if at test held) h
-rolled_marks (level.If at test held (Some other)) h = subst (λ l. has_break l ≡ false) (ap statement_marks (rolls-If at test held (Some other)) ∙ marks-if_else at test held other) h
+rolled_marks (level.If at test held None) h =
+    subst (λ l. has_break l ≡ false) (ap statement_marks (rolls-If at test held None) ∙ marks-if at test held) h
+rolled_marks (level.If at test held (Some other)) h =
+    subst (λ l. has_break l ≡ false)
+    (ap statement_marks (rolls-If at test held (Some other)) ∙ marks-if_else at test held other) h
 rolled_marks (level.Break at) h = subst (λ s. has_break (statement_marks s) ≡ false) (rolls-Break at) h
 rolled_marks (level.Assign t op e) h = refl
 rolled_marks (level.SetActive at e) h = refl
 rolled_marks (level.Emit at slot e) h = refl
 
-level_goes : (y : Stmt-F Held) → has_break (level_marks (below y)) ≡ false → Goes (act_step (map-Stmt Stmt Act act_of (below y)))
+level_goes : (y : Stmt-F Held) → has_break (level_marks (below y)) ≡ false →
+    Goes (act_step (map-Stmt Stmt Act act_of (below y)))
 level_goes (level.Assign t op e) h = λ env. refl
 level_goes (level.SetActive at e) h = λ env. refl
 level_goes (level.If at test held None) h =
-    let body = no_break_parts (body_marks (stmts held.items)) [] (no_break_parts (expr_marks test) (body_marks (stmts held.items) ++ []) h).1 in
-    goes_choice (λ env. is_set (value_of test env)) (in_turn (map act_of (stmts held.items))) leaves (all_go held.items body.0) (λ env. refl)
+    let body = no_break_parts (body_marks (stmts held.items)) []
+        (no_break_parts (expr_marks test) (body_marks (stmts held.items) ++ []) h).1 in
+    goes_choice (λ env. is_set (value_of test env)) (in_turn (map act_of (stmts held.items))) leaves
+        (all_go held.items body.0) (λ env. refl)
 level_goes (level.If at test held (Some other)) h =
-    let body = no_break_parts (body_marks (stmts held.items)) (body_marks (stmts other.items)) (no_break_parts (expr_marks test) (body_marks (stmts held.items) ++ body_marks (stmts other.items)) h).1 in
-    goes_choice (λ env. is_set (value_of test env)) (in_turn (map act_of (stmts held.items))) (in_turn (map act_of (stmts other.items))) (all_go held.items body.0) (all_go other.items body.1)
+    let body = no_break_parts (body_marks (stmts held.items)) (body_marks (stmts other.items))
+        (no_break_parts (expr_marks test) (body_marks (stmts held.items) ++ body_marks (stmts other.items)) h).1 in
+    goes_choice (λ env. is_set (value_of test env)) (in_turn (map act_of (stmts held.items)))
+        (in_turn (map act_of (stmts other.items))) (all_go held.items body.0) (all_go other.items body.1)
 level_goes (level.Emit at slot e) h = λ env. refl
 level_goes (level.Break at) h = cc
 
 act_goes : (s : Stmt) → has_break (statement_marks s) ≡ false → Goes (act_of s)
 act_goes = ind-Stmt (λ s. has_break (statement_marks s) ≡ false → Goes (act_of s)) (λ x y is.
     subst (λ z. has_break (statement_marks (roll-Stmt z)) ≡ false → Goes (act_of (roll-Stmt z))) is
-    (subst (λ act. has_break (statement_marks (roll-Stmt (below y))) ≡ false → Goes act) (sym (fold-roll-Stmt Act act_step (below y))) (λ h. level_goes y (rolled_marks (below y) h))))
+    (subst (λ act. has_break (statement_marks (roll-Stmt (below y))) ≡ false → Goes act)
+        (sym (fold-roll-Stmt Act act_step (below y))) (λ h. level_goes y (rolled_marks (below y) h))))
 
 pub run_goes : RunsGoOn
 run_goes [] h env = refl
@@ -92,4 +101,6 @@ run_goes (s ∷ ss) h env =
 
 pub loop_goes : LoopsGoOn
 loop_goes s body h [] env = refl
-loop_goes s body h (e ∷ es) env = goes_next (member_act s body e) (loop s body es) (λ at. run_goes body h (at_member s e at)) (loop_goes s body h es) env
+loop_goes s body h (e ∷ es) env =
+    goes_next (member_act s body e) (loop s body es) (λ at. run_goes body h (at_member s e at))
+    (loop_goes s body h es) env
