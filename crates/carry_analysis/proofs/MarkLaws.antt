@@ -1,5 +1,5 @@
 -- What a walk over a statement and a block has seen, from what it saw of the parts.
-use Rattle.std.proofs.Common.{◌≡◌, ◌<◌, ◌+◌, ℕ, suc, List, [], ◌∷◌, ◌++◌, drop, length, get_or, Option, None, Some, sym, ap, ◌∙◌, add-one, append-nil, drop-cons}
+use Rattle.std.proofs.Common.{◌≡◌, ◌<◌, ◌+◌, ℕ, suc, List, ◌∷◌, ◌++◌, drop, length, get_or, Option, None, Some, sym, ap, ◌∙◌, add-one, append-nil, drop-cons}
 use Rattle.std.specs.Global.{Vec}
 use Rattle.vert_base.specs.declared.text.Span.{Span}
 use Rattle.vert_tree.specs.declared.expression.Expr.{Expr}
@@ -11,7 +11,8 @@ use Rattle.carry_analysis.proofs.SightLaws.{after-append}
 use Rattle.carry_analysis.proofs.StatementMarks.{marks-if, marks-if_else}
 
 pub if_walked :
-    (s : Span) (test : Expr) (held : Vec Stmt) (otherwise : Option (Vec Stmt)) (stmt : Stmt) (body : List Stmt) (o a b : Sight) →
+    (s : Span) (test : Expr) (held : Vec Stmt) (otherwise : Option (Vec Stmt)) (stmt : Stmt) (body : List Stmt)
+    (o a b : Sight) →
     stmt ≡ statements.If s test held otherwise → otherwise ≡ None → body ≡ held.items →
     a ≡ walk_after o (expr_marks test) → b ≡ walk_after a (body_marks body) →
     b ≡ walk_after o (statement_marks stmt)
@@ -26,7 +27,8 @@ if_walked s test held otherwise stmt body o a b is none same first second =
     ∙ ap (λ x. walk_after o (statement_marks x)) (sym is)
 
 pub if_else_walked :
-    (s : Span) (test : Expr) (held : Vec Stmt) (otherwise : Option (Vec Stmt)) (other : Vec Stmt) (stmt : Stmt) (body rest : List Stmt) (o a b e : Sight) →
+    (s : Span) (test : Expr) (held : Vec Stmt) (otherwise : Option (Vec Stmt)) (other : Vec Stmt) (stmt : Stmt)
+    (body rest : List Stmt) (o a b e : Sight) →
     stmt ≡ statements.If s test held otherwise → otherwise ≡ Some other → body ≡ held.items → rest ≡ other.items →
     a ≡ walk_after o (expr_marks test) → b ≡ walk_after a (body_marks body) → e ≡ walk_after b (body_marks rest) →
     e ≡ walk_after o (statement_marks stmt)
@@ -49,7 +51,9 @@ pub block_turn :
     walk_after a (body_marks (drop (i + 1) body)) ≡ walk_after o (body_marks (drop i body))
 block_turn body i x lt is o a first =
     let rest = drop (i + 1) body in
-    let head : drop i body ≡ x ∷ rest = drop-cons body i x lt ∙ ap (λ (y : Stmt). y ∷ drop (suc i) body) (sym is) ∙ ap (λ (n : ℕ). x ∷ drop n body) (sym (add-one i)) in
+    let head : drop i body ≡ x ∷ rest =
+    drop-cons body i x lt ∙ ap (λ (y : Stmt). y ∷ drop (suc i) body) (sym is)
+    ∙ ap (λ (n : ℕ). x ∷ drop n body) (sym (add-one i)) in
     ap (λ y. walk_after y (body_marks rest)) first
     ∙ sym (after-append o (statement_marks x) (body_marks rest))
     ∙ ap (λ l. walk_after o (body_marks l)) (sym head)

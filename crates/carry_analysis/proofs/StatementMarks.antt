@@ -1,5 +1,5 @@
 -- The marks of statements: those of an `if`, and the uses of a let in two parts.
-use Rattle.std.proofs.Common.{◌≡◌, ◌==◌, ℕ, Bool, true, false, List, [], ◌∷◌, ◌++◌, Option, None, Some, refl, ap, ◌∙◌}
+use Rattle.std.proofs.Common.{◌≡◌, ◌==◌, ℕ, Bool, true, false, List, [], ◌∷◌, ◌++◌, None, Some, refl, ap, ◌∙◌}
 use Rattle.std.specs.Prelude.{if◌then◌else◌}
 use Rattle.std.specs.Global.{Vec}
 use Rattle.vert_base.specs.declared.text.Span.{Span}
@@ -22,19 +22,24 @@ marks-if s test held =
     ap (λ l. expr_marks test ++ (l ++ [])) (marks_of_row b.0 b.1 ∙ ap body_marks (items_hidden-the_row-Stmt-0 held))
 
 pub marks-if_else : (s : Span) (test : Expr) (held otherwise : Vec Stmt) →
-    statement_marks (statements.If s test held (Some otherwise)) ≡ expr_marks test ++ (body_marks held.items ++ body_marks otherwise.items)
+    statement_marks (statements.If s test held (Some otherwise)) ≡ expr_marks test ++
+    (body_marks held.items ++ body_marks otherwise.items)
 marks-if_else s test held otherwise =
     let b = held_of (statements.If s test held (Some otherwise)) in
     let o = otherwise_of (statements.If s test held (Some otherwise)) in
-    ap (λ l. expr_marks test ++ (l ++ row_marks o.1)) (marks_of_row b.0 b.1 ∙ ap body_marks (items_hidden-the_row-Stmt-0 held))
-    ∙ ap (λ l. expr_marks test ++ (body_marks held.items ++ l)) (marks_of_row o.0 o.1 ∙ ap body_marks (items_hidden-the_row-Stmt-0 otherwise))
+    ap (λ l. expr_marks test ++ (l ++ row_marks o.1))
+    (marks_of_row b.0 b.1 ∙ ap body_marks (items_hidden-the_row-Stmt-0 held))
+    ∙ ap (λ l. expr_marks test ++ (body_marks held.items ++ l))
+    (marks_of_row o.0 o.1 ∙ ap body_marks (items_hidden-the_row-Stmt-0 otherwise))
 
 -- ---- the uses of a let
-with-append : (t : Bool) (u : Use) (all us vs : List Use) → all ≡ us ++ vs → (if t then u ∷ all else all) ≡ (if t then u ∷ us else us) ++ vs
+with-append : (t : Bool) (u : Use) (all us vs : List Use) → all ≡ us ++ vs →
+    (if t then u ∷ all else all) ≡ (if t then u ∷ us else us) ++ vs
 with-append true u all us vs e = ap (λ l. u ∷ l) e
 with-append false u all us vs e = e
 
 pub uses-append : (i : ℕ) (a b : List Mark) → uses_of i (a ++ b) ≡ uses_of i a ++ uses_of i b
 uses-append i [] b = refl
-uses-append i (Uses j u ∷ a) b = with-append (i == j) u (uses_of i (a ++ b)) (uses_of i a) (uses_of i b) (uses-append i a b)
+uses-append i (Uses j u ∷ a) b =
+    with-append (i == j) u (uses_of i (a ++ b)) (uses_of i a) (uses_of i b) (uses-append i a b)
 uses-append i (Breaks ∷ a) b = uses-append i a b

@@ -104,23 +104,29 @@ GoesOn s d env =
     (whole s d env first).flow ≡ Going →
     SameOutcome
     (whole s d env (first ++ second))
-    (with_segment (loop_split d) (whole s d env first) (segment s d env (Some (given (loop_split d) (whole s d env first).env)) second))
+    (with_segment (loop_split d) (whole s d env first)
+    (segment s d env (Some (given (loop_split d) (whole s d env first).env)) second))
 
 -- where it broke, the whole loop has come to its end
 abbrev pub Ends : Scene → Dense → Env → Type 0
-Ends s d env = (first second : List Edge) → (whole s d env first).flow ≡ Broke → whole s d env (first ++ second) ≡ whole s d env first
+Ends s d env = (first second : List Edge) → (whole s d env first).flow ≡ Broke →
+    whole s d env (first ++ second) ≡ whole s d env first
 
 -- a segment that received nothing begins as one that received the carried lets' own words
 abbrev pub BeginsWithOwn : Dense → Env → Type 0
-BeginsWithOwn d env = begun (loop_split d) d.lets.items None env ≡ begun (loop_split d) d.lets.items (Some (given (loop_split d) (only_lets d.lets.items env))) env
+BeginsWithOwn d env =
+    begun (loop_split d) d.lets.items None env ≡ begun (loop_split d) d.lets.items
+    (Some (given (loop_split d) (only_lets d.lets.items env))) env
 
 -- what a segment gives is what the whole loop gives there
 abbrev pub GivesOn : Dense → Type 0
-GivesOn d = (before part : Ran) → given (loop_split d) (with_segment (loop_split d) before part).env ≡ given (loop_split d) part.env
+GivesOn d = (before part : Ran) →
+    given (loop_split d) (with_segment (loop_split d) before part).env ≡ given (loop_split d) part.env
 
 -- a segment gives as many words as the carry has
 abbrev pub GivesEachWord : Dense → Type 0
-GivesEachWord d = (env : Env) → length env.locals.items ≡ length d.lets.items → length (given (loop_split d) env) ≡ carried_in (loop_split d).classes.locals.items
+GivesEachWord d = (env : Env) → length env.locals.items ≡ length d.lets.items →
+    length (given (loop_split d) env) ≡ carried_in (loop_split d).classes.locals.items
 
 -- a segment leaves the neutral value in each reduced let that it doesn't mark
 abbrev pub LeavesNeutral : Scene → Dense → Env → Type 0
@@ -140,7 +146,8 @@ LetsStay s d env =
 abbrev pub ComesTogether : Scene → Dense → Env → Type 0
 ComesTogether s d env =
     (parts : List (List Edge)) →
-    SameOutcome (whole s d env (flat_map (λ part. part) parts)) (with_segments (loop_split d) (leaves (only_lets d.lets.items env)) (segments s d env None parts))
+    SameOutcome (whole s d env (flat_map (λ part. part) parts))
+    (with_segments (loop_split d) (leaves (only_lets d.lets.items env)) (segments s d env None parts))
 
 -- the dense block of a typed program at a vertex where the lets' own values are words of 64 bits
 pub record IsSplit (p : Program) (d : Dense) (env : Env) : Type 0 where

@@ -14,15 +14,18 @@ abbrev pub Use : Type 0
 Use = Taken is_read
 
 module _ {U : Type 0} (p : U → Bool) where
-  with_left : (t : Bool) (u : U) (us vs : List U) → (IsTrue (list_all p vs) → IsTrue (list_all p us)) → IsTrue (list_all p (if t then u ∷ vs else vs)) → IsTrue (list_all p (if t then u ∷ us else us))
-  with_left true u us vs f h = both (p u) (and_parts (p u) (list_all p vs) h).0 (f (and_parts (p u) (list_all p vs) h).1)
+  with_left : (t : Bool) (u : U) (us vs : List U) → (IsTrue (list_all p vs) → IsTrue (list_all p us)) →
+      IsTrue (list_all p (if t then u ∷ vs else vs)) → IsTrue (list_all p (if t then u ∷ us else us))
+  with_left true u us vs f h =
+      both (p u) (and_parts (p u) (list_all p vs) h).0 (f (and_parts (p u) (list_all p vs) h).1)
     where
       both : (b : Bool) → IsTrue b → IsTrue (list_all p us) → IsTrue (b && list_all p us)
       both true x y = y
       both false x y = x
   with_left false u us vs f h = f h
 
-  pub without : (t : Bool) (u : U) (us : List U) → IsTrue (list_all p (if t then u ∷ us else us)) → IsTrue (list_all p us)
+  pub without : (t : Bool) (u : U) (us : List U) → IsTrue (list_all p (if t then u ∷ us else us)) →
+      IsTrue (list_all p us)
   without true u us h = (and_parts (p u) (list_all p us) h).1
   without false u us h = h
 

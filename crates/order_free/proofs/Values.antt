@@ -22,7 +22,9 @@ use Rattle.vert_eval.specs.Values.{builtin, named, node_value, other_field, slot
 module _ {X : Type 0} (p : X → Bool) where
   pub all_left : (a b : List X) → IsTrue (list_all p (a ++ b)) → IsTrue (list_all p a)
   all_left [] b h = refl
-  all_left (x ∷ a) b h = and_from (p x) (list_all p a) (and_parts (p x) (list_all p (a ++ b)) h).0 (all_left a b (and_parts (p x) (list_all p (a ++ b)) h).1)
+  all_left (x ∷ a) b h =
+      and_from (p x) (list_all p a) (and_parts (p x) (list_all p (a ++ b)) h).0
+      (all_left a b (and_parts (p x) (list_all p (a ++ b)) h).1)
 
   pub all_right : (a b : List X) → IsTrue (list_all p (a ++ b)) → IsTrue (list_all p b)
   all_right [] b h = h
@@ -30,7 +32,9 @@ module _ {X : Type 0} (p : X → Bool) where
 
   pub all_both : (a b : List X) → IsTrue (list_all p a) → IsTrue (list_all p b) → IsTrue (list_all p (a ++ b))
   all_both [] b h k = k
-  all_both (x ∷ a) b h k = and_from (p x) (list_all p (a ++ b)) (and_parts (p x) (list_all p a) h).0 (all_both a b (and_parts (p x) (list_all p a) h).1 k)
+  all_both (x ∷ a) b h k =
+      and_from (p x) (list_all p (a ++ b)) (and_parts (p x) (list_all p a) h).0
+      (all_both a b (and_parts (p x) (list_all p a) h).1 k)
 
 -- ---- an expression that reads some lets alone
 -- the lets that pass the test have these words
@@ -61,7 +65,8 @@ module _ (held : ℕ → Bool) (ls : ArrayVec ℤ) (t : ℕ) (env : Env) (same :
   word_relet word.Active = refl
   word_relet word.Weight = refl
 
-  other_word_relet : (w : Builtin) → node_value (nodes.OtherWord w) (relet ls t env) ≡ node_value (nodes.OtherWord w) env
+  other_word_relet : (w : Builtin) →
+      node_value (nodes.OtherWord w) (relet ls t env) ≡ node_value (nodes.OtherWord w) env
   other_word_relet word.Id = refl
   other_word_relet word.Count = refl
   other_word_relet word.Round = refl

@@ -9,7 +9,7 @@ use Rattle.vert_base.specs.Neighbours.{in_order}
 use Rattle.slot_merge.specs.declared.partial.Partial.{Partial}
 use Rattle.slot_merge.specs.Combine.{Emission, combined, words_for}
 use Rattle.slot_merge.specs.Filled.{AreFilled, BeginsEmpty, Filled, FillsEmissions, FillsMore, HasValue, one_more, under_key, with_more}
-use Rattle.slot_merge.specs.Partials.{above, empty_partial, ordered, with_emissions, with_word, with_words}
+use Rattle.slot_merge.specs.Partials.{above, empty_partial, with_word, with_words}
 use Rattle.slot_merge.proofs.OrderLaws.{ordered-below}
 use Rattle.slot_merge.proofs.PartialLaws.{added_in_any_order}
 use Rattle.slot_merge.proofs.SlotLaws.{spread, spread_is, with_each}
@@ -27,14 +27,16 @@ above-append (w ∷ ws) key word bound low lt =
     let more = above-append ws key word bound rest lt in
     omega arith
 
-both_ways : (b c : Bool) (w : ℤ) (x y z : List ℤ) → x ≡ cond c y z → cond b (w ∷ x) x ≡ cond c (cond b (w ∷ y) y) (cond b (w ∷ z) z)
+both_ways : (b c : Bool) (w : ℤ) (x y z : List ℤ) → x ≡ cond c y z →
+    cond b (w ∷ x) x ≡ cond c (cond b (w ∷ y) y) (cond b (w ∷ z) z)
 both_ways true true w x y z e = ap (λ l. w ∷ l) e
 both_ways true false w x y z e = ap (λ l. w ∷ l) e
 both_ways false true w x y z e = e
 both_ways false false w x y z e = e
 
 pulled : (b : Bool) (w : ℕ × ℤ) (ws : List (ℕ × ℤ)) →
-    map (λ (v : ℕ × ℤ). v.1) (cond b (w ∷ ws) ws) ≡ cond b (w.1 ∷ map (λ (v : ℕ × ℤ). v.1) ws) (map (λ (v : ℕ × ℤ). v.1) ws)
+    map (λ (v : ℕ × ℤ). v.1) (cond b (w ∷ ws) ws) ≡ cond b (w.1 ∷ map (λ (v : ℕ × ℤ). v.1) ws)
+    (map (λ (v : ℕ × ℤ). v.1) ws)
 pulled true w ws = refl
 pulled false w ws = refl
 
@@ -52,7 +54,8 @@ under_key-append k key word [] = under_key-cons k (key, word) []
 under_key-append k key word (w ∷ ws) =
     let us = under_key k ws in
     under_key-cons k w (ws ++ (key, word) ∷ [])
-    ∙ both_ways (w.0 == k) (key == k) w.1 (under_key k (ws ++ (key, word) ∷ [])) (us ++ word ∷ []) us (under_key-append k key word ws)
+    ∙ both_ways (w.0 == k) (key == k) w.1 (under_key k (ws ++ (key, word) ∷ [])) (us ++ word ∷ []) us
+    (under_key-append k key word ws)
     ∙ ap (λ l. cond (key == k) l (cond (w.0 == k) (w.1 ∷ us) us)) (sym (behind (w.0 == k) w.1 word us))
     ∙ sym (ap (λ l. cond (key == k) (l ++ word ∷ []) l) (under_key-cons k w ws))
 
@@ -70,14 +73,16 @@ fills_more op bucket bound key word q lt f = record {
 -- ---- emissions under one key
 filled_same : (op : Combine) (bucket other : ℕ → List ℤ) (bound : ℕ) (q : Partial) →
     ((k : ℕ) → bucket k ≡ other k) → Filled op bucket bound q → Filled op other bound q
-filled_same op bucket other bound q same f = record { words = f.words; is = f.is; each = λ k. f.each k ∙ same k; low = f.low }
+filled_same op bucket other bound q same f =
+    record { words = f.words; is = f.is; each = λ k. f.each k ∙ same k; low = f.low }
 
 more_none : (b : Bool) (xs : List ℤ) → xs ≡ (if b then xs ++ [] else xs)
 more_none true xs = sym (append-nil xs)
 more_none false xs = refl
 
 more_cons : (b : Bool) (word : ℤ) (xs words : List ℤ) →
-    (if b then (if b then xs ++ word ∷ [] else xs) ++ words else (if b then xs ++ word ∷ [] else xs)) ≡ (if b then xs ++ word ∷ words else xs)
+    (if b then (if b then xs ++ word ∷ [] else xs) ++ words else (if b then xs ++ word ∷ [] else xs)) ≡
+    (if b then xs ++ word ∷ words else xs)
 more_cons true word xs words = append_assoc xs (word ∷ []) words
 more_cons false word xs words = refl
 
@@ -87,18 +92,23 @@ fills_each op bucket bound key [] q lt f =
     filled_same op bucket (with_more bucket key []) bound q (λ k. more_none (key == k) (bucket k)) f
 fills_each op bucket bound key (word ∷ words) q lt f =
     let next = with_word key word q in
-    filled_same op (with_more (one_more bucket key word) key words) (with_more bucket key (word ∷ words)) bound (with_each key words next)
+    filled_same op (with_more (one_more bucket key word) key words) (with_more bucket key (word ∷ words)) bound
+    (with_each key words next)
     (λ k. more_cons (key == k) word (bucket k) words)
     (fills_each op (one_more bucket key word) bound key words next lt (fills_more op bucket bound key word q lt f))
 
-fills_spread : (at : ℕ) (ops : List Combine) (buckets : ℕ → ℕ → List ℤ) (bound key : ℕ) (es : List Emission) (qs : List Partial) →
+fills_spread : (at : ℕ) (ops : List Combine) (buckets : ℕ → ℕ → List ℤ) (bound key : ℕ) (es : List Emission)
+    (qs : List Partial) →
     key < bound → AreFilled at ops buckets bound qs →
     AreFilled at ops (λ slot. with_more (buckets slot) key (words_for slot es)) bound (spread key at qs es)
 fills_spread at [] buckets bound key es [] lt f = f
 fills_spread at [] buckets bound key es (q ∷ qs) lt f = absurd f
 fills_spread at (op ∷ ops) buckets bound key es [] lt f = absurd f
-fills_spread at (op ∷ ops) buckets bound key es (q ∷ qs) lt f =
-    (fills_each op (buckets at) bound key (words_for at es) q lt f.0, fills_spread (at + 1) ops buckets bound key es qs lt f.1)
+fills_spread at (op ∷ ops) buckets bound key es (q ∷ qs) lt f = (
+  fills_each op (buckets at) bound key (words_for at es) q lt f.0,
+  fills_spread
+      (at + 1) ops buckets bound key es qs lt f.1,
+)
 
 pub fills_emissions : FillsEmissions
 fills_emissions ops buckets bound key es qs lt f =
@@ -113,14 +123,16 @@ range_from a (suc n) d e =
     let one : suc n + 1 ≡ suc (n + 1) = omega arith in
     rw one (ap (λ l. a ∷ l) (range_from (a + 1) n d next))
 
-range_more : {X : Type 0} (f : ℕ → List X) (n : ℕ) → flat_map f (range_with_len 0 (n + 1)) ≡ flat_map f (range_with_len 0 n) ++ f n
+range_more : {X : Type 0} (f : ℕ → List X) (n : ℕ) →
+    flat_map f (range_with_len 0 (n + 1)) ≡ flat_map f (range_with_len 0 n) ++ f n
 range_more f n =
     ap (flat_map f) (range_from 0 n n (omega arith))
     ∙ flat_map-append f (range_with_len 0 n) (n ∷ [])
     ∙ ap (λ l. flat_map f (range_with_len 0 n) ++ l) (append-nil (f n))
 
 -- the words in the order of keys, bucket by bucket
-by_buckets : (n : ℕ) (ws : List (ℕ × ℤ)) → map (λ w. w.1) (in_order (λ w. w.0) n ws) ≡ flat_map (λ k. under_key k ws) (range_with_len 0 n)
+by_buckets : (n : ℕ) (ws : List (ℕ × ℤ)) →
+    map (λ w. w.1) (in_order (λ w. w.0) n ws) ≡ flat_map (λ k. under_key k ws) (range_with_len 0 n)
 by_buckets zero ws = refl
 by_buckets (suc n) ws =
     map-append (λ (w : ℕ × ℤ). w.1) (in_order (λ w. w.0) n ws) (filter (λ w. w.0 == n) ws)

@@ -46,7 +46,8 @@ FillsMore =
 -- and so do emissions under one key, each to the partial of its slot
 abbrev pub FillsEmissions : Type 0
 FillsEmissions =
-    (ops : List Combine) (buckets : ℕ → ℕ → List ℤ) (bound key : ℕ) (es : List Emission) (qs : List Partial) → key < bound →
+    (ops : List Combine) (buckets : ℕ → ℕ → List ℤ) (bound key : ℕ) (es : List Emission) (qs : List Partial) →
+    key < bound →
     AreFilled 0 ops buckets bound qs →
     AreFilled 0 ops (λ slot. with_more (buckets slot) key (words_for slot es)) bound (with_emissions key qs es)
 

@@ -122,10 +122,10 @@ pub lets_keyed : LetsAtAnyKey
 lets_keyed [] a b h = h
 lets_keyed (d ∷ ds) a b h =
     lets_keyed ds _ _ (subst
-        (λ c. SameButKey (record a { locals = record { items = a.locals.items ++ value_of d.value a ∷ [] } })
-        (record c { locals = record { items = c.locals.items ++ value_of d.value c ∷ [] } })) (sym h)
+    (λ c. SameButKey (record a { locals = record { items = a.locals.items ++ value_of d.value a ∷ [] } })
+    (record c { locals = record { items = c.locals.items ++ value_of d.value c ∷ [] } })) (sym h)
     (ap (λ x. let left : Env = record (keyed b.key a) { locals = record { items = a.locals.items ++ x ∷ [] } } in left)
-        (value_keyed d.value a (keyed b.key a) refl)))
+    (value_keyed d.value a (keyed b.key a) refl)))
 
 -- runs that are alike, one after another
 alike_after : (R : Env → Env → Type 0) (x y z w : Ran) → AlikeRuns R x y → AlikeRuns R z w →
@@ -164,14 +164,14 @@ block_keyed s d members a b h =
     let x = loop s d.body.items members (with_lets d.lets.items a) in
     let y = loop s d.body.items members (with_lets d.lets.items b) in
     let looped = loop_keyed s d.body.items members (with_lets d.lets.items a) (with_lets d.lets.items b)
-        (lets_keyed d.lets.items a b h) in
+    (lets_keyed d.lets.items a b h) in
     alike_after SameButKey x y (run d.tail.items x.env) (run d.tail.items y.env) looped
-        (run_keyed d.tail.items x.env y.env looped.env)
+    (run_keyed d.tail.items x.env y.env looped.env)
 
 pub dense_keyed : DenseAtAnyKey
 dense_keyed s d members a b h =
     subst (λ v. AlikeRuns SameButKey (dense_at s d members a)
-        (if is_set v then dense_block s d members b else leaves b)) (sym (value_keyed d.when_test a b h))
+    (if is_set v then dense_block s d members b else leaves b)) (sym (value_keyed d.when_test a b h))
     (by (is_set (value_of d.when_test a)))
   where
     by : (t : Bool) → AlikeRuns SameButKey (if t then dense_block s d members a else leaves a)
@@ -238,7 +238,7 @@ pub stop_anywhere : StopsAnywhere
 stop_anywhere e h a b k =
     ap (value_of e) k
     ∙ node_same IsTrue in_stop (λ t u r. (and_parts t u r).0) (λ t u r. (and_parts t u r).1) a (elsewhere b a)
-        (leaves_elsewhere b a) e.node h
+    (leaves_elsewhere b a) e.node h
 
 -- ---- a sparse body at another neighbour with the same weight
 abbrev beside : Neighbour → Row → Env → Env
@@ -294,8 +294,11 @@ weight_blind = record {
       (beside b.other b.other_row a) (leaves_beside b.other b.other_row a k.weight) e.node h;
   targets = λ w op x a b k. subst (λ c. SameWeight (with_target w op x a) (with_target w op x c)) (sym k.rest)
       (target_beside w op x a b.other b.other_row k.weight);
-  flags = λ x a b k. record { rest = ap
-      (λ c. let left : Env = record c { next_active = x } in left) k.rest; weight = k.weight };
+  flags = λ x a b k. record {
+    rest = ap
+        (λ c. let left : Env = record c { next_active = x } in left) k.rest;
+    weight = k.weight;
+  };
 }
 
 pub sparse_anywhere : SparseAtAnyNeighbour

@@ -27,7 +27,7 @@ held_fits held h = list_all-map (λ b. b) stmt_fits held.items ∙ h
 pub if_fits : (s : Span) (test : Expr) (held : Vec Stmt) (otherwise : Option (Vec Stmt)) (stmt : Stmt)
     (body : List Stmt) →
     stmt ≡ statements.If s test held otherwise → otherwise ≡ None → body ≡ held.items → expr_fits test ≡ true →
-        body_fits body ≡ true →
+    body_fits body ≡ true →
     stmt_fits stmt ≡ true
 if_fits s test held otherwise stmt body is none same first second =
     ap stmt_fits (is ∙ ap (statements.If s test held) none ∙ sym (rolls-If s test held None))
@@ -43,4 +43,4 @@ if_else_fits s test held otherwise others stmt body rest is some same same_rest 
     ∙ fold-roll-Stmt Bool level_fits (level.If s test held (Some others))
     ∙ and_from (expr_fits test) _ first
     (and_from _ _ (held_fits held (ap body_fits (sym same) ∙ second))
-        (held_fits others (ap body_fits (sym same_rest) ∙ third)))
+    (held_fits others (ap body_fits (sym same_rest) ∙ third)))

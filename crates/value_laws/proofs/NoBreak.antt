@@ -76,14 +76,14 @@ level_goes (level.Assign t op e) h = λ env. refl
 level_goes (level.SetActive at e) h = λ env. refl
 level_goes (level.If at test held None) h =
     let body = no_break_parts (body_marks (stmts held.items)) []
-        (no_break_parts (expr_marks test) (body_marks (stmts held.items) ++ []) h).1 in
+    (no_break_parts (expr_marks test) (body_marks (stmts held.items) ++ []) h).1 in
     goes_choice (λ env. is_set (value_of test env)) (in_turn (map act_of (stmts held.items))) leaves
-        (all_go held.items body.0) (λ env. refl)
+    (all_go held.items body.0) (λ env. refl)
 level_goes (level.If at test held (Some other)) h =
     let body = no_break_parts (body_marks (stmts held.items)) (body_marks (stmts other.items))
-        (no_break_parts (expr_marks test) (body_marks (stmts held.items) ++ body_marks (stmts other.items)) h).1 in
+    (no_break_parts (expr_marks test) (body_marks (stmts held.items) ++ body_marks (stmts other.items)) h).1 in
     goes_choice (λ env. is_set (value_of test env)) (in_turn (map act_of (stmts held.items)))
-        (in_turn (map act_of (stmts other.items))) (all_go held.items body.0) (all_go other.items body.1)
+    (in_turn (map act_of (stmts other.items))) (all_go held.items body.0) (all_go other.items body.1)
 level_goes (level.Emit at slot e) h = λ env. refl
 level_goes (level.Break at) h = cc
 
@@ -91,7 +91,7 @@ act_goes : (s : Stmt) → has_break (statement_marks s) ≡ false → Goes (act_
 act_goes = ind-Stmt (λ s. has_break (statement_marks s) ≡ false → Goes (act_of s)) (λ x y is.
     subst (λ z. has_break (statement_marks (roll-Stmt z)) ≡ false → Goes (act_of (roll-Stmt z))) is
     (subst (λ act. has_break (statement_marks (roll-Stmt (below y))) ≡ false → Goes act)
-        (sym (fold-roll-Stmt Act act_step (below y))) (λ h. level_goes y (rolled_marks (below y) h))))
+    (sym (fold-roll-Stmt Act act_step (below y))) (λ h. level_goes y (rolled_marks (below y) h))))
 
 pub run_goes : RunsGoOn
 run_goes [] h env = refl

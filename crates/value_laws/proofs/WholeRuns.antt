@@ -27,7 +27,7 @@ edges_are n (e ∷ es) small below weights =
     All-cons IsEdge e es
     (record { source = omega (arith, there, small); weight = All-head (λ x. FitsSigned w32 x.weight) e es weights })
     (edges_are n es small (All-tail (λ x. (source x < n) × (target x < n)) e es below)
-        (All-tail (λ x. FitsSigned w32 x.weight) e es weights))
+    (All-tail (λ x. FitsSigned w32 x.weight) e es weights))
 
 pub edges_sized : EdgesAreSized
 edges_sized g small few below weights =
@@ -36,7 +36,7 @@ edges_sized g small few below weights =
 -- ---- one round
 stands : (job : Job) (round : ℕ) (rows : List Row) → IsFitting job.program → IsSized job.graph → round < 2 ^ 32 →
     All (IsRow (kinds_of job.program.fields.items)) rows → length rows ≡ job.graph.vertices →
-        StandsInWords job (standing_after job round rows)
+    StandsInWords job (standing_after job round rows)
 stands job round rows fit size small are count =
     record { rows = are; count = count; totals = totals_words job round rows fit size small are }
 
@@ -54,7 +54,7 @@ goes_on_in_words job round s fit size small h =
     stands job round (rows_after job.program s.ruling scene) fit size small
     (rows_words job.program s.ruling scene fit (scene_words job round s size small h) h.count)
     (length-map (vertices_of job.graph) (row_after job.program s.ruling scene)
-        ∙ length-range_with_len 0 job.graph.vertices)
+    ∙ length-range_with_len 0 job.graph.vertices)
 
 -- ---- all rounds
 by_rounds : (job : Job) (r : Ruling) (ended going : Run) → RunsInWords job ended → RunsInWords job going →
@@ -76,10 +76,10 @@ rounds_in_words (suc more) job round s within fit size h =
     let next = next_standing job round s in
     let left : more ≤ job.program.limit + 1 - (round + 1) = omega (arith, within) in
     let rest = rounds_in_words more job (round + 1) next left fit size
-        (goes_on_in_words job round s fit size small h) in
+    (goes_on_in_words job round s fit size small h) in
     let played = played_at job round s in
     let plays : PlaysInWords job played =
-        record { round = reached; stands = h; scene = scene_words job round s size small h } in
+    record { round = reached; stands = h; scene = scene_words job round s size small h } in
     let run = rounds_from more job (round + 1) next in
     by_rounds job s.ruling (record { rounds = []; last = s }) (then_runs played run) (ended_in_words job s h)
     (record { rounds = All-cons (PlaysInWords job) played run.rounds plays rest.rounds; last = rest.last })

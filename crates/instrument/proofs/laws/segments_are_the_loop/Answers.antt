@@ -15,7 +15,9 @@ pub returns-clause-begins : goal.returns-clause-begins
 returns-clause-begins c = λ d env. begins d env
 
 pub returns-clause-gives : goal.returns-clause-gives
-returns-clause-gives c = λ d before part. carried_same (let_classes 0 d.lets.items (body_marks d.body.items)) before.env.locals.items part.env.locals.items
+returns-clause-gives c =
+    λ d before part. carried_same
+    (let_classes 0 d.lets.items (body_marks d.body.items)) before.env.locals.items part.env.locals.items
 
 pub returns-clause-neutral : goal.returns-clause-neutral
 returns-clause-neutral c = λ d s env. neutrals d env s

@@ -12,7 +12,7 @@ pub stmt_is_fit-returns-in-Some : goal.stmt_is_fit-returns-in-Some
 stmt_is_fit-returns-in-Some t c =
     if_else_fits c.in-If.field-0 c.in-If.test c.in-If.held c.in-If.otherwise c.in-Some.others c.args.stmt.now
     c.deref.result.now c.deref-in-Some.result.now c.in-If.is c.in-Some.is c.deref.ensures.value
-        c.deref-in-Some.ensures.value
+    c.deref-in-Some.ensures.value
     c.expr_is_fit-in-If.ensures c.body_is_fit.ensures c.body_is_fit-in-Some.ensures
 
 pub stmt_is_fit-returns-in_default : goal.stmt_is_fit-returns-in_default

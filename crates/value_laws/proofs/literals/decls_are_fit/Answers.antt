@@ -7,5 +7,5 @@ use Rattle.value_laws.proofs.literals.decls_are_fit.Goals as goal
 pub loop-decl-preserved : goal.loop-decl-preserved
 loop-decl-preserved c =
     one_fits_more (λ (d : Decl). expr_fits d.value) c.args.decls.now c.loop-decl.decl-index c.decl-item.result
-        (omega arith) c.decl-item.is
+    (omega arith) c.decl-item.is
     c.loop-decl.invariant c.expr_is_fit.ensures

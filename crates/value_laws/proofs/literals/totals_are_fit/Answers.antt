@@ -7,5 +7,5 @@ use Rattle.value_laws.proofs.literals.totals_are_fit.Goals as goal
 pub loop-total-preserved : goal.loop-total-preserved
 loop-total-preserved c =
     one_fits_more (λ (t : TotalDecl). expr_fits t.value) c.args.totals.now c.loop-total.total-index c.total-item.result
-        (omega arith)
+    (omega arith)
     c.total-item.is c.loop-total.invariant c.expr_is_fit.ensures
