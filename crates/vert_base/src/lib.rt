@@ -15,10 +15,9 @@ pub use laws::same_letters;
 pub use message::{Event, Message, Name, NameKind};
 pub use name_text::number_in;
 pub use place::Place;
+use std::alloc::{AllocError, AllocFailed};
 pub use text::Span;
 pub use value::{Combine, Mode, Row, Ruling, ValueType};
-
-use std::alloc::{AllocError, AllocFailed};
 
 /// Want of memory: a call could not get the memory that it needs.
 #[derive(Clone, Copy, Debug, PartialEq, Eq)]
