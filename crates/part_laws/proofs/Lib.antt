@@ -10,11 +10,13 @@
 -- and totals by chunks are those over all vertices, and sums by steps are those by machines (Sums). The receiver of a
 -- planned message can take it (Planned).
 --
+-- Chunks: each vertex lies in one chunk, and the chunks are those of the ring.
 -- Lists: tests of lists, filters and orders, for the other files.
 -- Members: an order of a filter is a filter of the order, and an order of two keys keeps what has one of them.
 -- Keys: above the turn a key is u - t, below it n - t + u, so a list by ascending source that turns at t rises by key.
 -- Vertices: the chunk's vertices are those of all that pass `lies_in`; both tests are `list_any` over the same edges.
 -- Sums: the chunks cover the vertices from 0 on; what is summed over joined lists is summed over the lists.
+pub mod Chunks
 pub mod Keys
 pub mod Lists
 pub mod Members

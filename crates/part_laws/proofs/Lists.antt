@@ -12,9 +12,9 @@ use Rattle.part_laws.specs.Vertices.{are_some}
 pub some-filter : {X : Type 0} (test : X → Bool) (xs : List X) → are_some (filter test xs) ≡ list_any test xs
 some-filter test [] = refl
 some-filter test (x ∷ xs) =
-        elim (test x) as
-            (λ b. are_some (cond b (x ∷ filter test xs) (filter test xs)) ≡
-            (b || list_any test xs)) [ true ↦ refl | false ↦ some-filter test xs ]
+    elim (test x) as
+    (λ b. are_some (cond b (x ∷ filter test xs) (filter test xs)) ≡
+    (b || list_any test xs)) [ true ↦ refl | false ↦ some-filter test xs ]
 
 pub any-filter :
     {X : Type 0} (test kept : X → Bool) (xs : List X) →
@@ -22,7 +22,7 @@ pub any-filter :
 any-filter test kept [] = refl
 any-filter test kept (x ∷ xs) =
     elim (kept x) as (λ b. list_any test (cond b (x ∷ filter kept xs) (filter kept xs)) ≡
-        ((b && test x) || list_any (λ x. kept x && test x) xs))
+    ((b && test x) || list_any (λ x. kept x && test x) xs))
     [ true ↦ ap (λ b. test x || b) (any-filter test kept xs) | false ↦ any-filter test kept xs ]
 
 pub any_same : {X : Type 0} (p q : X → Bool) (xs : List X) → ((x : X) → p x ≡ q x) → list_any p xs ≡ list_any q xs
@@ -42,7 +42,7 @@ pub any-flat_map :
     list_any test (flat_map f xs) ≡ list_any (λ x. list_any test (f x)) xs
 any-flat_map test f [] = refl
 any-flat_map test f (x ∷ xs) = list_any-append test (f x) (flat_map f xs)
-        ∙ ap (λ b. list_any test (f x) || b) (any-flat_map test f xs)
+    ∙ ap (λ b. list_any test (f x) || b) (any-flat_map test f xs)
 
 -- where one test passes, another one does
 pub any_more :
@@ -88,7 +88,7 @@ any_kept test v xs passes h =
     ⊎_elim
     (λ (here : (u == v) ≡ true). let at : test u ≡ true = ap test (eqb-true u v here) ∙ passes in rw at refl)
     (λ (other : (u == v) ≡ false). rw other
-        (elim (test u) as (λ b. (b && false) ≡ false) [ true ↦ refl | false ↦ refl ]))
+    (elim (test u) as (λ b. (b && false) ≡ false) [ true ↦ refl | false ↦ refl ]))
     (cases_Bool (u == v)))
     ∙ h)
 
@@ -103,4 +103,4 @@ pub some-in_order :
     {X : Type 0} (key : X → ℕ) (n : ℕ) (xs : List X) → AllByRecursion (λ x. key x < n) xs →
     are_some (in_order key n xs) ≡ are_some xs
 some-in_order key n xs low =
-        some_by_length (in_order key n xs) xs (start_all key n xs (All-from_recursion (λ x. key x < n) xs low))
+    some_by_length (in_order key n xs) xs (start_all key n xs (All-from_recursion (λ x. key x < n) xs low))
