@@ -3,7 +3,7 @@
 -- The claim, for the parts that `part_of` of symple_face makes of a graph and of chunks:
 -- the edges into a vertex that a machine scans are the members of its loop that lie with it, and the edges over which
 -- its owner is pushed to are all that lead to it, each in the order of in(v) (Members: `scan_members`, `push_members`);
--- so the machines of the steps on a chunk read N_t(v) in its order (`scans_in_turn`, by `reads_in_turn` of circulant_plan).
+-- so the machines of the steps on a chunk read N_t(v) in its order (`scans_in_turn`, by circulant_plan's ReadsInTurn).
 -- The lists of vertices between two machines are those of a chunk at which there is something to scan or to push over
 -- (Vertices: `refreshed_law`, `pushed_law`), and a machine knows the degrees of its own vertices and of all that it
 -- works on (`own_law`, `worked_law`). The keys of a sparse round rise along N_t(v) (Keys: `keys_rise`). Sums, counts,

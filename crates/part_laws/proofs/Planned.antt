@@ -36,8 +36,7 @@ whole p x g h =
       to = g.to;
       other = g.other;
       step = eqb-true x.step 0 both.0;
-      half =
-          eqb-true x.half 0 both.1;
+      half = eqb-true x.half 0 both.1;
     }
 
 half : (p sender : ℕ) (x : Name) → Goes p x → is_half p x ≡ true → x.from ≡ sender → IsOfStep p sender x

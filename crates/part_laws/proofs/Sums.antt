@@ -116,7 +116,8 @@ pub lists_by_chunks :
     {X : Type 0} (most : ℕ) (ends : List ℕ) (f : ℕ → X) → AreEnds most ends →
     flat_map (λ m. map f (chunk_vertices ends m)) (range_with_len 0 (length ends)) ≡ each (vertices_of ends) f
 lists_by_chunks most ends f are =
-    sym (map-flat_map f (chunk_vertices ends) (range_with_len 0 (length ends))) ∙ ap (map f) (chunks_cover most ends are)
+    sym (map-flat_map f (chunk_vertices ends) (range_with_len 0 (length ends)))
+    ∙ ap (map f) (chunks_cover most ends are)
 
 pub sums_by_chunks : SumsByChunks
 sums_by_chunks most ends f are =
