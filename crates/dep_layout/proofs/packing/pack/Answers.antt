@@ -2,7 +2,7 @@ use Rattle.std.proofs.Common.{◌<◌, length, arith, sym, ap, ◌∙◌}
 use Rattle.std.proofs.lemmas.List.{get_or-map, length-map}
 use Rattle.dep_layout.specs.States.{state_of, states_of}
 use Rattle.dep_layout.proofs.LoopLaws.{sent_step}
-use Rattle.dep_layout.proofs.packing.spelling.Goals as goal
+use Rattle.dep_layout.proofs.packing.pack.Goals as goal
 
 pub loop-state-preserved : goal.loop-state-preserved
 loop-state-preserved g c =
