@@ -3,9 +3,9 @@ use Rattle.std.proofs.Common.{◌≡◌, ℕ, ◌+◌, ◌<◌, List, [], ◌∷
 use Rattle.std.specs.Result.{IsErr}
 use Rattle.std.proofs.lemmas.Grind.{flat_map-append}
 use Rattle.std.proofs.lemmas.List.{take_more, take-append-drop}
-use Rattle.symple_face.specs.Bytes.{gained}
-use Rattle.symple_face.proofs.BytesLaws.{gained-nothing, gained-gained, part_of_longer, part_after}
-use Rattle.symple_face.specs.declared.sink.SinkFault.{SinkFault}
+use Rattle.outside.specs.Bytes.{gained}
+use Rattle.outside.proofs.BytesLaws.{gained-nothing, gained-gained, part_of_longer, part_after}
+use Rattle.outside.specs.declared.sink.SinkFault.{SinkFault}
 use Rattle.array_text.specs.Writes.{Writes}
 
 -- no text, and no call

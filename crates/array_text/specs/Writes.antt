@@ -1,8 +1,8 @@
 -- What a call that writes a text does to a sink.
 use Rattle.std.specs.Prelude.{◌≡◌, ◌+◌, ◌<◌, ◌≤◌, ℕ, List, length, Option, Result, OnOk, OnErr}
-use Rattle.symple_face.specs.Bytes.{gained, GainedPart}
-use Rattle.symple_face.specs.Causes.{Rose}
-use Rattle.symple_face.specs.declared.sink.SinkFault.{SinkFault}
+use Rattle.outside.specs.Bytes.{gained, GainedPart}
+use Rattle.outside.specs.Causes.{Rose}
+use Rattle.outside.specs.declared.sink.SinkFault.{SinkFault}
 
 pub record Writes {S : Type 0} (held : S → Option (List ℕ)) (faults spare : S → ℕ) (old new : S) (text : List ℕ) (result : Result (Unit {0}) SinkFault) : Type 0 where
   -- on Ok the sink gained the text, and its count stays

@@ -7,15 +7,11 @@ use Rattle.std.proofs.lemmas.List.Elements.{All-take, All-get_or}
 use Rattle.dep_layout.specs.declared.fault.DepFault.TheVariants.{Length, Bits, Padding, NotBool}
 use Rattle.dep_layout.specs.Spelling.{State, mark_of, mark_bytes, sent_bytes, spelled, are_typed, Spells}
 use Rattle.dep_layout.specs.Judgement.{mark_len, pairs_in, is_both, is_set, started, rows_in, refusal_of_parts, refusal_of}
-use Rattle.dep_layout.specs.Reading.{states_in}
+use Rattle.dep_layout.specs.Reading.{read_of, states_in}
 use Rattle.dep_layout.specs.Laws.{AreBytes, AcceptedIsSpelled, SpelledIsAccepted, SpelledOnce, ReadsBack}
 use Rattle.dep_layout.proofs.MarkLaws.{length-pairs, pairs-mark_bytes, mark_bytes-pairs}
 use Rattle.dep_layout.proofs.WordLaws.{AreBelow, drop_below}
 use Rattle.dep_layout.proofs.StateLaws.{pairs_from, bytes-states_in, states_again, length-sent, typed-sent, none_both, states-states_in, length-states_in, marks-states_in}
-
--- the states that a body is read as
-abbrev pub read_of : ℕ → ℕ → List ℕ → List State
-read_of width vertices body = states_in width (take vertices (pairs_in (take (mark_len vertices) body))) (drop (mark_len vertices) body)
 
 -- a test that didn't refuse
 passed : {X : Type 0} (b : Bool) (fault : X) (rest : Option X) → cond b (Some fault) rest ≡ None → (b ≡ false) × (rest ≡ None)
@@ -109,7 +105,8 @@ back_law width bools states each =
       λ others same. once_law width (length states) bools (spelled states) others states same spells,
     )
 
-below_from_All : (bytes : List ℕ) → AreBytes bytes → AreBelow bytes
+-- bytes, place by place
+pub below_from_All : (bytes : List ℕ) → AreBytes bytes → AreBelow bytes
 below_from_All bytes fits i =
     let P : ℕ → Type 0 = λ x. x < 256 in
     elim (cases_lt i (length bytes)) [

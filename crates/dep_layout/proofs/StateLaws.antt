@@ -67,11 +67,11 @@ bytes-states_in width (suc pair ∷ pairs) words room fits =
     ∙ bytes-words_in width words first fits
 
 -- the words of one vertex at the front of bytes, and what is behind them
-row_again : (width : ℕ) (words : List ℤ) (bytes : List ℕ) → length words ≡ width → AllByRecursion (FitsSigned w64) words →
+pub row_again : (width : ℕ) (words : List ℤ) (bytes : List ℕ) → length words ≡ width → AllByRecursion (FitsSigned w64) words →
     words_in width (flat_map word_bytes words ++ bytes) ≡ words
 row_again width words bytes count fits = ap (λ n. words_in n (flat_map word_bytes words ++ bytes)) (sym count) ∙ words_again words bytes fits
 
-row_past : (width : ℕ) (words : List ℤ) (bytes : List ℕ) → length words ≡ width → drop (8 * width) (flat_map word_bytes words ++ bytes) ≡ bytes
+pub row_past : (width : ℕ) (words : List ℤ) (bytes : List ℕ) → length words ≡ width → drop (8 * width) (flat_map word_bytes words ++ bytes) ≡ bytes
 row_past width words bytes count = drop_at (flat_map word_bytes words) bytes (8 * width) (length-words_bytes words ∙ ap (λ n. 8 * n) count)
 
 -- one state more, read from what it sends

@@ -18,7 +18,7 @@ pub drop_below : (n : ℕ) (bytes : List ℕ) → AreBelow bytes → AreBelow (d
 drop_below n bytes fits i = let P : ℕ → Type 0 = λ x. x < 256 in subst P (sym (get_or-drop n bytes i 0)) (fits (n + i))
 
 -- the words of bytes spell these bytes
-eight_bytes : (bytes : List ℕ) → length bytes ≡ 8 → AreBelow bytes → word_bytes (word_of bytes) ≡ bytes
+pub eight_bytes : (bytes : List ℕ) → length bytes ≡ 8 → AreBelow bytes → word_bytes (word_of bytes) ≡ bytes
 unfolding word_bytes word_of
 eight_bytes bytes count fits =
     let below : from_le_bytes w64 bytes < 2 ^ 64 = omega (arith, fits 0, fits 1, fits 2, fits 3, fits 4, fits 5, fits 6, fits 7) in
@@ -29,7 +29,7 @@ unfolding word_bytes
 length-word_bytes word = refl
 
 -- a word is what its bytes spell
-word_again : (word : ℤ) → FitsSigned w64 word → word_of (word_bytes word) ≡ word
+pub word_again : (word : ℤ) → FitsSigned w64 word → word_of (word_bytes word) ≡ word
 unfolding word_bytes word_of
 word_again word fits =
     let below : cast_unsigned w64 word < 2 ^ 64 = omega (arith, ints) in
@@ -39,7 +39,7 @@ pub fits-word_of : (bytes : List ℕ) → FitsSigned w64 (word_of bytes)
 unfolding word_of
 fits-word_of bytes = read_sfits w64 (from_le_bytes w64 bytes)
 
-take_below : (n : ℕ) (bytes : List ℕ) → AreBelow bytes → AreBelow (take n bytes)
+pub take_below : (n : ℕ) (bytes : List ℕ) → AreBelow bytes → AreBelow (take n bytes)
 take_below n bytes fits i =
     let P : ℕ → Type 0 = λ x. x < 256 in
     elim (cases_lt i n) [

@@ -1,9 +1,9 @@
 -- The states that marks and words stand for.
-use Rattle.std.specs.Prelude.{ℕ, zero, suc, ◌*◌, pos, List, [], ◌∷◌, drop, replicate}
+use Rattle.std.specs.Prelude.{ℕ, zero, suc, ◌*◌, pos, List, [], ◌∷◌, take, drop, replicate}
 use Rattle.dep_layout.specs.declared.state.Mark.{Mark}
 use Rattle.dep_layout.specs.declared.state.Mark.TheVariants.{Fresh, Running, Broken}
 use Rattle.dep_layout.specs.Spelling.{State}
-use Rattle.dep_layout.specs.Judgement.{words_in}
+use Rattle.dep_layout.specs.Judgement.{mark_len, pairs_in, words_in}
 
 -- the mark of two bits
 abbrev pub mark_with : ℕ → Mark
@@ -28,3 +28,7 @@ abbrev pub states_in : ℕ → List ℕ → List ℕ → List State
 states_in width [] words = []
 states_in width (pair ∷ pairs) words =
     state_with width (mark_with pair) words ∷ states_in width pairs (words_behind width (mark_with pair) words)
+
+-- the states that a body is read as
+abbrev pub read_of : ℕ → ℕ → List ℕ → List State
+read_of width vertices body = states_in width (take vertices (pairs_in (take (mark_len vertices) body))) (drop (mark_len vertices) body)

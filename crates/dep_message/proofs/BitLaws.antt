@@ -4,7 +4,7 @@ use Rattle.std.proofs.Math.Nat.{div-one, pow-le-pow_right}
 use Rattle.std.proofs.lemmas.Bool.{lt-ltb}
 use Rattle.std.proofs.lemmas.Nat.{and_mask}
 use Rattle.std.proofs.lemmas.List.{length-take-le}
-use Rattle.dep_message.specs.Fit.{bits_in}
+use Rattle.body_shape.specs.Fit.{bits_in}
 
 pub length-bits : (bytes : List ℕ) → length (bits_in bytes) ≡ 8 * length bytes
 unfolding bits_in

@@ -9,8 +9,8 @@ use Rattle.std.proofs.lemmas.List.Sums.{count_by-le-length}
 use Rattle.std.proofs.lemmas.Nat.{mul-le, ones-le}
 use Rattle.dep_layout.specs.Judgement.{is_set, mark_len, pairs_in, refusal_of, started}
 use Rattle.dep_layout.proofs.SpellingLaws.{sound_parts}
-use Rattle.symple_face.specs.declared.body_shape.BodyShape.TheVariants.{Refresh, Dep, Update, Push, Tally, Verdict}
-use Rattle.dep_message.specs.Fit.{are_rows, are_updates, behind_update, bit_len, bits_in, is_mask, is_push, is_ruling, is_tally, is_verdict, words_len}
+use Rattle.body_shape.specs.declared.shape.BodyShape.TheVariants.{Refresh, Dep, Update, Push, Tally, Verdict}
+use Rattle.body_shape.specs.Fit.{are_rows, are_updates, behind_update, bit_len, bits_in, is_mask, is_push, is_ruling, is_tally, is_verdict, words_len}
 use Rattle.dep_message.specs.Laws.{AreBytes, FitIsBounded}
 
 none_from_test : {X : Type 0} (o : Option X) → is_none o ≡ true → o ≡ None

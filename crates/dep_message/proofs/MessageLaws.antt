@@ -8,7 +8,7 @@ use Rattle.std.proofs.lemmas.Nat.{le_bytes_4, from_le_bytes-to_le_bytes_4}
 use Rattle.vert_base.specs.declared.message.Name.{Name}
 use Rattle.vert_base.specs.declared.message.NameKind.{NameKind}
 use Rattle.vert_base.specs.declared.message.NameKind.TheVariants.{Refresh, Dep, Update, Push, Tally, Verdict}
-use Rattle.symple_face.specs.declared.body_shape.BodyShape.{BodyShape}
+use Rattle.body_shape.specs.declared.shape.BodyShape.{BodyShape}
 use Rattle.dep_message.specs.declared.fault.MessageFault.TheVariants.{Short}
 use Rattle.dep_message.specs.declared.header.Header.{Header}
 use Rattle.dep_message.specs.Laws.{AcceptedIsSpelled, AreBytes, HeaderIsRead, SpelledOnce, SpellingIsCounted}

@@ -4,10 +4,10 @@ use Rattle.std.proofs.lemmas.Bool.{and_parts, cond-true}
 use Rattle.vert_base.specs.declared.message.Name.{Name}
 use Rattle.vert_base.specs.declared.message.NameKind.{NameKind}
 use Rattle.vert_base.specs.declared.message.NameKind.TheVariants.{Refresh, Dep, Update, Push, Tally, Verdict}
-use Rattle.symple_face.specs.declared.body_shape.BodyShape.{BodyShape}
+use Rattle.body_shape.specs.declared.shape.BodyShape.{BodyShape}
 use Rattle.symple_face.specs.declared.part.Part.{Part}
 use Rattle.symple_face.specs.Plans.{goes_by_plan, ring_of}
-use Rattle.dep_message.specs.Fit.{is_fit}
+use Rattle.body_shape.specs.Fit.{is_fit}
 use Rattle.dep_message.specs.Laws.{SpelledIsAccepted}
 use Rattle.dep_message.specs.Messages.{forms_of, has_steps, is_proper, refusal_of_body, refusal_of_named}
 use Rattle.dep_message.proofs.MessageLaws.{refusal_of-spelled}

@@ -2,7 +2,7 @@
 use Rattle.std.proofs.Common.{◌≡◌, ℕ, ◌+◌, ◌-◌, ◌<◌, ◌≤◌, Bool, false, eqb, Some, None, List, length, sym, ap, ◌∙◌, arith}
 use Rattle.std.specs.Option.{option_map_or}
 use Rattle.dep_layout.proofs.LoopLaws.{turns_left}
-use Rattle.dep_message.specs.Fit.{are_updates, behind_update}
+use Rattle.body_shape.specs.Fit.{are_updates, behind_update}
 
 -- an update at the front leaves the answer to the bytes behind it
 pub update_step : (slots reduced n i : ℕ) (rest others : List ℕ) (r : Bool) → i < n → behind_update slots reduced rest ≡ Some others →

@@ -2,10 +2,10 @@
 use Rattle.std.specs.Prelude.{◌≡◌, ◌<◌, ◌≤◌, ℕ, ◌++◌, ◌^◌, ◌+◌, true, Option, Some, None, List, length}
 use Rattle.std.specs.List.{All}
 use Rattle.vert_base.specs.declared.message.Name.{Name}
-use Rattle.symple_face.specs.declared.body_shape.BodyShape.{BodyShape}
+use Rattle.body_shape.specs.declared.shape.BodyShape.{BodyShape}
 use Rattle.symple_face.specs.declared.part.Part.{Part}
-use Rattle.symple_face.specs.Shapes.{longest_of}
-use Rattle.dep_message.specs.Fit.{is_fit}
+use Rattle.body_shape.specs.Shapes.{longest_of}
+use Rattle.body_shape.specs.Fit.{is_fit}
 use Rattle.dep_message.specs.Messages.{HasSpelling, forms_of, header_in, refusal_of, refusal_of_named, spelled_header, spelled_message}
 
 abbrev pub AreBytes : List ℕ → Type 0

@@ -5,14 +5,14 @@ use Rattle.std.specs.Option.{option_map}
 use Rattle.vert_base.specs.declared.message.Name.{Name}
 use Rattle.vert_base.specs.declared.message.NameKind.{NameKind}
 use Rattle.vert_base.specs.declared.message.NameKind.TheVariants.{Refresh, Dep, Update, Push, Tally, Verdict}
-use Rattle.symple_face.specs.declared.body_shape.BodyShape.{BodyShape}
+use Rattle.body_shape.specs.declared.shape.BodyShape.{BodyShape}
 use Rattle.symple_face.specs.declared.part.Part.{Part}
 use Rattle.symple_face.specs.PartViews.{plain_of}
 use Rattle.symple_face.specs.Shapes.{shape_of}
 use Rattle.dep_message.specs.declared.fault.MessageFault.{MessageFault}
 use Rattle.dep_message.specs.declared.fault.MessageFault.TheVariants as fault
 use Rattle.dep_message.specs.declared.header.Header.{Header}
-use Rattle.dep_message.specs.Fit.{is_fit}
+use Rattle.body_shape.specs.Fit.{is_fit}
 
 -- four bytes, the low one first, and the number that they spell
 unfoldable pub four_bytes : ℕ → List ℕ

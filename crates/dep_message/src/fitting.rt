@@ -1,5 +1,5 @@
 ghost use Rattle.std.specs.Prelude.{◌≡◌, ◌≤◌, length};
-ghost use Rattle.dep_message.specs.Fit.{is_count, is_fit, is_ruling, is_tally, is_verdict, number_of};
+ghost use Rattle.body_shape.specs.Fit.{is_count, is_fit, is_ruling, is_tally, is_verdict, number_of};
 
 use crate::rows::are_rows;
 use crate::sends::is_push;
@@ -42,7 +42,7 @@ pub fn fits(shape: &BodyShape, body: &[u8]) -> bool
 }
 
 // The number that the first eight bytes spell, the low one first.
-#[tactic(auto, unfolding(crate::specs::Fit::number_of))]
+#[tactic(auto, unfolding(body_shape::specs::Fit::number_of))]
 fn is_count(bytes: &[u8]) -> bool
     requires { 8 ≤ length bytes.now }
     ensures { result ≡ is_count bytes.now }

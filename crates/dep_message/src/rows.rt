@@ -2,7 +2,7 @@ ghost use Rattle.std.specs.Prelude.{◌≡◌, ◌≤◌, ◌<◌, ◌*◌, ◌^
 ghost use Rattle.std.specs.List.{list_all};
 ghost use Rattle.dep_layout.specs.Spelling.{are_typed, suits};
 ghost use Rattle.dep_layout.specs.Judgement.{rows_in, word_of, words_in};
-ghost use Rattle.dep_message.specs.Fit.{are_rows};
+ghost use Rattle.body_shape.specs.Fit.{are_rows};
 
 /// Whether bytes are so many rows of so many words, of which those are Bools that must be.
 pub(crate) fn are_rows(bytes: &[u8], count: usize, words: usize, bools: u32) -> bool

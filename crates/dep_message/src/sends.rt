@@ -1,7 +1,7 @@
 ghost use Rattle.std.specs.Prelude.{◌≡◌, ◌≤◌, ◌<◌, ◌*◌, ◌^◌, count_by, drop, length, slice_index, take};
 ghost use Rattle.std.specs.List.{list_any};
 ghost use Rattle.dep_layout.specs.Judgement.{is_set};
-ghost use Rattle.dep_message.specs.Fit.{are_sends, bit_len, bits_in, is_push};
+ghost use Rattle.body_shape.specs.Fit.{are_sends, bit_len, bits_in, is_push};
 
 use crate::rows::are_rows;
 

@@ -1,5 +1,5 @@
 ghost use Rattle.std.specs.Prelude.{◌≡◌, MatchOption, None, Some};
-ghost use Rattle.dep_message.specs.Fit.{are_updates, behind_update, is_mask};
+ghost use Rattle.body_shape.specs.Fit.{are_updates, behind_update, is_mask};
 
 /// Whether a body is an update for each of so many vertices.
 pub(crate) fn are_updates(body: &[u8], vertices: u32, slots: u8, reduced: u8) -> bool

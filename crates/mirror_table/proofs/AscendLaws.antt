@@ -10,9 +10,9 @@ use Rattle.chunk_split.specs.Chunks.{AreEnds, vertices_of}
 use Rattle.circulant_plan.specs.Ring.{lies_in, start_of}
 use Rattle.symple_face.specs.Parts.{chunk_vertices, degree_in, edges_between, refresh_list}
 use Rattle.mirror_table.specs.Laws.{DegreesAscend}
-use Rattle.mirror_table.specs.PartsOf.{known_of}
-use Rattle.mirror_table.proofs.ChunkLaws.{chunk_rises, lies_high, lies_low}
-use Rattle.mirror_table.proofs.FilterLaws.{all_append, all_filter, all_passes, all_range, all_weaker, map-map, map_itself}
+use Rattle.symple_face.specs.PartsOf.{known_of}
+use Rattle.symple_face.proofs.ChunkLaws.{chunk_rises, lies_high, lies_low}
+use Rattle.graph_table.proofs.FilterLaws.{all_append, all_filter, all_passes, all_range, all_weaker, map-map, map_itself}
 use Rattle.mirror_table.proofs.MovedLaws.{passes_from_any}
 use Rattle.mirror_table.proofs.RangeLaws.{flat_map_more}
 

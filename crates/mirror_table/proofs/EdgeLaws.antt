@@ -11,9 +11,9 @@ use Rattle.vert_base.specs.Neighbours.{AreBelow, source, target}
 use Rattle.chunk_split.specs.Chunks.{AreEnds, vertices_of}
 use Rattle.circulant_plan.specs.Ring.{lies_in, start_of}
 use Rattle.mirror_table.specs.Laws.{PushesHoldEach, ScansHoldEach}
-use Rattle.mirror_table.specs.PartsOf.{push_of, scan_of}
-use Rattle.mirror_table.proofs.ChunkLaws.{chunk_rises}
-use Rattle.mirror_table.proofs.FilterLaws.{all_filter, all_true, all_weaker, filter_all, filter_filter, filter_none}
+use Rattle.symple_face.specs.PartsOf.{push_of, scan_of}
+use Rattle.symple_face.proofs.ChunkLaws.{chunk_rises}
+use Rattle.graph_table.proofs.FilterLaws.{all_filter, all_true, all_weaker, filter_all, filter_filter, filter_none}
 use Rattle.mirror_table.proofs.MovedLaws.{two_moves}
 use Rattle.mirror_table.proofs.RangeLaws.{flat_map_more}
 

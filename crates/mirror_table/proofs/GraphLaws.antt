@@ -12,8 +12,8 @@ use Rattle.graph_table.proofs.TableLaws.{by_target_length}
 use Rattle.chunk_split.specs.Chunks.{vertices_of}
 use Rattle.circulant_plan.specs.Ring.{lies_in}
 use Rattle.symple_face.specs.Parts.{chunk_vertices, degree_in, push_list, refresh_list}
-use Rattle.mirror_table.specs.PartsOf.{known_of, part_of, parts_of, push_of, scan_of}
-use Rattle.mirror_table.proofs.FilterLaws.{all_true, filter_all, flat_map_same, map_same}
+use Rattle.symple_face.specs.PartsOf.{known_of, part_of, parts_of, push_of, scan_of}
+use Rattle.graph_table.proofs.FilterLaws.{all_true, filter_all, flat_map_same, map_same}
 use Rattle.mirror_table.proofs.MovedLaws.{two_count, two_filter, two_keys}
 use Rattle.mirror_table.proofs.PartLaws.{orders_twice, others_same}
 use Rattle.mirror_table.proofs.PartsMade.{part_made}

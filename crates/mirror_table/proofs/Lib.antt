@@ -1,7 +1,5 @@
-pub mod FilterLaws
 pub mod ChunkOrder
 pub mod MetLaws
-pub mod ChunkLaws
 pub mod OrderPermutations
 pub mod MovedLaws
 pub mod PartLaws
@@ -9,7 +7,6 @@ pub mod RangeLaws
 pub mod SplitLaws
 pub mod PartsMade
 pub mod DegreeLaws
-pub mod ShapeLaws
 pub mod EdgeLaws
 pub mod GraphLaws
 pub mod AscendLaws

@@ -8,7 +8,7 @@ use Rattle.std.proofs.lemmas.List.Elements.{All-from_recursion, filter_agree, re
 use Rattle.std.proofs.lemmas.List.Sorted.{All-permutation, IsPermutation-trans, length_permutation, list_any-IsPermutation}
 use Rattle.vert_base.specs.Neighbours.{in_order}
 use Rattle.graph_table.proofs.OrderLaws.{filter-in_order}
-use Rattle.mirror_table.proofs.FilterLaws.{all_filter, filter_filter}
+use Rattle.graph_table.proofs.FilterLaws.{all_filter, filter_filter}
 use Rattle.mirror_table.proofs.OrderPermutations.{in_order_moves}
 
 -- the numbers below n that are the key of an element

@@ -15,10 +15,10 @@ use Rattle.circulant_plan.specs.Ring.{lies_in, start_of}
 use Rattle.circulant_plan.proofs.SpanLaws.{range_split}
 use Rattle.symple_face.specs.Parts.{IsPart, chunk_vertices, degree_in, edges_between, for_others, push_list, refresh_list}
 use Rattle.symple_face.proofs.ListLaws.{filter_few}
-use Rattle.mirror_table.specs.PartsOf.{known_of, part_of, push_of, scan_of}
-use Rattle.mirror_table.proofs.FilterLaws.{all_filter, all_passes, all_range, all_true, all_weaker, filter_all, filter-flat_map, filter-map, filter_none, flat_map_none, flat_map_same, map-map, map_itself, map_same}
-use Rattle.mirror_table.proofs.ChunkOrder.{bucket_kept}
-use Rattle.mirror_table.proofs.ChunkLaws.{chunk_rises, lies_is, one_chunk}
+use Rattle.symple_face.specs.PartsOf.{known_of, part_of, push_of, scan_of}
+use Rattle.graph_table.proofs.FilterLaws.{all_filter, all_passes, all_range, all_true, all_weaker, filter_all, filter-flat_map, filter-map, filter_none, flat_map_none, flat_map_same, map-map, map_itself, map_same}
+use Rattle.graph_table.proofs.BucketLaws.{bucket_kept}
+use Rattle.symple_face.proofs.ChunkLaws.{chunk_rises, lies_is, one_chunk}
 use Rattle.mirror_table.proofs.MovedLaws.{passes_from_any, two_count, two_keys, two_length}
 
 -- two orders that are made once more

@@ -17,10 +17,11 @@ use Rattle.circulant_plan.specs.Ring.{lies_in, start_of}
 use Rattle.circulant_plan.proofs.SpanLaws.{in_order_rises}
 use Rattle.symple_face.specs.declared.degree.Degree.{Degree}
 use Rattle.symple_face.specs.Parts.{PlainPart, chunk_vertices, degree_in, ends_met, for_others, lists_of, push_list, refresh_list}
-use Rattle.mirror_table.specs.PartsOf.{known_of, part_of, push_of, scan_of}
-use Rattle.mirror_table.proofs.FilterLaws.{all_filter, all_flat_map, all_passes, all_range, all_true, all_weaker, filter_same, flat_map_same}
-use Rattle.mirror_table.proofs.ChunkLaws.{chunk_rises, chunk_test, chunk_within}
-use Rattle.mirror_table.proofs.ChunkOrder.{chunk_orders}
+use Rattle.symple_face.specs.PartsOf.{known_of, part_of, push_of, scan_of}
+use Rattle.graph_table.proofs.FilterLaws.{all_filter, all_flat_map, all_passes, all_range, all_true, all_weaker, filter_same, flat_map_same}
+use Rattle.symple_face.proofs.ChunkLaws.{chunk_rises, chunk_within}
+use Rattle.mirror_table.proofs.ChunkOrder.{chunk_orders, chunk_test}
+use Rattle.symple_face.proofs.ListLaws.{other_list}
 use Rattle.mirror_table.proofs.PartLaws.{all_in_order, others_same, push_of_push, push_to_scan, refresh_of_scan, refresh_to_push, sources_below, targets_below}
 use Rattle.mirror_table.proofs.SplitLaws.{by_index}
 
@@ -29,12 +30,6 @@ pub gathered_all : (P : Edge → Type 0) (major minor : Edge → ℕ) (n : ℕ) 
 gathered_all P major minor n edges vs all =
     all_flat_map P (λ v. in_order major n (filter (λ e. minor e == v) edges)) vs
     (all_true (λ v. AllByRecursion P (in_order major n (filter (λ e. minor e == v) edges))) (λ v. all_in_order P major n (filter (λ e. minor e == v) edges) (all_filter P (λ e. minor e == v) edges all)) vs)
-
--- the lists of other machines have what was put there
-pub other_list : (p m k : ℕ) (f : ℕ → List ℕ) → k < p → (k == m) ≡ false → slice_index_or (for_others p m f) k [] ≡ f k
-other_list p m k f lt other =
-    get_or-map-range_with_len (λ k. if k == m then [] else f k) 0 p k k [] lt (omega arith)
-    ∙ ap (λ b. if b then [] else f k) other
 
 module _ (most : ℕ) (ends : List ℕ) (edges : List Edge) (are : AreEnds most ends) (below : AreBelow (vertices_of ends) edges) (m : ℕ) (here : m < length ends) where
   -- the edges of a chunk, put in order, are those of the definition

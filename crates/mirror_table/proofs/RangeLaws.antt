@@ -9,7 +9,7 @@ use Rattle.std.specs.declared.vec.Vec.{Vec}
 use Rattle.std.proofs.lemmas.List.{get_or-map}
 use Rattle.vert_base.specs.declared.graph.VertexId.{VertexId}
 use Rattle.symple_face.specs.Parts.{lists_of}
-use Rattle.mirror_table.proofs.FilterLaws.{map-append}
+use Rattle.graph_table.proofs.FilterLaws.{map-append}
 
 pub range_first : (v end : ℕ) → v < end → range_with_len v (end - v) ≡ v ∷ range_with_len (v + 1) (end - (v + 1))
 range_first v end lt = let e : end - v ≡ suc (end - (v + 1)) = omega arith in ap (range_with_len v) e

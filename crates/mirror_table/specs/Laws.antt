@@ -1,14 +1,11 @@
 -- What holds of the parts of a graph together.
-use Rattle.std.specs.Prelude.{◌≡◌, ◌<◌, ℕ, List, length, map}
+use Rattle.std.specs.Prelude.{◌≡◌, ℕ, List, length, map}
 use Rattle.std.specs.List.{flat_map, range_with_len}
 use Rattle.std.specs.List.Sorted.{IsPermutation, IsStrictlyIncreasing}
 use Rattle.vert_base.specs.declared.graph.Edge.{Edge}
-use Rattle.vert_base.specs.declared.message.Name.{Name}
 use Rattle.vert_base.specs.Neighbours.{AreBelow}
 use Rattle.chunk_split.specs.Chunks.{AreEnds, vertices_of}
-use Rattle.instrument.specs.declared.split.Split.{Split}
-use Rattle.symple_face.specs.Shapes.{shape_of}
-use Rattle.mirror_table.specs.PartsOf.{part_of, push_of, scan_of}
+use Rattle.symple_face.specs.PartsOf.{part_of, push_of, scan_of}
 
 -- each edge stands once in one `scan`, as often as it stands in the graph
 abbrev pub ScansHoldEach : Type 0
@@ -21,12 +18,6 @@ abbrev pub PushesHoldEach : Type 0
 PushesHoldEach =
     (most : ℕ) (ends : List ℕ) (edges : List Edge) → AreEnds most ends → AreBelow (vertices_of ends) edges →
     IsPermutation edges (flat_map (push_of ends edges) (range_with_len 0 (length ends)))
-
--- the sender and the receiver of a message see one form of its body
-abbrev pub ShapesAgree : Type 0
-ShapesAgree =
-    (split : Split) (ends : List ℕ) (draws : ℕ) (edges : List Edge) (x : Name) → x.from < length ends → x.to < length ends →
-    shape_of split (part_of ends draws edges x.from) x ≡ shape_of split (part_of ends draws edges x.to) x
 
 -- the degrees of a part stand by ascending vertex
 abbrev pub DegreesAscend : Type 0

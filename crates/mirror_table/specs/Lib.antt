@@ -1,2 +1,1 @@
-pub mod PartsOf
 pub mod Laws

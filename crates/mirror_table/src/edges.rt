@@ -4,7 +4,7 @@ ghost use Rattle.std.specs.List.{flat_map, range_with_len};
 ghost use Rattle.std.specs.List.Sorted.{IsNonDecreasingBy};
 ghost use Rattle.vert_base.specs.Neighbours.{AreBelow, ins_of, outs_of, source, target};
 ghost use Rattle.chunk_split.specs.Chunks.{vertices_of};
-ghost use Rattle.mirror_table.specs.PartsOf.{push_of, scan_of};
+ghost use Rattle.symple_face.specs.PartsOf.{push_of, scan_of};
 
 use chunk_split::Cuts;
 use graph_table::{Side, Table, put_in_order};

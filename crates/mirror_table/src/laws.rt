@@ -1,4 +1,5 @@
-ghost use Rattle.mirror_table.specs.Laws.{DegreesAscend, PushesHoldEach, ScansHoldEach, ShapesAgree};
+ghost use Rattle.symple_face.specs.PartsOf.{ShapesAgree};
+ghost use Rattle.mirror_table.specs.Laws.{DegreesAscend, PushesHoldEach, ScansHoldEach};
 
 /// The law of the edges of all parts, which its clauses say. It does nothing.
 pub fn edges_once()

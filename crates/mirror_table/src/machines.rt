@@ -5,7 +5,7 @@ ghost use Rattle.vert_base.specs.Neighbours.{AreBelow};
 ghost use Rattle.graph_table.specs.Tables.{IsTableOf};
 ghost use Rattle.chunk_split.specs.Chunks.{vertices_of};
 ghost use Rattle.symple_face.specs.PartViews.{plain_of};
-ghost use Rattle.mirror_table.specs.PartsOf.{part_of, parts_of};
+ghost use Rattle.symple_face.specs.PartsOf.{part_of, parts_of};
 
 use crate::degrees::{degrees, known};
 use crate::edges::{push, scan};

@@ -11,11 +11,7 @@ mod engine;
 #[cfg(test)]
 mod freedom;
 #[cfg(test)]
-mod parsing;
-#[cfg(test)]
 mod parts;
-#[cfg(test)]
-mod printing;
 #[cfg(test)]
 mod programs;
 #[cfg(test)]
@@ -24,5 +20,3 @@ mod runs;
 mod steps;
 #[cfg(test)]
 mod views;
-#[cfg(test)]
-mod words;

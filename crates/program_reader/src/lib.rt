@@ -9,5 +9,3 @@ pub use laws::accepted_once;
 pub use reader::read_program;
 pub use refusal::{ProgramFault, Refusal, Stage};
 
-#[cfg(test)]
-mod tests;

@@ -1,9 +1,9 @@
 -- How long the lists of vertices of a part are, and how filters meet maps.
-use Rattle.std.proofs.Common.{◌≡◌, ◌≤◌, ℕ, zero, suc, Bool, true, false, cond, List, [], ◌∷◌, length, map, refl, sym, ap, subst, arith, get_or}
-use Rattle.std.specs.Prelude.{◌==◌, if◌then◌else◌}
+use Rattle.std.proofs.Common.{◌≡◌, ◌≤◌, ◌<◌, ◌∙◌, ℕ, zero, suc, Bool, true, false, cond, List, [], ◌∷◌, length, map, refl, sym, ap, subst, arith, get_or}
+use Rattle.std.specs.Prelude.{◌==◌, if◌then◌else◌, slice_index_or}
 use Rattle.std.specs.List.{filter, list_any, range_with_len}
 use Rattle.std.proofs.lemmas.List.{length-map}
-use Rattle.std.proofs.lemmas.List.FromFn.{length-range_with_len}
+use Rattle.std.proofs.lemmas.List.FromFn.{get_or-map-range_with_len, length-range_with_len}
 use Rattle.vert_base.specs.declared.graph.Edge.{Edge}
 use Rattle.symple_face.specs.Parts.{ends_met, for_others}
 
@@ -44,3 +44,9 @@ short_lists number most p m i f lists list same here few =
     let P : List (List ℕ) → Type 0 = λ ls. length (get_or ls i []) ≤ most in
     let h : length (get_or lists i []) ≤ most = subst P (sym same) (others_few most p m i f few) in
     omega (arith, ap length here, length-map list number)
+
+-- the lists of other machines have what was put there
+pub other_list : (p m k : ℕ) (f : ℕ → List ℕ) → k < p → (k == m) ≡ false → slice_index_or (for_others p m f) k [] ≡ f k
+other_list p m k f lt other =
+    get_or-map-range_with_len (λ k. if k == m then [] else f k) 0 p k k [] lt (omega arith)
+    ∙ ap (λ b. if b then [] else f k) other

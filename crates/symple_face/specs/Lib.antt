@@ -1,12 +1,6 @@
-pub mod Bytes
-pub mod Calls
-pub mod Causes
-pub mod Files
-pub mod Room
-pub mod Pieces
-pub mod Shelves
 pub mod Given
 pub mod Parts
+pub mod PartsOf
 pub mod Plans
 pub mod Shapes
 pub mod PartViews

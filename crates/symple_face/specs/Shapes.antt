@@ -1,6 +1,5 @@
 -- The forms of the bodies of messages.
 use Rattle.std.specs.Prelude.{ℕ, ◌+◌, ◌-◌, ◌*◌, ◌==◌, ◌&&◌, min, nat_le, nat_lt, List, [], ◌∷◌, ◌++◌, Option, None, Some, if◌then◌else◌, length, map, filter, slice_index, slice_index_or}
-use Rattle.std.specs.Int.{div_ceil}
 use Rattle.vert_base.specs.declared.message.Name.{Name}
 use Rattle.vert_base.specs.declared.message.NameKind.{NameKind}
 use Rattle.vert_base.specs.declared.message.NameKind.TheVariants as kind
@@ -15,26 +14,11 @@ use Rattle.circulant_plan.specs.Ring.{chunk_of, half_of, start_of}
 use Rattle.circulant_plan.specs.Skeleton.{may_rule}
 use Rattle.instrument.specs.declared.split.Split.{Split}
 use Rattle.instrument.specs.declared.split.SplitLoop.{SplitLoop}
-use Rattle.symple_face.specs.declared.body_shape.BodyShape.{BodyShape}
-use Rattle.symple_face.specs.declared.body_shape.BodyShape.TheVariants.{Refresh, Dep, Update, Push, Tally, Verdict}
+use Rattle.body_shape.specs.Shapes.{bool_bits}
+use Rattle.body_shape.specs.declared.shape.BodyShape.{BodyShape}
+use Rattle.body_shape.specs.declared.shape.BodyShape.TheVariants.{Refresh, Dep, Update, Push, Tally, Verdict}
 use Rattle.symple_face.specs.Parts.{PlainPart}
 use Rattle.symple_face.specs.Plans.{blocks_of, is_planned, loop_carry}
-
--- the greatest length of a body of this form, in bytes: a word has 8, a mark 2 bits, a bit 1, a mask of at most
--- 8 slots and 8 lets 2 bytes
-abbrev pub longest_of : BodyShape → ℕ
-longest_of (Refresh vertices words bools) = 8 * words * vertices
-longest_of (Dep vertices words bools) = div_ceil vertices 4 + 8 * words * vertices
-longest_of (Update vertices slots reduced) = (2 + 8 * min slots 8 + 8 * min reduced 8) * vertices
-longest_of (Push vertices words bools) = div_ceil vertices 8 + 8 * words * vertices
-longest_of (Tally totals) = 24 + 8 * totals
-longest_of (Verdict dense sparse totals) = 1 + 8 * totals
-
--- bit i is set where type i is a Bool
-abbrev pub bool_bits : List ValueType → ℕ
-bool_bits [] = 0
-bool_bits (Int ∷ types) = 2 * bool_bits types
-bool_bits (Bool ∷ types) = 1 + 2 * bool_bits types
 
 abbrev pub types_of : List Decl → List ValueType
 types_of decls = map (λ d. d.kind) decls

@@ -6,13 +6,13 @@ ghost use Rattle.symple_face.specs.PartViews.{plain_of};
 ghost use Rattle.symple_face.specs.Plans.{is_planned};
 ghost use Rattle.symple_face.specs.Shapes.{form_of, half_in, pushed, refreshed, shape_of, updated};
 
-use crate::body_shape::BodyShape;
 use crate::part::Part;
 use crate::plans::{chunk, is_planned};
 use crate::words::{
     bits_before, carried_bits, carry_words, fields, reduced_count, sends, slot_count, total_count,
     verdict_form,
 };
+use body_shape::BodyShape;
 use circulant_plan::half;
 use instrument::Split;
 use vert_base::{Name, NameKind, VertexId};

@@ -1,13 +1,14 @@
 // How many words the bodies of a program's messages have, and which of them are `Bool`s.
 ghost use Rattle.std.specs.Prelude.{◌≡◌, ◌<◌, ◌≤◌, ◌+◌, ◌*◌, ◌^◌, ◌∷◌, ◌++◌, if◌then◌else◌, List, length, slice_index_or};
 ghost use Rattle.vert_base.specs.declared.value.ValueType.{ValueType};
-ghost use Rattle.symple_face.specs.Shapes.{bool_bits, carried_in, lets_in, reduced_in, sends_in, types_at, types_of, words_in};
+ghost use Rattle.body_shape.specs.Shapes.{bool_bits};
+ghost use Rattle.symple_face.specs.Shapes.{carried_in, lets_in, reduced_in, sends_in, types_at, types_of, words_in};
 ghost use Rattle.symple_face.specs.Plans.{blocks_of, loop_carry};
 ghost use Rattle.vert_base.specs.declared.value.Ruling.TheVariants as ruling;
 ghost use Rattle.circulant_plan.specs.Skeleton.{may_rule};
 
-use crate::body_shape::BodyShape;
 use crate::plans::carry;
+use body_shape::BodyShape;
 use instrument::Split;
 use vert_base::ValueType;
 use vert_tree::Decl;

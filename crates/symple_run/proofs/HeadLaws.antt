@@ -10,10 +10,10 @@ use Rattle.order_laws.specs.OrderFree.{RunsAlike}
 use Rattle.program_reader.specs.declared.refusal.Refusal.{Refusal}
 use Rattle.program_reader.specs.Accepted.{Refuses as RefusesText, Says}
 use Rattle.program_reader.proofs.AcceptLaws.{has_one_refusal, says_none_refused}
-use Rattle.symple_face.specs.declared.sink.SinkFault.{SinkFault}
-use Rattle.symple_face.specs.Bytes.{gained}
-use Rattle.symple_face.specs.Causes.{Rose}
-use Rattle.symple_face.specs.Files.{File, file_named}
+use Rattle.outside.specs.declared.sink.SinkFault.{SinkFault}
+use Rattle.outside.specs.Bytes.{gained}
+use Rattle.outside.specs.Causes.{Rose}
+use Rattle.outside.specs.Files.{File, file_named}
 use Rattle.symple_run.specs.declared.status.Status.{Status}
 use Rattle.symple_run.specs.declared.status.Status.TheVariants as status
 use Rattle.symple_run.specs.Commands.{asked, asked_by, free_order, graph_of, of_graph, order_of, play_of, run_order, with_graph, with_program}
@@ -23,7 +23,7 @@ use Rattle.symple_run.specs.Leaves.{AfterJudging, AfterLoad, AfterPut, Gained, I
 use Rattle.symple_run.specs.Notes as note
 use Rattle.symple_run.specs.Orders.{Course, Ends, IsOver, Order, Play, Prints, Puts, Refuses, Runs, follows}
 use Rattle.symple_run.specs.Outputs.{free_text, job_of, play_text}
-use Rattle.symple_run.specs.Outside.{Held, Outside, sink_state}
+use Rattle.symple_run.specs.States.{Held, Outside, sink_state}
 use Rattle.symple_run.specs.Quiet.{IsQuiet}
 use Rattle.symple_run.specs.SourceRuns.{IsSourceRun}
 use Rattle.symple_run.proofs.ComesLaws.{IsCalm, IsOrWants, IsSafe, Must, must_come}

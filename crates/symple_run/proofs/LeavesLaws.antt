@@ -1,10 +1,10 @@
 -- What every order leaves: of files, of the input, and of the texts of a run.
 use Rattle.std.proofs.Common.{◌≡◌, ◌≢◌, ◌⊎◌, inl, inr, ℕ, List, Option, Some, None, refl, sym, ap, ◌∙◌, subst, arith}
-use Rattle.symple_face.specs.Files.{File, file_named}
+use Rattle.outside.specs.Files.{File, file_named}
 use Rattle.symple_run.specs.Leaves.{AfterJudging, AfterLoad, AfterPut, AfterRun, AfterServing, AfterStore, AfterTry, CannotLoad, Done, EndsWith, Gained, HasFailed, IsAbsent, IsLong, IsNone, IsProgram, IsRefused, IsThere, Leaves, Loaded, NotLoaded, NotPut, NotServed, NotStored, Ran, Refused, Served, Stored, TryFailed, Wants, WantsAtJudging, WantsAtLoad, WantsAtPut, WantsAtRefusal, WantsAtRun, WantsAtStore, WantsAtTry}
 use Rattle.symple_run.specs.Notes.{Fault}
 use Rattle.symple_run.specs.Orders.{Course, Ends, Judges, Loads, Order, Play, Puts, Refuses, Runs, Serves, Stores, Tries}
-use Rattle.symple_run.specs.Outside.{Held, Kept, Left, Outside}
+use Rattle.symple_run.specs.States.{Held, Kept, Left, Outside}
 use Rattle.symple_run.specs.Quiet.{IsQuiet}
 
 -- an order leaves the same where more courses are allowed

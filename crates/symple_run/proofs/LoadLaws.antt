@@ -8,8 +8,8 @@ use Rattle.edge_reader.specs.declared.edges.Edges.{Edges}
 use Rattle.edge_reader.specs.EdgePairs.{reading_of_pairs}
 use Rattle.edge_reader.specs.EdgeText.{reading_of_text}
 use Rattle.edge_reader.specs.Gives.{Gives, graph_of_edges}
-use Rattle.symple_face.specs.Causes.{Rose}
-use Rattle.symple_face.specs.Files.{File, file_named}
+use Rattle.outside.specs.Causes.{Rose}
+use Rattle.outside.specs.Files.{File, file_named}
 use Rattle.symple_run.specs.declared.failure.Failure.TheVariants as failure
 use Rattle.program_reader.specs.declared.refusal.Stage.TheVariants.{Tokens}
 use Rattle.symple_run.specs.Answers.{IsUnder}

@@ -7,7 +7,7 @@ use Rattle.std.proofs.lemmas.List.{take_all, take_more}
 use Rattle.std.proofs.lemmas.List.FromFn.{get_or-range_with_len, length-range_with_len}
 use Rattle.array_text.specs.Writes.{Writes}
 use Rattle.array_text.proofs.WritesLaws.{texts_split, writes_failed, writes_same, writes_then}
-use Rattle.symple_face.specs.declared.sink.SinkFault.{SinkFault}
+use Rattle.outside.specs.declared.sink.SinkFault.{SinkFault}
 
 texts_more : {X : Type 0} (f : X → List ℕ) (xs : List X) (i : ℕ) (d : X) (part : List ℕ) → i < length xs → part ≡ f (get_or xs i d) → flat_map f (take i xs) ++ part ≡ flat_map f (take (i + 1) xs)
 texts_more f xs i d part below is =

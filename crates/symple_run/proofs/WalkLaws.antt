@@ -11,7 +11,7 @@ use Rattle.symple_run.specs.Leaves.{EndsWith, Gained, IsProgram, IsRefused, Leav
 use Rattle.symple_run.specs.Notes.{BadWords, Fault, NoMemory}
 use Rattle.symple_run.specs.Orders.{Course, Ends, IsOver, Order, Play, Prints, Puts, Refuses, Runs, follows}
 use Rattle.symple_run.specs.Outputs.{play_text}
-use Rattle.symple_run.specs.Outside.{Held, Kept, Left, Outside, outside}
+use Rattle.symple_run.specs.States.{Held, Kept, Left, Outside, outside}
 use Rattle.symple_run.specs.SourceRuns.{IsSourceRun}
 use Rattle.symple_run.specs.Walks.{BadFile, BadText, HasGraph, HasProgram, NoFile, NoGraph, NoProgram, NoText, Plays, WantsForFile, WantsForText, fault_after}
 use Rattle.symple_words.specs.Answers.{Faults}

@@ -3,7 +3,7 @@ use Rattle.std.specs.Prelude.{◌≡◌, ◌⊎◌, ◌<◌, ◌-◌, ℕ, List,
 use Rattle.std.specs.Prelude.{if◌then◌else◌}
 use Rattle.program_reader.specs.declared.refusal.Refusal.{Refusal}
 use Rattle.program_reader.specs.Accepted.{Refuses as RefusesText, Says}
-use Rattle.symple_face.specs.Files.{File, file_named, with_file}
+use Rattle.outside.specs.Files.{File, file_named, with_file}
 use Rattle.symple_run.specs.Notes.{BadProgram, Fault, NoLoad}
 use Rattle.symple_run.specs.Orders.{Course, Ends, Judges, Loads, Order, Play, Puts, Refuses, Runs, Serves, Stores, Tries}
 use Rattle.vert_tree.specs.declared.program.Program.{Program}

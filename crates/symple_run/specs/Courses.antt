@@ -1,6 +1,6 @@
 -- What stands of a run in the sink.
 use Rattle.std.specs.Prelude.{◌≡◌, ◌⊎◌, ℕ, List, [], ◌++◌, Option, Some, None}
-use Rattle.symple_face.specs.Bytes.{gained, GainedPart}
+use Rattle.outside.specs.Bytes.{gained, GainedPart}
 use Rattle.symple_run.specs.Notes.{Fault, NoMemory, NoWrite}
 use Rattle.symple_run.specs.Orders.{Course, Fails, IsOver, Keeps, Prints}
 

@@ -4,9 +4,9 @@ use Rattle.edge_reader.specs.EdgeList as edges
 use Rattle.order_free.specs.Free.{freedom_of, is_free}
 use Rattle.order_laws.specs.OrderFree.{told}
 use Rattle.program_reader.specs.Accepted.{Says}
-use Rattle.symple_face.specs.Bytes.{gained}
-use Rattle.symple_face.specs.Causes.{Rose}
-use Rattle.symple_face.specs.Files.{File}
+use Rattle.outside.specs.Bytes.{gained}
+use Rattle.outside.specs.Causes.{Rose}
+use Rattle.outside.specs.Files.{File}
 use Rattle.symple_run.specs.declared.status.Status.{Status}
 use Rattle.symple_run.specs.declared.status.Status.TheVariants as status
 use Rattle.symple_run.specs.Commands.{order_of}
@@ -15,7 +15,7 @@ use Rattle.symple_run.specs.Leaves.{IsUnder, Leaves, PutFails}
 use Rattle.symple_run.specs.Notes.{Fault, note_text, status_of}
 use Rattle.symple_run.specs.Orders.{Course, Order, Play}
 use Rattle.symple_run.specs.Outputs.{free_text, job_of}
-use Rattle.symple_run.specs.Outside.{Held, Outside}
+use Rattle.symple_run.specs.States.{Held, Outside}
 use Rattle.symple_words.specs.Lines as words
 use Rattle.vert_eval.specs.SourceRun.{source_run}
 use Rattle.vert_tree.specs.declared.program.Program.{Program}

@@ -2,12 +2,12 @@
 use Rattle.std.specs.Prelude.{◌≡◌, ◌<◌, ◌≤◌, ◌+◌, ℕ, List, Option, Some, None, codes, drop, length, option_map}
 use Rattle.program_reader.specs.declared.refusal.Refusal.{Refusal}
 use Rattle.program_reader.specs.Accepted.{Refuses as RefusesText, Says}
-use Rattle.symple_face.specs.Bytes.{gained, GainedPart}
-use Rattle.symple_face.specs.Causes.{Rose}
-use Rattle.symple_face.specs.Files.{File, SameBut, file_named, with_file}
+use Rattle.outside.specs.Bytes.{gained, GainedPart}
+use Rattle.outside.specs.Causes.{Rose}
+use Rattle.outside.specs.Files.{File, SameBut, file_named, with_file}
 use Rattle.symple_run.specs.Notes.{BadProgram, Fault, NoLoad, NoMemory, NoWrite}
 use Rattle.symple_run.specs.Orders.{Course, Ends, Judges, Loads, Order, Play, Puts, Refuses, Runs, Serves, Stores, Tries}
-use Rattle.symple_run.specs.Outside.{Held, Kept, Left, Outside}
+use Rattle.symple_run.specs.States.{Held, Kept, Left, Outside}
 use Rattle.vert_tree.specs.declared.program.Program.{Program}
 
 -- the shelf tells its files

@@ -7,7 +7,7 @@ pub mod Leaves
 pub mod Notes
 pub mod Orders
 pub mod Outputs
-pub mod Outside
+pub mod States
 pub mod Quiet
 pub mod SourceRuns
 pub mod Walks

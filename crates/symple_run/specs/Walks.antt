@@ -7,9 +7,9 @@ use Rattle.edge_reader.specs.EdgeList.{Graph}
 use Rattle.edge_reader.specs.Gives.{graph_of_edges}
 use Rattle.program_reader.specs.declared.refusal.Refusal.{Refusal}
 use Rattle.program_reader.specs.Accepted.{Refuses as RefusesText, Says}
-use Rattle.symple_face.specs.declared.sink.SinkFault.{SinkFault}
-use Rattle.symple_face.specs.Causes.{Rose}
-use Rattle.symple_face.specs.Files.{File}
+use Rattle.outside.specs.declared.sink.SinkFault.{SinkFault}
+use Rattle.outside.specs.Causes.{Rose}
+use Rattle.outside.specs.Files.{File}
 use Rattle.symple_run.specs.declared.failure.Failure.{Failure}
 use Rattle.symple_run.specs.declared.failure.Failure.TheVariants as failure
 use Rattle.symple_run.specs.Commands.{edge_fault, graph_of, too_long_graph, too_long_program}
@@ -17,7 +17,7 @@ use Rattle.symple_run.specs.Faults.{fault_of}
 use Rattle.symple_run.specs.Leaves.{CannotLoad, IsUnder, Leaves, PutFails, after_text}
 use Rattle.symple_run.specs.Notes.{BadProgram, Fault, NoMemory}
 use Rattle.symple_run.specs.Orders.{Order}
-use Rattle.symple_run.specs.Outside.{Held, Kept, Left, outside, shelf_state, sink_state}
+use Rattle.symple_run.specs.States.{Held, Kept, Left, outside, shelf_state, sink_state}
 use Rattle.symple_run.specs.SourceRuns.{IsSourceRun}
 use Rattle.symple_words.specs.declared.line.GraphForm.{GraphForm}
 use Rattle.vert_base.specs.declared.limits.TheConstants.{GRAPH_BYTES, PROGRAM_BYTES}

@@ -1,4 +1,4 @@
-ghost use Rattle.symple_face.specs.Causes.{Rose};
+ghost use Rattle.outside.specs.Causes.{Rose};
 
 /// A count of faults after one more, which stays at the greatest number.
 pub(crate) fn one_more(faults: u64) -> u64

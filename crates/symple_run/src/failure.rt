@@ -9,7 +9,7 @@ use array_text::{put_all, put_pieces};
 use itoa::Buffer;
 use program_reader::{Refusal, Stage};
 use std::alloc::AllocError;
-use symple_face::{Sink, SinkFault};
+use outside::{Sink, SinkFault};
 use symple_words::WordFault;
 use vert_base::Want;
 

@@ -1,5 +1,5 @@
 ghost use Rattle.std.specs.Prelude.{◌≡◌, ◌≢◌, ◌≤◌, ◌<◌, None, Err, IfOk, vec_len};
-ghost use Rattle.symple_face.specs.declared.shelf.LoadFault.TheVariants.{Missing, TooLong};
+ghost use Rattle.outside.specs.declared.shelf.LoadFault.TheVariants.{Missing, TooLong};
 
 use crate::counts::one_more;
 use crate::pieces::{read_some, write_whole};
@@ -7,7 +7,7 @@ use std::alloc::Global;
 use std::fs;
 use std::io::{ErrorKind, Read};
 use std::rt::Files;
-use symple_face::{LoadFault, Shelf, StoreFault};
+use outside::{LoadFault, Shelf, StoreFault};
 
 /// The most bytes that one read asks for.
 const PIECE: usize = 65_536;

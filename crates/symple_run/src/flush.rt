@@ -1,7 +1,7 @@
-ghost use Rattle.symple_run.specs.Outside.{sink_state};
+ghost use Rattle.symple_run.specs.States.{sink_state};
 ghost use Rattle.symple_run.specs.Walks.{Flushes};
 
-use symple_face::{Sink, SinkFault};
+use outside::{Sink, SinkFault};
 
 /// Has a sink hand on what it holds back, by an empty piece.
 pub(crate) fn flush<O: Sink>(out: &mut O) -> Result<(), SinkFault>

@@ -4,7 +4,7 @@ ghost use Rattle.array_text.specs.Writes.{Writes};
 ghost use Rattle.order_free.specs.declared.freedom.Freedom.TheVariants.{FirstSlot};
 ghost use Rattle.symple_run.specs.Commands.{free_order};
 ghost use Rattle.symple_run.specs.Outputs.{free_text, freedom_text, slot_name};
-ghost use Rattle.symple_run.specs.Outside.{sink_state};
+ghost use Rattle.symple_run.specs.States.{sink_state};
 ghost use Rattle.symple_run.specs.Walks.{HandsOn, Performs, Plays};
 
 use crate::failure::Failure;
@@ -14,7 +14,7 @@ use array_text::{put_all, put_pieces};
 use instrument::{Split, split_of};
 use order_free::{Freedom, free};
 use std::alloc::Global;
-use symple_face::{Shelf, Sink, SinkFault};
+use outside::{Shelf, Sink, SinkFault};
 use vert_tree::Program;
 
 /// Puts whether the rows of the program of that name depend on the order of neighbours.

@@ -6,7 +6,7 @@ mod failure;
 mod files;
 mod flush;
 mod freedom;
-mod outside;
+mod arguments;
 mod pieces;
 mod plan;
 mod read;
@@ -21,7 +21,7 @@ mod top;
 
 use failure::{Failure, write_note};
 use files::FileShelf;
-use outside::words_of;
+use arguments::words_of;
 use status::Status;
 use std::io::BufWriter;
 use std::process::ExitCode;

@@ -1,14 +1,14 @@
 ghost use Rattle.std.specs.Prelude.{◌≡◌, ◌≤◌, ◌<◌, length, slice_index};
 ghost use Rattle.array_text.specs.Writes.{Writes};
 ghost use Rattle.symple_run.specs.Outputs.{chunk_text, chunks_text, machines_text, plan_lines, step_text, steps_text};
-ghost use Rattle.symple_run.specs.Outside.{sink_state};
+ghost use Rattle.symple_run.specs.States.{sink_state};
 ghost use Rattle.symple_run.specs.Walks.{HandsOn};
 
 use crate::flush::flush;
 use array_text::put_pieces;
 use chunk_split::Cuts;
 use itoa::Buffer;
-use symple_face::{Sink, SinkFault};
+use outside::{Sink, SinkFault};
 use vert_base::limits::MACHINES;
 
 /// Puts the plan of these chunks and has it handed on.

@@ -1,7 +1,7 @@
 ghost use Rattle.std.specs.Prelude.{◌≤◌};
 ghost use Rattle.edge_reader.specs.Gives.{Gives};
 ghost use Rattle.symple_run.specs.Commands.{graph_of};
-ghost use Rattle.symple_run.specs.Outside.{shelf_state};
+ghost use Rattle.symple_run.specs.States.{shelf_state};
 ghost use Rattle.symple_run.specs.Walks.{GivesGraph, GivesProgram};
 ghost use Rattle.symple_words.specs.Ranges.{IsGraphForm};
 
@@ -9,7 +9,7 @@ use crate::failure::Failure;
 use edge_reader::{EdgeFault, Edges, read_pairs, read_text};
 use program_reader::{ProgramFault, Refusal, Stage, read_program};
 use std::alloc::Global;
-use symple_face::{LoadFault, Shelf};
+use outside::{LoadFault, Shelf};
 use symple_words::GraphForm;
 use vert_base::Span;
 use vert_base::limits::{GRAPH_BYTES, PROGRAM_BYTES};

@@ -7,7 +7,8 @@ ghost use Rattle.symple_run.specs.Outputs.{IsFew, read_line, read_lines, told_li
 
 use array_text::{put_all, write_read_head, write_reads, write_round};
 use plain_run::PlayedRound;
-use symple_face::{Report, Sink, SinkFault};
+use outside::{Sink, SinkFault};
+use symple_face::Report;
 use symple_words::Lines;
 use vert_base::VertexId;
 

@@ -1,7 +1,7 @@
 ghost use Rattle.std.specs.Prelude.{◌≤◌};
 ghost use Rattle.instrument.specs.Shown.{shown};
 ghost use Rattle.symple_run.specs.Commands.{show_order};
-ghost use Rattle.symple_run.specs.Outside.{sink_state};
+ghost use Rattle.symple_run.specs.States.{sink_state};
 ghost use Rattle.symple_run.specs.Walks.{HandsOn, Performs, Plays};
 
 use crate::failure::Failure;
@@ -10,7 +10,7 @@ use crate::read::load_program;
 use array_text::put_all;
 use instrument::{Split, print_split, split_of};
 use std::alloc::Global;
-use symple_face::{Shelf, Sink, SinkFault};
+use outside::{Shelf, Sink, SinkFault};
 
 /// Puts the program of that name and how its loop is split.
 pub(crate) fn show_program<H: Shelf, O: Sink>(

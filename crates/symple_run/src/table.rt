@@ -3,7 +3,7 @@ ghost use Rattle.array_text.specs.Tables.{rows_text, table_text};
 ghost use Rattle.array_text.specs.Writes.{Writes};
 ghost use Rattle.plain_run.specs.Told.{told_of};
 ghost use Rattle.symple_run.specs.Outputs.{AreFew, told_run};
-ghost use Rattle.symple_run.specs.Outside.{sink_state};
+ghost use Rattle.symple_run.specs.States.{sink_state};
 ghost use Rattle.symple_run.specs.Walks.{HandsOn};
 
 use crate::flush::flush;
@@ -11,7 +11,7 @@ use crate::rounds::write_rounds;
 use array_text::{write_header, write_row};
 use instrument::Split;
 use plain_run::PlainRun;
-use symple_face::{Sink, SinkFault};
+use outside::{Sink, SinkFault};
 use symple_words::Lines;
 use vert_base::{Row, VertexId};
 

@@ -9,7 +9,7 @@ use crate::top::symple;
 use std::alloc::{AllocError, Global};
 use std::process::Abort;
 use std::test::Fail;
-use symple_face::{DripSink, FirmShelf, FirmSink, MemShelf, MemSink, MemSource, Shelf, Sink};
+use outside::{DripSink, FirmShelf, FirmSink, MemShelf, MemSink, MemSource, Shelf, Sink};
 
 static DIAMOND: &[u8] = b"0 1\n0 2\n1 3\n2 3\n";
 

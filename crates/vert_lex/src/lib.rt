@@ -6,8 +6,6 @@ mod kind;
 mod length;
 pub mod marks;
 mod place;
-#[cfg(test)]
-mod tests;
 mod text;
 mod token;
 pub mod words;

@@ -1,5 +1,5 @@
 use Rattle.std.proofs.Common.{◌∙◌, arith}
-use Rattle.symple_face.proofs.BytesLaws.{gained_more}
+use Rattle.outside.proofs.BytesLaws.{gained_more}
 use Rattle.array_text.proofs.put.put_all.Goals as goal
 
 pub loop-done-preserved : goal.loop-done-preserved

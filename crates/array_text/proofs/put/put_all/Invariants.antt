@@ -1,5 +1,5 @@
 use Rattle.std.proofs.Common.{length, ◌-◌, ◌≡◌, ◌+◌, ◌≤◌, take}
-use Rattle.symple_face.specs.Bytes.{gained}
+use Rattle.outside.specs.Bytes.{gained}
 use Rattle.array_text.proofs.put.put_all.Given as goal
 
 abbrev pub invariant-loop-done : goal.invariant-loop-done

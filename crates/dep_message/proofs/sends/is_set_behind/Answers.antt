@@ -1,7 +1,7 @@
 use Rattle.std.proofs.Common.{arith}
 use Rattle.dep_layout.specs.Judgement.{is_set}
 use Rattle.dep_layout.proofs.LoopLaws.{any_end}
-use Rattle.dep_message.specs.Fit.{bits_in}
+use Rattle.body_shape.specs.Fit.{bits_in}
 use Rattle.dep_message.proofs.BitLaws.{length-bits}
 use Rattle.dep_message.proofs.sends.is_set_behind.Goals as goal
 

@@ -1,6 +1,6 @@
 use Rattle.std.proofs.Common.{◌≡◌, ◌≤◌, ◌+◌, count_by, take, drop}
 use Rattle.dep_layout.specs.Judgement.{is_set}
-use Rattle.dep_message.specs.Fit.{bits_in}
+use Rattle.body_shape.specs.Fit.{bits_in}
 use Rattle.dep_message.proofs.sends.senders.Given as goal
 
 abbrev pub invariant-loop-vertex : goal.invariant-loop-vertex

@@ -1,5 +1,5 @@
 use Rattle.std.proofs.Common.{◌≡◌, ◌-◌}
-use Rattle.dep_message.specs.Fit.{are_updates}
+use Rattle.body_shape.specs.Fit.{are_updates}
 use Rattle.dep_message.proofs.updates.are_updates.Given as goal
 
 abbrev pub invariant-vertices : goal.invariant-vertices

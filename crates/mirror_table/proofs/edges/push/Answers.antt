@@ -8,8 +8,8 @@ use Rattle.vert_base.specs.declared.graph.Edge.{Edge}
 use Rattle.vert_base.specs.Neighbours.{AreBelow, source, target, in_order, ins_of}
 use Rattle.chunk_split.specs.Chunks.{AreEnds, vertices_of}
 use Rattle.circulant_plan.specs.Ring.{start_of}
-use Rattle.mirror_table.specs.PartsOf.{push_of}
-use Rattle.mirror_table.proofs.ChunkLaws.{same_start}
+use Rattle.symple_face.specs.PartsOf.{push_of}
+use Rattle.symple_face.proofs.ChunkLaws.{same_start}
 use Rattle.mirror_table.proofs.PartsMade.{gathered_all, push_below, push_made, push_rises}
 use Rattle.mirror_table.proofs.edges.push.Goals as goal
 

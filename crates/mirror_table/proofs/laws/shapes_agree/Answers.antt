@@ -1,5 +1,5 @@
 -- The law of the forms of messages.
-use Rattle.mirror_table.proofs.ShapeLaws as laws
+use Rattle.symple_face.proofs.ShapeLaws as laws
 use Rattle.mirror_table.proofs.laws.shapes_agree.Goals as goal
 
 pub returns : goal.returns

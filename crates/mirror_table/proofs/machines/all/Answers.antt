@@ -4,7 +4,7 @@ use Rattle.std.specs.List.{All}
 use Rattle.std.proofs.lemmas.List.Elements.{All-push}
 use Rattle.symple_face.specs.declared.part.Part.{Part}
 use Rattle.symple_face.specs.PartViews.{plain_of}
-use Rattle.mirror_table.specs.PartsOf.{part_of}
+use Rattle.symple_face.specs.PartsOf.{part_of}
 use Rattle.mirror_table.proofs.SplitLaws.{map_push}
 use Rattle.mirror_table.proofs.machines.all.Goals as goal
 

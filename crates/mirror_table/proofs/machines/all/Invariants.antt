@@ -2,7 +2,7 @@
 use Rattle.std.proofs.Common.{◌≡◌, map}
 use Rattle.std.specs.List.{All, range_with_len}
 use Rattle.symple_face.specs.PartViews.{plain_of}
-use Rattle.mirror_table.specs.PartsOf.{part_of}
+use Rattle.symple_face.specs.PartsOf.{part_of}
 use Rattle.mirror_table.proofs.machines.all.Given as goal
 
 abbrev pub invariant-loop-m : goal.invariant-loop-m

@@ -7,7 +7,7 @@ use Rattle.vert_base.specs.declared.limits.TheConstants.{EDGES, VERTICES}
 use Rattle.vert_base.specs.Neighbours.{AreBelow, source, target}
 use Rattle.chunk_split.specs.Chunks.{AreEnds, vertices_of}
 use Rattle.symple_face.specs.Parts.{IsPart, PlainPart, lists_of}
-use Rattle.mirror_table.specs.PartsOf.{known_of, part_of}
+use Rattle.symple_face.specs.PartsOf.{known_of, part_of}
 use Rattle.mirror_table.proofs.PartLaws.{part_is}
 use Rattle.mirror_table.proofs.PartsMade.{known_is, known_low, made_is, others_length}
 use Rattle.mirror_table.proofs.machines.part.Goals as goal

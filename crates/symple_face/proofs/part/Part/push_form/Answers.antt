@@ -3,7 +3,8 @@ use Rattle.std.proofs.Common.{◌≡◌, ◌≤◌, length, arith, ap, sym, refl
 use Rattle.std.proofs.Math.Pow.{pow_mono}
 use Rattle.std.proofs.lemmas.List.{length-map}
 use Rattle.symple_face.specs.PartViews.{plain_of}
-use Rattle.symple_face.specs.Shapes.{bool_bits, pushed, sends_in, types_of}
+use Rattle.body_shape.specs.Shapes.{bool_bits}
+use Rattle.symple_face.specs.Shapes.{pushed, sends_in, types_of}
 use Rattle.symple_face.proofs.part.Part.push_form.Goals as goal
 
 pub overflow_cast-result-3 : goal.overflow_cast-result-3

@@ -1,0 +1,10 @@
+pub mod Shapes
+pub mod Fit
+pub mod Places
+pub mod Refresh
+pub mod Update
+pub mod Push
+pub mod Tally
+pub mod Verdict
+pub mod Missing
+pub mod Bytes
