@@ -128,7 +128,7 @@ module _ (courses : Play → Course → Type 0) (new : Outside) (outcome expecte
       must_come (next bytes) files loads stores out input takes
       (by_bytes limit (expected ≡ Some (NoLoad name)) (expected ≡ Some too_long) (λ b. Must courses (next b) files input expected) (file_named name files) bytes under within must) calm
       (private_safe courses (Loads name limit too_long next) (next bytes) files files input input out.faults new.out.faults out.spare
-        (λ room fits. by_bytes limit (Unit {0}) (Unit {0}) (λ b. Fits courses (next b) files input room) (file_named name files) bytes under within fits) safe)
+      (λ room fits. by_bytes limit (Unit {0}) (Unit {0}) (λ b. Fits courses (next b) files input room) (file_named name files) bytes under within fits) safe)
       rest
   must_come (Loads name limit too_long next) files loads stores out input takes must calm safe (NotLoaded fault why same is) =
       inl (not_loaded name limit too_long files loads stores new.shelf fault outcome expected (λ b. Must courses (next b) files input expected) calm.no_load why is must)
@@ -136,18 +136,18 @@ module _ (courses : Play → Course → Type 0) (new : Outside) (outcome expecte
   must_come (Tries name limit next) files loads stores out input takes must calm safe (IsThere bytes under within rest) =
       must_come (next (Some bytes)) files loads stores out input takes
       (by_bytes limit (Must courses (next None) files input expected) (Must courses (next None) files input expected) (λ b. Must courses (next (Some b)) files input expected)
-        (file_named name files) bytes under within must) calm
+      (file_named name files) bytes under within must) calm
       (private_safe courses (Tries name limit next) (next (Some bytes)) files files input input out.faults new.out.faults out.spare
-        (λ room fits. by_bytes limit (Fits courses (next None) files input room) (Fits courses (next None) files input room) (λ b. Fits courses (next (Some b)) files input room)
-          (file_named name files) bytes under within fits) safe)
+      (λ room fits. by_bytes limit (Fits courses (next None) files input room) (Fits courses (next None) files input room) (λ b. Fits courses (next (Some b)) files input room)
+      (file_named name files) bytes under within fits) safe)
       rest
   must_come (Tries name limit next) files loads stores out input takes must calm safe (IsNone after (same, more) rest) =
       let P : ℕ → Type 0 = λ count.
-        Leaves courses (next None) (record { shelf = record { files = Some files; loads = count; stores = stores }; out = out; input = record { bytes = input; faults = takes } }) new outcome in
+      Leaves courses (next None) (record { shelf = record { files = Some files; loads = count; stores = stores }; out = out; input = record { bytes = input; faults = takes } }) new outcome in
       must_come (next None) files loads stores out input takes
       (no_file limit (file_named name files) (λ f. Must courses (next f) files input expected) more must) calm
       (private_safe courses (Tries name limit next) (next None) files files input input out.faults new.out.faults out.spare
-        (λ room fits. no_file limit (file_named name files) (λ f. Fits courses (next f) files input room) more fits) safe)
+      (λ room fits. no_file limit (file_named name files) (λ f. Fits courses (next f) files input room) more fits) safe)
       (subst P same rest)
   must_come (Tries name limit next) files loads stores out input takes must calm safe (TryFailed rose same is) = absurd (calm.no_load rose)
   must_come (Tries name limit next) files loads stores out input takes must calm safe (WantsAtTry w) = wants expected w
@@ -173,9 +173,9 @@ module _ (courses : Play → Course → Type 0) (new : Outside) (outcome expecte
   must_come (Serves used text next) files loads stores out None takes must calm safe leaves = absurd must
   must_come (Serves used text next) files loads stores out (Some left) takes must calm safe (Served bytes is spare spared rest) =
       let P : List ℕ → Type 0 = λ b.
-        Leaves courses (next b)
-          (record { shelf = record { files = Some files; loads = loads; stores = stores }; out = after_text out (text b) spare; input = record { bytes = Some (drop (used b) left); faults = takes } })
-          new outcome in
+      Leaves courses (next b)
+      (record { shelf = record { files = Some files; loads = loads; stores = stores }; out = after_text out (text b) spare; input = record { bytes = Some (drop (used b) left); faults = takes } })
+      new outcome in
       let Q : List ℕ → Type 0 = λ b. out.spare ≤ spare + length (text b) in
       must_come (next left) files loads stores _ (Some (drop (used left) left)) takes must calm
       (served_safe courses used text next files left out.faults new.out.faults out.spare spare (subst Q (sym is) spared) safe) (subst P (sym is) rest)

@@ -5,6 +5,7 @@ use Rattle.array_text.specs.Writes.{Writes}
 use Rattle.chunk_split.specs.Bounds.{ends_of}
 use Rattle.edge_reader.specs.declared.fault.EdgeFault.{EdgeFault}
 use Rattle.edge_reader.specs.EdgeList.{Graph}
+use Rattle.instrument.specs.Shown.{shown}
 use Rattle.order_free.specs.Free.{freedom_of, is_free}
 use Rattle.order_laws.specs.OrderFree.{RunsAlike}
 use Rattle.program_reader.specs.declared.refusal.Refusal.{Refusal}
@@ -22,7 +23,7 @@ use Rattle.symple_run.specs.Headline.{AlikeAtAllCounts, FreeAnswer, IsComplete, 
 use Rattle.symple_run.specs.Leaves.{AfterJudging, AfterLoad, AfterPut, Gained, IsProgram, IsRefused, IsUnder, Leaves, Loaded, NotLoaded, NotPut, PutFails, WantsAtJudging, WantsAtLoad, WantsAtPut}
 use Rattle.symple_run.specs.Notes as note
 use Rattle.symple_run.specs.Orders.{Course, Ends, IsOver, Order, Play, Prints, Puts, Refuses, Runs, follows}
-use Rattle.symple_run.specs.Outputs.{free_text, job_of, play_text}
+use Rattle.symple_run.specs.Outputs.{free_text, job_of, plan_text, play_text}
 use Rattle.symple_run.specs.States.{Held, Outside, sink_state}
 use Rattle.symple_run.specs.Quiet.{IsQuiet}
 use Rattle.symple_run.specs.SourceRuns.{IsSourceRun}
@@ -52,7 +53,7 @@ quiet_line (words.RunOf job machines None) = quiet_run job machines job.lines.lo
 quiet_line (words.RunOf job machines (Some image)) = tt
 quiet_line (words.ShowOf program) = λ text p says. tt
 quiet_line (words.FreeOf program) = λ text p says. tt
-quiet_line (words.PlanOf name form machines) = λ bytes. quiet_graph (graph_of form bytes) _ (λ graph. tt)
+quiet_line (words.PlanOf name form machines) = λ bytes. quiet_graph (graph_of form bytes) (λ graph. Puts (plan_text machines graph) Ends) (λ graph. tt)
 quiet_line (words.RecordOf job schedule machines seed lossy) = tt
 quiet_line (words.ReplayOf job schedule) = tt
 quiet_line (words.ResumeOf job image machines) = tt
@@ -120,15 +121,16 @@ module _ (files : List File) (input : Option (List ℕ)) (outcome : Option note.
   run_must job machines false may =
       program_must job.program (λ program. with_graph job.form job.graph (λ graph. Runs (play_of job machines program graph) follows))
       (λ p q. graph_must job.form job.graph (λ graph. Runs (play_of job machines p graph) follows) (λ graph. Runs (play_of job machines q graph) follows)
-        (λ graph both. run_has (play_of job machines q graph) (run_over (play_of job machines p graph) both)))
+      (λ graph both. run_has (play_of job machines q graph) (run_over (play_of job machines p graph) both)))
       may
 
   line_must : (line : words.PlainLine) → May (asked line) → Has (asked line)
   line_must (words.RunOf job machines None) may = run_must job machines job.lines.log may
   line_must (words.RunOf job machines (Some image)) may = may
-  line_must (words.ShowOf name) may = program_must name _ (λ p q fine. fine) may
-  line_must (words.FreeOf name) may = program_must name _ (λ p q fine. fine) may
-  line_must (words.PlanOf name form machines) may = graph_must form name _ _ (λ graph fine. fine) may
+  line_must (words.ShowOf name) may = program_must name (λ program. Puts (shown program) Ends) (λ p q fine. fine) may
+  line_must (words.FreeOf name) may = program_must name (λ program. Puts (free_text program) Ends) (λ p q fine. fine) may
+  line_must (words.PlanOf name form machines) may =
+      graph_must form name (λ graph. Puts (plan_text machines graph) Ends) (λ graph. Puts (plan_text machines graph) Ends) (λ graph fine. fine) may
   line_must (words.RecordOf job schedule machines seed lossy) may = may
   line_must (words.ReplayOf job schedule) may = may
   line_must (words.ResumeOf job image machines) may = may
@@ -159,14 +161,14 @@ pub completes :
     IsComplete IsSourceRun texts w after result
 completes texts w after outcome result leaves is = λ files expected told comes nothing.
     let P : Option (List File) → Type 0 = λ fs.
-      Leaves IsSourceRun (order_of texts)
-        (record { shelf = record { files = fs; loads = w.shelf.loads; stores = w.shelf.stores }; out = w.out; input = record { bytes = w.input.bytes; faults = w.input.faults } }) after outcome in
+    Leaves IsSourceRun (order_of texts)
+    (record { shelf = record { files = fs; loads = w.shelf.loads; stores = w.shelf.stores }; out = w.out; input = record { bytes = w.input.bytes; faults = w.input.faults } }) after outcome in
     by_outcome result outcome expected is
     (must_come IsSourceRun after outcome expected (order_of texts) files w.shelf.loads w.shelf.stores w.out w.input.bytes w.input.faults
-      (order_must files w.input.bytes expected (words.line_of texts) comes)
-      (record { no_load = nothing.no_load; no_store = nothing.no_store; no_take = nothing.no_take })
-      (safe (order_of texts) files w.input.bytes w.out.faults after.out.faults w.out.spare nothing.no_put)
-      (subst P told leaves))
+    (order_must files w.input.bytes expected (words.line_of texts) comes)
+    (record { no_load = nothing.no_load; no_store = nothing.no_store; no_take = nothing.no_take })
+    (safe (order_of texts) files w.input.bytes w.out.faults after.out.faults w.out.spare nothing.no_put)
+    (subst P told leaves))
 
 -- ---- notes
 

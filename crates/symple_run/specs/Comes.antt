@@ -24,11 +24,11 @@ Comes courses Ends files input outcome = outcome ≡ None
 Comes courses (Refuses fault) files input outcome = outcome ≡ Some fault
 Comes courses (Loads name limit too_long next) files input outcome =
     ByFile limit (file_named name files) (outcome ≡ Some (NoLoad name)) (outcome ≡ Some too_long)
-        (λ bytes. Comes courses (next bytes) files input outcome)
+    (λ bytes. Comes courses (next bytes) files input outcome)
 Comes courses (Tries name limit next) files input outcome =
     ByFile limit (file_named name files) (Comes courses (next None) files input outcome)
-        (Comes courses (next None) files input outcome)
-        (λ bytes. Comes courses (next (Some bytes)) files input outcome)
+    (Comes courses (next None) files input outcome)
+    (λ bytes. Comes courses (next (Some bytes)) files input outcome)
 Comes courses (Judges text next) files input outcome =
     ((refusal : Refusal) × RefusesText text refusal × (outcome ≡ Some (BadProgram refusal)))
     ⊎ ((program : Program) × Says text program × Comes courses (next program) files input outcome)
@@ -46,11 +46,11 @@ Fits courses Ends files input room = Unit {0}
 Fits courses (Refuses fault) files input room = Unit {0}
 Fits courses (Loads name limit too_long next) files input room =
     ByFile limit (file_named name files) (Unit {0}) (Unit {0})
-        (λ bytes. Fits courses (next bytes) files input room)
+    (λ bytes. Fits courses (next bytes) files input room)
 Fits courses (Tries name limit next) files input room =
     ByFile limit (file_named name files) (Fits courses (next None) files input room)
-        (Fits courses (next None) files input room)
-        (λ bytes. Fits courses (next (Some bytes)) files input room)
+    (Fits courses (next None) files input room)
+    (λ bytes. Fits courses (next (Some bytes)) files input room)
 Fits courses (Judges text next) files input room =
     (program : Program) → Says text program → Fits courses (next program) files input room
 Fits courses (Runs play next) files input room =

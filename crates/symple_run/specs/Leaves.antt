@@ -173,7 +173,7 @@ Leaves courses (Loads name limit too_long next) w new outcome =
     AfterLoad name limit too_long w new outcome (λ bytes. Leaves courses (next bytes) w new outcome)
 Leaves courses (Tries name limit next) w new outcome =
     AfterTry name limit w new outcome (λ file loads.
-        Leaves courses (next file) (record w { shelf = record w.shelf { loads = loads } }) new outcome)
+    Leaves courses (next file) (record w { shelf = record w.shelf { loads = loads } }) new outcome)
 Leaves courses (Judges text next) w new outcome =
     AfterJudging text w new outcome (λ program. Leaves courses (next program) w new outcome)
 Leaves courses (Runs play next) w new outcome =
@@ -184,4 +184,4 @@ Leaves courses (Stores name bytes next) w new outcome =
     AfterStore name bytes w new outcome (λ shelf. Leaves courses next (record w { shelf = shelf }) new outcome)
 Leaves courses (Serves used text next) w new outcome =
     AfterServing used text w new outcome (λ bytes out input.
-        Leaves courses (next bytes) (record w { out = out; input = input }) new outcome)
+    Leaves courses (next bytes) (record w { out = out; input = input }) new outcome)

@@ -7,9 +7,9 @@ ghost use Rattle.symple_run.specs.Notes.{BadByte, BadLine, BadProgram, NoLoad, n
 use crate::status::Status;
 use array_text::{put_all, put_pieces};
 use itoa::Buffer;
+use outside::{Sink, SinkFault};
 use program_reader::{Refusal, Stage};
 use std::alloc::AllocError;
-use outside::{Sink, SinkFault};
 use symple_words::WordFault;
 use vert_base::Want;
 
@@ -97,10 +97,7 @@ pub(crate) fn write_note<N: Sink>(failure: &Failure, notes: &mut N) -> Result<()
 fn write_unread<N: Sink>(name: &str, notes: &mut N) -> Result<(), SinkFault>
     ensures { Writes N.held N.faults N.spare notes.old notes.new (note_text (NoLoad name.now)) result }
 {
-    put_pieces(
-        notes,
-        &[b"symple: cannot read ", name.as_bytes(), b"\n"],
-    )
+    put_pieces(notes, &[b"symple: cannot read ", name.as_bytes(), b"\n"])
 }
 
 fn letter(stage: Stage) -> &'static [u8]

@@ -13,8 +13,8 @@ use crate::read::load_program;
 use array_text::{put_all, put_pieces};
 use instrument::{Split, split_of};
 use order_free::{Freedom, free};
-use std::alloc::Global;
 use outside::{Shelf, Sink, SinkFault};
+use std::alloc::Global;
 use vert_tree::Program;
 
 /// Puts whether the rows of the program of that name depend on the order of neighbours.

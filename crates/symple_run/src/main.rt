@@ -1,12 +1,12 @@
 //! SympleGraph: runs vertex programs whose neighbour loops stop early.
 #![tactic(auto)]
 
+mod arguments;
 mod counts;
 mod failure;
 mod files;
 mod flush;
 mod freedom;
-mod arguments;
 mod pieces;
 mod plan;
 mod read;
@@ -19,9 +19,9 @@ mod table;
 mod tests;
 mod top;
 
+use arguments::words_of;
 use failure::{Failure, write_note};
 use files::FileShelf;
-use arguments::words_of;
 use status::Status;
 use std::io::BufWriter;
 use std::process::ExitCode;
@@ -43,8 +43,6 @@ fn main(rt: HostRuntime) -> ExitCode {
     let mut shelf = FileShelf::new(&rt);
     let mut input = InSource::new(rt.stdin());
     let mut out = OutSink::new(writer);
-    let status = symple(
-        alloc, &words, &mut shelf, &mut input, &mut out, &mut notes,
-    );
+    let status = symple(alloc, &words, &mut shelf, &mut input, &mut out, &mut notes);
     ExitCode::from(status.number())
 }

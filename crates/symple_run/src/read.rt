@@ -7,9 +7,9 @@ ghost use Rattle.symple_words.specs.Ranges.{IsGraphForm};
 
 use crate::failure::Failure;
 use edge_reader::{EdgeFault, Edges, read_pairs, read_text};
+use outside::{LoadFault, Shelf};
 use program_reader::{ProgramFault, Refusal, Stage, read_program};
 use std::alloc::Global;
-use outside::{LoadFault, Shelf};
 use symple_words::GraphForm;
 use vert_base::Span;
 use vert_base::limits::{GRAPH_BYTES, PROGRAM_BYTES};

@@ -6,8 +6,8 @@ ghost use Rattle.plain_run.specs.Told.{told_of};
 ghost use Rattle.symple_run.specs.Outputs.{IsFew, read_line, read_lines, told_lines, told_text};
 
 use array_text::{put_all, write_read_head, write_reads, write_round};
-use plain_run::PlayedRound;
 use outside::{Sink, SinkFault};
+use plain_run::PlayedRound;
 use symple_face::Report;
 use symple_words::Lines;
 use vert_base::VertexId;

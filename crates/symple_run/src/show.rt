@@ -9,8 +9,8 @@ use crate::flush::flush;
 use crate::read::load_program;
 use array_text::put_all;
 use instrument::{Split, print_split, split_of};
-use std::alloc::Global;
 use outside::{Shelf, Sink, SinkFault};
+use std::alloc::Global;
 
 /// Puts the program of that name and how its loop is split.
 pub(crate) fn show_program<H: Shelf, O: Sink>(

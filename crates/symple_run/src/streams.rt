@@ -2,8 +2,8 @@ ghost use Rattle.std.specs.Prelude.{◌≡◌, None};
 
 use crate::counts::one_more;
 use crate::pieces::{hand_on, read_some, write_some};
-use std::io::{Read, Write};
 use outside::{Sink, SinkFault, Source, SourceFault};
+use std::io::{Read, Write};
 
 /// The most bytes that one read asks for.
 const PIECE: usize = 8_192;

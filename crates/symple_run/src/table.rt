@@ -10,8 +10,8 @@ use crate::flush::flush;
 use crate::rounds::write_rounds;
 use array_text::{write_header, write_row};
 use instrument::Split;
-use plain_run::PlainRun;
 use outside::{Sink, SinkFault};
+use plain_run::PlainRun;
 use symple_words::Lines;
 use vert_base::{Row, VertexId};
 
@@ -25,7 +25,7 @@ pub(crate) fn put_run<O: Sink>(
     requires rows { length played.now.rows.items < 2 ^ 32 }
     requires reads { AreFew (map told_of played.now.rounds.items) }
     ensures { HandsOn (told_run lines.now split.now.program.program
-            (map told_of played.now.rounds.items) played.now.rows.items)
+        (map told_of played.now.rounds.items) played.now.rows.items)
         (sink_state O.held O.faults O.spare out.old)
         (sink_state O.held O.faults O.spare out.new) result }
 {

@@ -22,9 +22,9 @@ use edge_reader::Edges;
 use graph_table::Table;
 use instrument::{Split, split_of};
 use order_free::order_free_programs;
+use outside::{Shelf, Sink, Source};
 use plain_run::run_plainly;
 use std::alloc::Global;
-use outside::{Shelf, Sink, Source};
 use symple_words::{GraphForm, Job, Line, read_words};
 use vert_base::Want;
 use vert_base::limits::MACHINES;
@@ -68,7 +68,7 @@ fn play<O: Sink>(
 ) -> Result<(), Failure>
     requires { AreMachines machines }
     ensures { Plays (play_text (play_of (job_view job.now) machines split.now.program.program
-            (graph_of_edges edges.now)))
+        (graph_of_edges edges.now)))
         (sink_state O.held O.faults O.spare out.old)
         (sink_state O.held O.faults O.spare out.new) result }
 {
@@ -106,12 +106,7 @@ fn plan<H: Shelf, O: Sink>(
 }
 
 /// Puts the plan of a graph.
-fn lay_out<O: Sink>(
-    alloc: Global,
-    machines: u8,
-    edges: &Edges,
-    out: &mut O,
-) -> Result<(), Failure>
+fn lay_out<O: Sink>(alloc: Global, machines: u8, edges: &Edges, out: &mut O) -> Result<(), Failure>
     requires { AreMachines machines }
     ensures { Plays (plan_text machines (graph_of_edges edges.now))
         (sink_state O.held O.faults O.spare out.old)
@@ -183,18 +178,18 @@ pub fn symple<H: Shelf, I: Source, O: Sink, N: Sink>(
     // What is printed is the text of the source run.
     ensures answer { Answers IsSourceRun (words_of words.now)
         (outside (shelf_state H.files H.loads H.stores shelf.old)
-            (sink_state O.held O.faults O.spare out.old) (input_state I.left I.faults input.old))
+        (sink_state O.held O.faults O.spare out.old) (input_state I.left I.faults input.old))
         (outside (shelf_state H.files H.loads H.stores shelf.new)
-            (sink_state O.held O.faults O.spare out.new) (input_state I.left I.faults input.new))
+        (sink_state O.held O.faults O.spare out.new) (input_state I.left I.faults input.new))
         (sink_state N.held N.faults N.spare notes.old)
         (sink_state N.held N.faults N.spare notes.new) result }
 
     // What is refused is refused, and what isn't is done, but for want of memory, where nothing fails.
     ensures complete { IsComplete IsSourceRun (words_of words.now)
         (outside (shelf_state H.files H.loads H.stores shelf.old)
-            (sink_state O.held O.faults O.spare out.old) (input_state I.left I.faults input.old))
+        (sink_state O.held O.faults O.spare out.old) (input_state I.left I.faults input.old))
         (outside (shelf_state H.files H.loads H.stores shelf.new)
-            (sink_state O.held O.faults O.spare out.new) (input_state I.left I.faults input.new))
+        (sink_state O.held O.faults O.spare out.new) (input_state I.left I.faults input.new))
         result }
 
     // The runs of a program that `free` calls free are alike at all machine counts, but for their reads.
