@@ -1,6 +1,7 @@
 -- What an order never does to the outside.
-use Rattle.std.specs.Prelude.{◌≢◌, ℕ, List, Option, Some, None}
+use Rattle.std.specs.Prelude.{◌≡◌, ◌≢◌, ℕ, List, Option, Some, None}
 use Rattle.program_reader.specs.Accepted.{Says}
+use Rattle.symple_run.specs.Notes.{Fault, NoWrite}
 use Rattle.symple_run.specs.Orders.{Course, Ends, Judges, Loads, Order, Play, Puts, Refuses, Runs, Serves, Stores, Tries}
 use Rattle.vert_tree.specs.declared.program.Program.{Program}
 
@@ -27,3 +28,17 @@ IsQuiet courses (Runs play next) = (course : Course) → courses play course →
 IsQuiet courses (Puts text next) = IsQuiet courses next
 IsQuiet courses (Stores name bytes next) = ⊥
 IsQuiet courses (Serves used text next) = ⊥
+
+-- the order refuses nothing by a write fault, so that such a fault comes of a put or of a store alone
+abbrev pub BlamesNoWrite : (Play → Course → Type 0) → Order → Type 0
+BlamesNoWrite courses Ends = Unit {0}
+BlamesNoWrite courses (Refuses fault) = NoWrite ≢ fault
+BlamesNoWrite courses (Loads name limit too_long next) =
+    (NoWrite ≢ too_long) × ((bytes : List ℕ) → BlamesNoWrite courses (next bytes))
+BlamesNoWrite courses (Tries name limit next) = (file : Option (List ℕ)) → BlamesNoWrite courses (next file)
+BlamesNoWrite courses (Judges text next) = (program : Program) → BlamesNoWrite courses (next program)
+BlamesNoWrite courses (Runs play next) =
+    (course : Course) → courses play course → BlamesNoWrite courses (next course)
+BlamesNoWrite courses (Puts text next) = BlamesNoWrite courses next
+BlamesNoWrite courses (Stores name bytes next) = BlamesNoWrite courses next
+BlamesNoWrite courses (Serves used text next) = (bytes : List ℕ) → BlamesNoWrite courses (next bytes)
