@@ -6,8 +6,6 @@ mod put;
 mod reads;
 mod round;
 mod row;
-#[cfg(test)]
-mod tests;
 
 pub use header::write_header;
 pub use put::{put_all, put_pieces};

@@ -6,8 +6,6 @@ mod classes;
 mod expression;
 mod seen;
 mod statement;
-#[cfg(test)]
-mod tests;
 
 pub use carry::{Carry, carry_of};
 pub use classes::{Class, Classes, classes_of};

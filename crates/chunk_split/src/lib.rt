@@ -3,8 +3,6 @@
 
 mod bounds;
 mod cuts;
-#[cfg(test)]
-mod tests;
 
 pub use bounds::cuts_of;
 pub use cuts::Cuts;

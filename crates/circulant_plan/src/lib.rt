@@ -9,8 +9,6 @@ mod needs;
 mod plan;
 mod spot;
 mod table;
-#[cfg(test)]
-mod tests;
 
 pub use laws::{actions, ring_order};
 pub use plan::{half, order};

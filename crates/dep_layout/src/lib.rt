@@ -10,8 +10,6 @@ mod marks;
 mod packing;
 mod reading;
 mod state;
-#[cfg(test)]
-mod tests;
 mod words;
 
 pub use fault::DepFault;

@@ -12,7 +12,8 @@ use Rattle.body_shape.specs.declared.shape.BodyShape.{BodyShape}
 use Rattle.dep_message.specs.declared.fault.MessageFault.TheVariants.{Short}
 use Rattle.dep_message.specs.declared.header.Header.{Header}
 use Rattle.dep_message.specs.Laws.{AcceptedIsSpelled, AreBytes, HeaderIsRead, SpelledOnce, SpellingIsCounted}
-use Rattle.dep_message.specs.Messages.{HasSpelling, code_of, four_bytes, header_in, kind_of, name_with, number_of_four, refusal_of, refusal_of_named, spelled_header, spelled_message}
+use Rattle.vert_base.specs.HeaderBytes.{HasSpelling, code_of, four_bytes, kind_of, name_with, number_of_four, spelled_header, spelled_message}
+use Rattle.dep_message.specs.Messages.{header_in, refusal_of, refusal_of_named}
 
 -- ---- four bytes
 

@@ -9,7 +9,8 @@ use Rattle.symple_face.specs.declared.part.Part.{Part}
 use Rattle.symple_face.specs.Plans.{goes_by_plan, ring_of}
 use Rattle.body_shape.specs.Fit.{is_fit}
 use Rattle.dep_message.specs.Laws.{SpelledIsAccepted}
-use Rattle.dep_message.specs.Messages.{forms_of, has_steps, is_proper, refusal_of_body, refusal_of_named}
+use Rattle.vert_base.specs.HeaderBytes.{has_steps, is_proper}
+use Rattle.dep_message.specs.Messages.{forms_of, refusal_of_body, refusal_of_named}
 use Rattle.dep_message.proofs.MessageLaws.{refusal_of-spelled}
 
 -- a name by the plan has no step where its kind has none

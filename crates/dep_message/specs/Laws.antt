@@ -6,7 +6,8 @@ use Rattle.body_shape.specs.declared.shape.BodyShape.{BodyShape}
 use Rattle.symple_face.specs.declared.part.Part.{Part}
 use Rattle.body_shape.specs.Shapes.{longest_of}
 use Rattle.body_shape.specs.Fit.{is_fit}
-use Rattle.dep_message.specs.Messages.{HasSpelling, forms_of, header_in, refusal_of, refusal_of_named, spelled_header, spelled_message}
+use Rattle.vert_base.specs.HeaderBytes.{HasSpelling, spelled_header, spelled_message}
+use Rattle.dep_message.specs.Messages.{forms_of, header_in, refusal_of, refusal_of_named}
 
 abbrev pub AreBytes : List ℕ → Type 0
 AreBytes bytes = All (λ byte. byte < 256) bytes

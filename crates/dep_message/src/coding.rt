@@ -1,7 +1,8 @@
 ghost use Rattle.std.specs.Prelude.{◌≡◌, ◌<◌, ◌^◌, ℕ, None, Some, IfErr, IfOk, OnOk, List, length};
 ghost use Rattle.vert_base.specs.declared.message.Name.{Name};
 ghost use Rattle.dep_message.specs.declared.fault.MessageFault.{MessageFault};
-ghost use Rattle.dep_message.specs.Messages.{HasSpelling, forms_of, header_in, is_proper, refusal_of, refusal_of_named, spelled_message};
+ghost use Rattle.vert_base.specs.HeaderBytes.{HasSpelling, is_proper, spelled_message};
+ghost use Rattle.dep_message.specs.Messages.{forms_of, header_in, refusal_of, refusal_of_named};
 
 use crate::fault::MessageFault;
 use crate::fitting::fits;

@@ -1,5 +1,6 @@
 ghost use Rattle.std.specs.Prelude.{◌≡◌, ◌≤◌, ◌++◌, OnOk, length};
-ghost use Rattle.dep_message.specs.Messages.{code_of, four_bytes, header_in, kind_of, number_of_four, spelled_header};
+ghost use Rattle.vert_base.specs.HeaderBytes.{code_of, four_bytes, kind_of, number_of_four, spelled_header};
+ghost use Rattle.dep_message.specs.Messages.{header_in};
 
 use std::alloc::AllocError;
 use vert_base::{Name, NameKind};
@@ -36,7 +37,7 @@ impl Header {
 }
 
 // The number that four bytes spell, the low one first.
-#[tactic(auto, unfolding(crate::specs::Messages::number_of_four))]
+#[tactic(auto, unfolding(vert_base::specs::HeaderBytes::number_of_four))]
 fn number_of(bytes: &[u8]) -> u32
     requires { length bytes.now ≡ 4 }
     ensures { result ≡ number_of_four bytes.now }
@@ -72,7 +73,7 @@ fn code_of(kind: NameKind) -> u8
 }
 
 // Writes a number at the end of bytes.
-#[tactic(auto, unfolding(crate::specs::Messages::four_bytes))]
+#[tactic(auto, unfolding(vert_base::specs::HeaderBytes::four_bytes))]
 fn push_four(bytes: &mut Vec<u8>, number: u32) -> Result<(), AllocError>
     ensures { OnOk result (bytes.new.items ≡ bytes.old.items ++ four_bytes number) }
 {

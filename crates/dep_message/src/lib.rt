@@ -7,12 +7,8 @@ mod fault;
 mod fitting;
 mod header;
 mod laws;
-#[cfg(test)]
-mod part_tests;
 mod rows;
 mod sends;
-#[cfg(test)]
-mod tests;
 mod updates;
 
 pub use coding::{decode, encode};

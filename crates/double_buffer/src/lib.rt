@@ -5,8 +5,6 @@ mod laws;
 mod names;
 mod places;
 mod slots;
-#[cfg(test)]
-mod tests;
 
 pub use laws::by_name;
 pub use slots::Slots;

@@ -8,6 +8,3 @@ mod messages;
 
 pub use flight::Flight;
 pub use laws::by_name;
-
-#[cfg(test)]
-mod tests;

@@ -6,8 +6,6 @@ mod laws;
 mod print;
 mod segment;
 mod split;
-#[cfg(test)]
-mod tests;
 
 pub use laws::segments_are_the_loop;
 pub use print::print_split;

@@ -36,28 +36,3 @@ pub fn ruling(
         }
     }
 }
-
-#[cfg(test)]
-mod tests {
-    use super::*;
-
-    #[test]
-    fn rules_by_cases(rt: HostRuntime) {
-        // The active vertices, the edges from them and all edges; the round and the limit.
-        for (active, active_edges, edges, round, limit, mode, want) in [
-            (0, 0, 100, 1, 9, Mode::Dense, Ruling::Stop),
-            (1, 5, 100, 1, 0, Mode::Dense, Ruling::Stop),
-            (1, 5, 100, 10, 9, Mode::Sparse, Ruling::Stop),
-            (1, 5, 100, 9, 9, Mode::Auto, Ruling::Sparse),
-            (1, 6, 100, 9, 9, Mode::Auto, Ruling::Dense),
-            (100, 0, 0, 1, 1, Mode::Auto, Ruling::Sparse),
-            (1, 0, 100, 1, 1, Mode::Dense, Ruling::Dense),
-            (1, 100, 100, 1, 1, Mode::Sparse, Ruling::Sparse),
-        ] {
-            assert_eq!(rt;
-                ruling(active, active_edges, edges, round, limit, mode),
-                want
-            );
-        }
-    }
-}

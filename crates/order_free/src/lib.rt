@@ -7,8 +7,6 @@ mod forms;
 mod freedom;
 mod laws;
 mod reads;
-#[cfg(test)]
-mod tests;
 
 pub use answer::free;
 pub use freedom::Freedom;

@@ -4,6 +4,3 @@
 mod laws;
 
 pub use laws::{order_free_loops, order_free_runs};
-
-#[cfg(test)]
-mod tests;

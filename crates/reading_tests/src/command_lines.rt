@@ -1,6 +1,6 @@
 use std::alloc::{AllocError, Global};
 use std::test::Fail;
-use symple_words::{GraphForm, Job, Line, WordFault, read_words};
+use symple_words::{GraphForm, Job, Line, read_words};
 
 /// Words with one space between each two, and the command with its parts and the flags that stand, or the fault.
 static WORDS: &str = "run bfs g1 --machines 1 --rounds => run bfs g1 rounds draws 0 machines 1
@@ -177,15 +177,14 @@ fn put_form(out: &mut String, form: &GraphForm) -> Result<(), AllocError> {
     if let Some(vertices) = form.vertices {
         write!(out, " vertices {vertices}")?;
     }
-    let &GraphForm {
-        both,
-        binary,
-        weighted,
-        ..
-    } = form;
+    let form = *form;
     put_flags(
         out,
-        &[(both, "both"), (binary, "binary"), (weighted, "weighted")],
+        &[
+            (form.both, "both"),
+            (form.binary, "binary"),
+            (form.weighted, "weighted"),
+        ],
     )
 }
 

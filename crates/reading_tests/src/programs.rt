@@ -1,7 +1,7 @@
 use crate::accepted::ACCEPTED;
 use crate::controls::with_controls;
 use crate::refused::REFUSED;
-use program_reader::{ProgramFault, Refusal, Stage, accepted_once, read_program};
+use program_reader::{ProgramFault, Stage, accepted_once, read_program};
 use sample_programs::{HALVE, edited, program_named};
 use std::alloc::{AllocError, Global};
 use std::process::Abort;
@@ -40,17 +40,13 @@ fn letter(stage: Stage) -> &'static str {
 pub(crate) fn told(alloc: Global, text: &str) -> Result<String, AllocError> {
     match read_program(alloc, text.as_bytes()) {
         Ok(_) => String::from_str(alloc, "accepted"),
-        Err(
-            ProgramFault::Refused(
-                Refusal {
-                    stage,
-                    number,
-                    span,
-                },
-            ),
-        ) => {
-            let letter = letter(stage);
-            format!(in alloc; "{letter}{number} at {}:{}", span.line, span.column)
+        Err(ProgramFault::Refused(refusal)) => {
+            let letter = letter(refusal.stage);
+            let span = refusal.span;
+            format!(in alloc;
+                "{letter}{} at {}:{}",
+                refusal.number, span.line, span.column
+            )
         }
         Err(ProgramFault::Want) => String::from_str(alloc, "out of memory"),
     }

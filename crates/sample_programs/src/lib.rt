@@ -1,11 +1,14 @@
-//! Texts that tests share: the example programs, other programs and the graphs of the examples.
+//! Texts that tests share: the example programs, other programs and the graphs of the examples; and how
+//! the lines of their tables are read.
 #![tactic(auto)]
 
+mod cells;
 mod graphs;
 mod others;
 mod programs;
 mod text;
 
+pub use cells::{Cells, plain};
 pub use graphs::{
     DIAMOND, EMPTY, ONE_EDGE, PATH, THREE_INTO_ONE, TRIANGLE_WITH_TAIL, TWO_INTO_ONE,
     WEIGHTED_CYCLE, WEIGHTED_INTO_ONE,

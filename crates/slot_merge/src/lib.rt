@@ -6,6 +6,3 @@ mod partial;
 
 pub use laws::merging;
 pub use partial::{Emits, Partial};
-
-#[cfg(test)]
-mod tests;

@@ -24,6 +24,3 @@ pub use outside::{
 };
 pub use part::Part;
 pub use report::Report;
-
-#[cfg(test)]
-mod tests;

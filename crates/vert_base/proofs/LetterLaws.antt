@@ -6,7 +6,7 @@ use Rattle.vert_base.specs.declared.message.Name.{Name}
 use Rattle.vert_base.specs.declared.message.NameKind.{NameKind}
 use Rattle.vert_base.specs.declared.message.NameKind.TheVariants.{Refresh, Dep, Update, Push, Tally, Verdict}
 use Rattle.vert_base.specs.Names.{kind_place, numbers_of, is_before, same_name, same_numbers}
-use Rattle.vert_base.specs.Letters.{Letter, found, placed, without, Ascends, IsMissing, NamesAreTheirNumbers, PlacedIsFound, TakenIsGone}
+use Rattle.vert_base.specs.Letters.{Letter, found, placed, without, Ascends, IsMissing, NamesAreTheirNumbers, PlacedIsFound, SameLetters, TakenIsGone}
 use Rattle.vert_base.proofs.NameOrder.{apart, apart_back, total, along}
 
 -- every one is behind x
@@ -235,3 +235,51 @@ found_name x (z ∷ zs) y e = found_name_step x z y (found x zs) (same_name z.na
 -- a name whose message was taken out has nothing
 pub taken_none : (x : Name) (ms : List Letter) → Ascends ms → found x (without x ms) ≡ None
 taken_none x ms up = taken_law x ms x up ∙ ap (λ (b : Bool). if b then None else found x ms) (same_self (numbers_of x))
+
+-- ---- a list is settled by what each name has
+head_found : (m : Letter) (ms : List Letter) → found m.name (m ∷ ms) ≡ Some m
+head_found m ms = ap (λ (b : Bool). if b then Some m else found m.name ms) (same_self (numbers_of m.name))
+
+-- a message that is found isn't before all of them
+not_before : (m n : Letter) (ns : List Letter) → Ascends (n ∷ ns) → found m.name (n ∷ ns) ≡ Some m → is_before m.name n.name ≡ false
+not_before m n ns up e =
+    not_true (is_before m.name n.name) (λ before.
+    let gone = (none_behind m.name (n ∷ ns) (before, behind_along m.name n.name ns before up.0)).missing in
+    let clash : ◌≡◌ {A = Option Letter} None (Some m) = sym gone ∙ e in
+    cc)
+
+-- the first messages are the same
+heads : (m n : Letter) (ms ns : List Letter) → Ascends (m ∷ ms) → Ascends (n ∷ ns) → found m.name (n ∷ ns) ≡ Some m → found n.name (m ∷ ms) ≡ Some n → m ≡ n
+heads m n ms ns up vp e f = go (same_name n.name m.name) refl
+  where
+    go : (b : Bool) → same_name n.name m.name ≡ b → m ≡ n
+    go true same =
+        let it : Some n ≡ Some m = sym (ap (λ (b : Bool). if b then Some n else found m.name ns) same) ∙ e in
+        cc
+    go false other =
+        let less : is_before m.name n.name ≡ true = total (numbers_of n.name) (numbers_of m.name) (not_before n m ms up f) other in
+        let clash : true ≡ false = sym less ∙ not_before m n ns vp e in
+        absurd cc
+
+-- what a name has behind the first message
+tail_step : (x : Name) (m : Letter) (ms ns : List Letter) (b : Bool) → same_name m.name x ≡ b → Ascends (m ∷ ms) → Ascends (m ∷ ns) →
+    (if b then Some m else found x ms) ≡ (if b then Some m else found x ns) → found x ms ≡ found x ns
+tail_step x m ms ns true same up vp e =
+    let is : m.name ≡ x = names_law m.name x same in
+    (none_behind x ms (subst (λ n. Behind n ms) is up.0)).missing ∙ sym (none_behind x ns (subst (λ n. Behind n ns) is vp.0)).missing
+tail_step x m ms ns false other up vp e = e
+
+pub same_law : SameLetters
+same_law [] [] up vp e = refl
+same_law [] (n ∷ ns) up vp e =
+    let clash : ◌≡◌ {A = Option Letter} None (Some n) = e n.name ∙ head_found n ns in
+    absurd cc
+same_law (m ∷ ms) [] up vp e =
+    let clash : ◌≡◌ {A = Option Letter} None (Some m) = sym (e m.name) ∙ head_found m ms in
+    absurd cc
+same_law (m ∷ ms) (n ∷ ns) up vp e =
+    let first : m ≡ n = heads m n ms ns up vp (sym (e m.name) ∙ head_found m ms) (e n.name ∙ head_found n ns) in
+    let vp' : Ascends (m ∷ ns) = subst (λ l. Ascends (l ∷ ns)) (sym first) vp in
+    let rest : ms ≡ ns = same_law ms ns up.1 vp'.1 (λ x.
+    tail_step x m ms ns (same_name m.name x) refl up vp' (e x ∙ ap (λ l. found x (l ∷ ns)) (sym first))) in
+    ap (λ l. l ∷ ms) first ∙ ap (λ l. n ∷ l) rest

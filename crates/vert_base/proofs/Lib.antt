@@ -1,2 +1,4 @@
 pub mod NameOrder
 pub mod LetterLaws
+pub mod TextLaws
+pub mod Orders

@@ -49,3 +49,7 @@ PlacedIsFound = (m : Letter) (ms : List Letter) (x : Name) → found x (placed m
 -- after the message of a name was taken out, the name has nothing, and every other name what it had
 abbrev pub TakenIsGone : Type 0
 TakenIsGone = (y : Name) (ms : List Letter) (x : Name) → Ascends ms → found x (without y ms) ≡ (if same_name y x then None else found x ms)
+
+-- two lists in the order of names are one list where each name has the same in both
+abbrev pub SameLetters : Type 0
+SameLetters = (ms ns : List Letter) → Ascends ms → Ascends ns → ((x : Name) → found x ms ≡ found x ns) → ms ≡ ns

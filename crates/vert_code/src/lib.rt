@@ -8,8 +8,6 @@ mod instr;
 mod list;
 mod program;
 mod statement;
-#[cfg(test)]
-mod tests;
 
 pub use code::Code;
 pub use instr::{Block, Instr};

@@ -5,8 +5,6 @@
 mod cells;
 mod environment;
 mod laws;
-#[cfg(test)]
-mod tests;
 mod value;
 mod words;
 

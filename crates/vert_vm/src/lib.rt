@@ -6,8 +6,6 @@ mod machine;
 mod operations;
 mod segment;
 mod stack;
-#[cfg(test)]
-mod tests;
 
 pub use block::step_block;
 pub use segment::step_segment;

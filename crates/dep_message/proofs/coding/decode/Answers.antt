@@ -1,5 +1,6 @@
 use Rattle.std.proofs.Common.{Some, sym, ap, ◌∙◌, drop, arith}
-use Rattle.dep_message.specs.Messages.{forms_of, refusal_of_named, spelled_message}
+use Rattle.vert_base.specs.HeaderBytes.{spelled_message}
+use Rattle.dep_message.specs.Messages.{forms_of, refusal_of_named}
 use Rattle.dep_message.proofs.MessageLaws.{behind_header, once_law, read_from_accepted}
 use Rattle.dep_message.proofs.coding.decode.Goals as goal
 
