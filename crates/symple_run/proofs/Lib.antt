@@ -1,5 +1,6 @@
 pub mod ComesLaws
 pub mod CourseLaws
+pub mod FlushLaws
 pub mod HeadLaws
 pub mod LeavesLaws
 pub mod LineLaws
