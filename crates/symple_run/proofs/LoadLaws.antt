@@ -1,6 +1,6 @@
 -- What a load tells of the file under a name, and what it leaves of the shelf.
-use Rattle.std.proofs.Common.{◌≡◌, ◌≢◌, ℕ, ◌+◌, ◌<◌, List, length, Option, Some, None, Result, Ok, Err, refl, sym, ap, subst, ◌∙◌, arith, replicate}
-use Rattle.std.specs.Prelude.{IsSomeAnd, Vec}
+use Rattle.std.proofs.Common.{◌≡◌, ◌≢◌, ℕ, ◌+◌, ◌<◌, ◌≤◌, List, length, Option, Some, None, Result, Ok, Err, refl, sym, ap, subst, ◌∙◌, arith, replicate}
+use Rattle.std.specs.Prelude.{IsSomeAnd, Vec, vec_len}
 use Rattle.std.specs.Global.{Global}
 use Rattle.std.proofs.lemmas.List.{length-replicate}
 use Rattle.outside.specs.declared.shelf.LoadFault.{LoadFault}
@@ -81,3 +81,7 @@ module _ (old new : Kept) (files : new.files ≡ old.files) (stores : new.stores
         (unread : List ℕ) → unread ≡ name → ((told : List File) → old.files ≡ Some told → (file_named name told ≡ None) × (new.loads ≡ old.loads)) →
         (old.files ≡ None → Rose old.loads new.loads) → CannotLoad name limit too_long old new (NoLoad unread)
     is_missing unread same told rose = missing_by old.files refl unread same told rose
+
+-- the length of a vector is that of its list
+pub within_items : (bytes : Vec ℕ Global) (limit : ℕ) → vec_len bytes ≤ limit → length bytes.items ≤ limit
+within_items bytes limit within = omega (arith, within, bytes.ok.0)

@@ -80,6 +80,10 @@ module _ (courses : Play → Course → Type 0) where
 
   -- ---- words
 
+  -- what an order leaves, another leaves that is the same
+  pub as_order : (first second : Order) (w after : Outside) (outcome : Option Fault) → first ≡ second → Leaves courses first w after outcome → Leaves courses second w after outcome
+  as_order first second w after outcome same leaves = let P : Order → Type 0 = λ o. Leaves courses o w after outcome in subst P same leaves
+
   -- a line that isn't performed
   pub refuses : (fault : Fault) (w : Outside) → Leaves courses (Refuses fault) w w (Some fault)
   refuses fault w = Refused (record { same = refl; fault_is = refl })

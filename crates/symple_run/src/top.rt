@@ -1,4 +1,5 @@
-ghost use Rattle.std.specs.Prelude.{◌≡◌, ◌≤◌, IfOk, map};
+ghost use Rattle.std.specs.Prelude.{◌≡◌, ◌≤◌, IfOk, None, option_map};
+ghost use Rattle.std.specs.String.{string_bytes};
 ghost use Rattle.chunk_split.specs.Bounds.{ends_of};
 ghost use Rattle.edge_reader.specs.Gives.{graph_of_edges};
 ghost use Rattle.symple_run.specs.Commands.{asked, order_of, plan_order, play_of, run_order};
@@ -7,6 +8,7 @@ ghost use Rattle.symple_run.specs.Outputs.{plan_text, play_text};
 ghost use Rattle.symple_run.specs.States.{input_state, outside, shelf_state, sink_state};
 ghost use Rattle.symple_run.specs.SourceRuns.{IsSourceRun};
 ghost use Rattle.symple_run.specs.Walks.{Performs, Plays};
+ghost use Rattle.symple_words.specs.Lines.{RunOf};
 ghost use Rattle.symple_words.specs.Ranges.{AreMachines, IsGraphForm, IsWithin};
 ghost use Rattle.symple_words.specs.Views.{job_view, line_view, words_of};
 
@@ -117,6 +119,48 @@ fn lay_out<O: Sink>(alloc: Global, machines: u8, edges: &Edges, out: &mut O) -> 
     Ok(())
 }
 
+/// Runs a line of `run` without `--image`. One with `--log` is not built yet.
+fn run_unlogged<H: Shelf, O: Sink>(
+    alloc: Global,
+    job: &Job,
+    machines: u8,
+    shelf: &mut H,
+    out: &mut O,
+) -> Result<(), Failure>
+    requires form { IsGraphForm job.now.form }
+    requires few { AreMachines machines }
+    ensures order { Performs H.files H.loads H.stores O.held O.faults O.spare
+        (asked (RunOf (job_view job.now) machines None)) shelf.old shelf.new out.old out.new result }
+    ensures later { H.loads shelf.old ≤ H.loads shelf.new }
+{
+    if job.lines.log {
+        return Err(Failure::Words);
+    }
+    run(alloc, job, machines, shelf, out)
+}
+
+/// Runs a line of `run`. One with `--image` is not built yet.
+fn run_line<H: Shelf, O: Sink>(
+    alloc: Global,
+    job: &Job,
+    machines: u8,
+    image: &Option<String>,
+    shelf: &mut H,
+    out: &mut O,
+) -> Result<(), Failure>
+    requires form { IsGraphForm job.now.form }
+    requires few { AreMachines machines }
+    ensures order { Performs H.files H.loads H.stores O.held O.faults O.spare
+        (asked (RunOf (job_view job.now) machines (option_map (λ name. string_bytes name) image.now)))
+        shelf.old shelf.new out.old out.new result }
+    ensures later { H.loads shelf.old ≤ H.loads shelf.new }
+{
+    match image {
+        Some(_) => Err(Failure::Words),
+        None => run_unlogged(alloc, job, machines, shelf, out),
+    }
+}
+
 /// Performs a line. One that is not built yet is refused as if it weren't there.
 fn perform<H: Shelf, O: Sink>(
     alloc: Global,
@@ -130,13 +174,11 @@ fn perform<H: Shelf, O: Sink>(
     ensures later { H.loads shelf.old ≤ H.loads shelf.new }
 {
     match line {
-        Line::RunLine { image: Some(_), .. } => Err(Failure::Words),
-        Line::RunLine { job, machines, .. } => {
-            if job.lines.log {
-                return Err(Failure::Words);
-            }
-            run(alloc, job, *machines, shelf, out)
-        }
+        Line::RunLine {
+            job,
+            machines,
+            image,
+        } => run_line(alloc, job, *machines, image, shelf, out),
         Line::PlanLine {
             graph,
             form,

@@ -11,7 +11,7 @@ pub returns-in_err-put_text : goal.returns-in_err-put_text
 returns-in_err-put_text g c =
     let old = sink_state g.O.Sink.held g.O.Sink.faults g.O.Sink.spare c.args.out.now in
     let new = sink_state g.O.Sink.held g.O.Sink.faults g.O.Sink.spare c.put_text.new.out in
-    let P : List ℕ → Type 0 = λ text. HandsOn text old new (Err c.in_err-put_text.field-0) in
+    let P : List ℕ → Type 0 = λ text. HandsOn text old new (Err c.in_err-put_text.field-0.0) in
     let p = err_from_is_err_and c.from_residual-in_err-put_text.result c.from_residual-in_err-put_text.ensures.1 in
     rw (p.1, p.2) (subst P (c.as_bytes.ensures.value ∙ c.in_ok-text.ensures) c.in_err-put_text.ensures)
 

@@ -22,4 +22,4 @@ returns g c =
     let rows = c.args.played.now.rows.items in
     let P : List Row → Type 0 = λ rs. Writes g.O.Sink.held g.O.Sink.faults g.O.Sink.spare c.write_rounds.new.out c.write_table.new.out (table_text p rs) c.write_table.result in
     writes_same (rounds_then_table c.args.lines.now p c.deref.result.now c.args.played.now.rounds.items rows c.deref.ensures.value)
-    (writes_then _ c.in_ok-write_rounds.ensures (subst P c.deref-in-Ok.ensures.value c.write_table.ensures))
+    (writes_then _ c.in_ok-write_rounds.ensures (subst P c.deref-2.ensures.value c.write_table.ensures))

@@ -21,7 +21,7 @@ returns-in_err-typed-clause-order g c =
     let next : Program → Order = λ program. with_graph job.form job.graph (λ graph. Runs (play_of job c.args.machines program graph) follows) in
     let P : List ℕ → Type 0 = λ name.
     GivesProgram (shelf_state g.H.Shelf.files g.H.Shelf.loads g.H.Shelf.stores c.args.shelf.now)
-      (shelf_state g.H.Shelf.files g.H.Shelf.loads g.H.Shelf.stores c.load_program.new.shelf) name (Err c.in_err-typed.field-0) in
+      (shelf_state g.H.Shelf.files g.H.Shelf.loads g.H.Shelf.stores c.load_program.new.shelf) name (Err c.in_err-typed.field-0.0) in
     let p = err_from_is_err_and c.from_residual.result c.from_residual.ensures.1 in
     rw (p.1, p.2) (λ input. program_stops IsSourceRun _ _ job.program _ (subst P c.deref.ensures c.in_err-typed.ensures.program) next _ input)
 
@@ -33,9 +33,9 @@ returns-in_err-edges-clause-order g c =
     let old = shelf_state g.H.Shelf.files g.H.Shelf.loads g.H.Shelf.stores c.args.shelf.now in
     let mid = shelf_state g.H.Shelf.files g.H.Shelf.loads g.H.Shelf.stores c.load_program.new.shelf in
     let new = shelf_state g.H.Shelf.files g.H.Shelf.loads g.H.Shelf.stores c.load_graph.new.shelf in
-    let typed = c.in_ok-typed.field-0 in
+    let typed = c.in_ok-typed.typed in
     let P : List ℕ → Type 0 = λ name. GivesProgram old mid name (Ok typed) in
-    let Q : List ℕ → Type 0 = λ name. GivesGraph mid new job.form name (Err c.in_err-edges.field-0) in
+    let Q : List ℕ → Type 0 = λ name. GivesGraph mid new job.form name (Err c.in_err-edges.field-0.0) in
     let out = sink_state g.O.Sink.held g.O.Sink.faults g.O.Sink.spare c.args.out.now in
     let p = err_from_is_err_and c.from_residual-in_err-edges.result c.from_residual-in_err-edges.ensures.1 in
     rw (p.1, p.2) (λ input. program_goes IsSourceRun old mid job.program typed (subst P c.deref.ensures c.in_ok-typed.ensures.program) next out input _ _
@@ -49,8 +49,8 @@ returns-clause-order g c =
     let old = shelf_state g.H.Shelf.files g.H.Shelf.loads g.H.Shelf.stores c.args.shelf.now in
     let mid = shelf_state g.H.Shelf.files g.H.Shelf.loads g.H.Shelf.stores c.load_program.new.shelf in
     let new = shelf_state g.H.Shelf.files g.H.Shelf.loads g.H.Shelf.stores c.load_graph.new.shelf in
-    let typed = c.in_ok-typed.field-0 in
-    let edges = c.in_ok-edges.field-0 in
+    let typed = c.in_ok-typed.typed in
+    let edges = c.in_ok-edges.edges in
     let P : List ℕ → Type 0 = λ name. GivesProgram old mid name (Ok typed) in
     let Q : List ℕ → Type 0 = λ name. GivesGraph mid new job.form name (Ok edges) in
     let out = sink_state g.O.Sink.held g.O.Sink.faults g.O.Sink.spare c.args.out.now in
