@@ -14,7 +14,7 @@ use Rattle.vert_base.specs.declared.graph.VertexId.{VertexId}
 use Rattle.vert_base.specs.Neighbours.{AreBelow, source, target, in_order, ins_of, outs_of}
 use Rattle.chunk_split.specs.Chunks.{AreEnds, vertices_of}
 use Rattle.circulant_plan.specs.Ring.{lies_in, start_of}
-use Rattle.circulant_plan.proofs.SpanLaws.{in_order_rises}
+use Rattle.vert_base.proofs.Orders.{in_order_rises}
 use Rattle.symple_face.specs.declared.degree.Degree.{Degree}
 use Rattle.symple_face.specs.Parts.{PlainPart, chunk_vertices, degree_in, ends_met, for_others, lists_of, push_list, refresh_list}
 use Rattle.symple_face.specs.PartsOf.{known_of, part_of, push_of, scan_of}

@@ -1,0 +1,5 @@
+pub mod Keys
+pub mod Members
+pub mod Planned
+pub mod Sums
+pub mod Vertices
