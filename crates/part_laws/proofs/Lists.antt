@@ -11,12 +11,18 @@ use Rattle.part_laws.specs.Vertices.{are_some}
 
 pub some-filter : {X : Type 0} (test : X → Bool) (xs : List X) → are_some (filter test xs) ≡ list_any test xs
 some-filter test [] = refl
-some-filter test (x ∷ xs) = elim (test x) as (λ b. are_some (cond b (x ∷ filter test xs) (filter test xs)) ≡ (b || list_any test xs)) [ true ↦ refl | false ↦ some-filter test xs ]
+some-filter test (x ∷ xs) =
+    elim (test x) as
+    (λ b. are_some (cond b (x ∷ filter test xs) (filter test xs)) ≡
+    (b || list_any test xs)) [ true ↦ refl | false ↦ some-filter test xs ]
 
-pub any-filter : {X : Type 0} (test kept : X → Bool) (xs : List X) → list_any test (filter kept xs) ≡ list_any (λ x. kept x && test x) xs
+pub any-filter :
+    {X : Type 0} (test kept : X → Bool) (xs : List X) →
+    list_any test (filter kept xs) ≡ list_any (λ x. kept x && test x) xs
 any-filter test kept [] = refl
 any-filter test kept (x ∷ xs) =
-    elim (kept x) as (λ b. list_any test (cond b (x ∷ filter kept xs) (filter kept xs)) ≡ ((b && test x) || list_any (λ x. kept x && test x) xs))
+    elim (kept x) as (λ b. list_any test (cond b (x ∷ filter kept xs) (filter kept xs)) ≡
+    ((b && test x) || list_any (λ x. kept x && test x) xs))
     [ true ↦ ap (λ b. test x || b) (any-filter test kept xs) | false ↦ any-filter test kept xs ]
 
 pub any_same : {X : Type 0} (p q : X → Bool) (xs : List X) → ((x : X) → p x ≡ q x) → list_any p xs ≡ list_any q xs
@@ -31,12 +37,17 @@ pub any_and : {X : Type 0} (b : Bool) (q : X → Bool) (xs : List X) → list_an
 any_and true q xs = refl
 any_and false q xs = any_false q xs
 
-pub any-flat_map : {X Y : Type 0} (test : Y → Bool) (f : X → List Y) (xs : List X) → list_any test (flat_map f xs) ≡ list_any (λ x. list_any test (f x)) xs
+pub any-flat_map :
+    {X Y : Type 0} (test : Y → Bool) (f : X → List Y) (xs : List X) →
+    list_any test (flat_map f xs) ≡ list_any (λ x. list_any test (f x)) xs
 any-flat_map test f [] = refl
-any-flat_map test f (x ∷ xs) = list_any-append test (f x) (flat_map f xs) ∙ ap (λ b. list_any test (f x) || b) (any-flat_map test f xs)
+any-flat_map test f (x ∷ xs) = list_any-append test (f x) (flat_map f xs)
+    ∙ ap (λ b. list_any test (f x) || b) (any-flat_map test f xs)
 
 -- where one test passes, another one does
-pub any_more : {X : Type 0} (p q : X → Bool) (xs : List X) → AllByRecursion (λ x. p x ≡ true → q x ≡ true) xs → list_any p xs ≡ true → list_any q xs ≡ true
+pub any_more :
+    {X : Type 0} (p q : X → Bool) (xs : List X) → AllByRecursion (λ x. p x ≡ true → q x ≡ true) xs →
+    list_any p xs ≡ true → list_any q xs ≡ true
 any_more p q [] all h = h
 any_more p q (x ∷ xs) all h =
     ⊎_elim
@@ -68,13 +79,16 @@ any_range v a (suc n) low high =
     (cases_Bool (a == v))
 
 -- a number passes a test of which it is found among those that pass
-pub any_kept : (test : ℕ → Bool) (v : ℕ) (xs : List ℕ) → test v ≡ true → list_any (λ u. u == v) xs ≡ true → list_any (λ u. u == v) (filter test xs) ≡ true
+pub any_kept :
+    (test : ℕ → Bool) (v : ℕ) (xs : List ℕ) → test v ≡ true → list_any (λ u. u == v) xs ≡ true →
+    list_any (λ u. u == v) (filter test xs) ≡ true
 any_kept test v xs passes h =
     any-filter (λ u. u == v) test xs
     ∙ (any_same (λ u. test u && (u == v)) (λ u. u == v) xs (λ u.
     ⊎_elim
     (λ (here : (u == v) ≡ true). let at : test u ≡ true = ap test (eqb-true u v here) ∙ passes in rw at refl)
-    (λ (other : (u == v) ≡ false). rw other (elim (test u) as (λ b. (b && false) ≡ false) [ true ↦ refl | false ↦ refl ]))
+    (λ (other : (u == v) ≡ false). rw other
+    (elim (test u) as (λ b. (b && false) ≡ false) [ true ↦ refl | false ↦ refl ]))
     (cases_Bool (u == v)))
     ∙ h)
 
@@ -85,5 +99,8 @@ some_by_length [] (y ∷ ys) e = absurd (omega arith)
 some_by_length (x ∷ xs) [] e = absurd (omega arith)
 some_by_length (x ∷ xs) (y ∷ ys) e = refl
 
-pub some-in_order : {X : Type 0} (key : X → ℕ) (n : ℕ) (xs : List X) → AllByRecursion (λ x. key x < n) xs → are_some (in_order key n xs) ≡ are_some xs
-some-in_order key n xs low = some_by_length (in_order key n xs) xs (start_all key n xs (All-from_recursion (λ x. key x < n) xs low))
+pub some-in_order :
+    {X : Type 0} (key : X → ℕ) (n : ℕ) (xs : List X) → AllByRecursion (λ x. key x < n) xs →
+    are_some (in_order key n xs) ≡ are_some xs
+some-in_order key n xs low =
+    some_by_length (in_order key n xs) xs (start_all key n xs (All-from_recursion (λ x. key x < n) xs low))

@@ -39,6 +39,7 @@ steps_members ends p d count members =
 
 pub scans_in_turn : ScansReadInTurn
 scans_in_turn ends edges p d v are lt lies within =
-    flat_map_same (λ step. bucket target v (scan_of ends edges (order_of d step p))) (λ step. members_with ends (order_of d step p) (ins_of (vertices_of ends) edges v)) (range_with_len 0 p)
+    flat_map_same (λ step. bucket target v (scan_of ends edges (order_of d step p)))
+    (λ step. members_with ends (order_of d step p) (ins_of (vertices_of ends) edges v)) (range_with_len 0 p)
     (all_true _ (λ step. scan_members ends edges (order_of d step p) v within) (range_with_len 0 p))
     ∙ reads_in_turn (vertices_of ends) p d v ends edges are lt lies

@@ -1,15 +1,15 @@
 -- The receiver of a planned message can take it.
-use Rattle.std.proofs.Common.{◌≡◌, ◌≢◌, ℕ, ◌+◌, ◌-◌, ◌<◌, ◌≤◌, Bool, true, false, not, ◌&&◌, refl, ap, sym, ◌∙◌, arith}
-use Rattle.std.specs.Prelude.{◌==◌, nat_le, nat_lt}
-use Rattle.std.proofs.lemmas.Bool.{and_parts, eqb-true, leb-true, ltb-true, true≢false}
+use Rattle.std.proofs.Common.{◌≡◌, ◌≢◌, ℕ, ◌-◌, ◌<◌, true, false, not, ap, sym, ◌∙◌, arith}
+use Rattle.std.specs.Prelude.{◌==◌}
+use Rattle.std.proofs.lemmas.Bool.{and_parts, eqb-true, leb-true, ltb-true}
 use Rattle.vert_base.specs.declared.message.Name.{Name}
 use Rattle.vert_base.specs.declared.message.NameKind.{NameKind}
 use Rattle.vert_base.specs.declared.message.NameKind.TheVariants.{Refresh, Dep, Update, Push, Tally, Verdict}
 use Rattle.circulant_plan.specs.declared.spot.Ring.{Ring}
-use Rattle.circulant_plan.specs.Ring.{after_machine, before_machine, chunk_of, order_of}
+use Rattle.circulant_plan.specs.Ring.{before_machine, order_of}
 use Rattle.circulant_plan.proofs.CircleLaws.{before_after, order_of_chunk}
-use Rattle.double_buffer.specs.Taking.{CanTake, CanTakeKind, IsOfRound, IsOfStep}
-use Rattle.symple_face.specs.Plans.{concerns, goes_by_plan, is_half, is_planned, is_whole, ring_of}
+use Rattle.double_buffer.specs.Taking.{CanTakeKind, IsOfRound, IsOfStep}
+use Rattle.symple_face.specs.Plans.{concerns, goes_by_plan, is_half, is_whole, ring_of}
 use Rattle.part_laws.specs.Planned.{PlannedCanBeTaken}
 
 -- from one machine of p to another one
@@ -31,7 +31,13 @@ goes p m x h =
 whole : (p : ℕ) (x : Name) → Goes p x → is_whole x ≡ true → IsOfRound p x
 whole p x g h =
     let both = and_parts _ _ h in
-    record { from = g.from; to = g.to; other = g.other; step = eqb-true x.step 0 both.0; half = eqb-true x.half 0 both.1 }
+    record {
+      from = g.from;
+      to = g.to;
+      other = g.other;
+      step = eqb-true x.step 0 both.0;
+      half = eqb-true x.half 0 both.1;
+    }
 
 half : (p sender : ℕ) (x : Name) → Goes p x → is_half p x ≡ true → x.from ≡ sender → IsOfStep p sender x
 half p sender x g h from =
@@ -39,14 +45,17 @@ half p sender x g h from =
     let early = ltb-true x.step (p - 1) both.0 in
     record { from = from; to = g.to; step = omega arith; half = leb-true x.half 1 both.1 }
 
-by_plan : (ring : Ring) (kind : NameKind) (x : Name) → Goes ring.machines x → goes_by_plan ring kind x ≡ true → CanTakeKind kind ring.machines x
+by_plan :
+    (ring : Ring) (kind : NameKind) (x : Name) → Goes ring.machines x → goes_by_plan ring kind x ≡ true →
+    CanTakeKind kind ring.machines x
 by_plan ring Refresh x g h = whole ring.machines x g h
 by_plan ring Push x g h = whole ring.machines x g h
 by_plan ring Dep x g h =
     let one = and_parts _ _ h in
     let two = and_parts _ _ one.1 in
     let p = ring.machines in
-    let from : x.from ≡ before_machine x.to p = sym (before_after x.from p g.from) ∙ ap (λ q. before_machine q p) (sym (eqb-true _ _ two.1)) in
+    let from : x.from ≡ before_machine x.to p = sym (before_after x.from p g.from)
+    ∙ ap (λ q. before_machine q p) (sym (eqb-true _ _ two.1)) in
     half p (before_machine x.to p) x g one.0 from
 by_plan ring Update x g h =
     let one = and_parts _ _ h in
@@ -54,7 +63,8 @@ by_plan ring Update x g h =
     let both = and_parts _ _ one.0 in
     let early = ltb-true x.step (p - 1) both.0 in
     let from : x.from ≡ order_of x.to x.step p =
-        sym (order_of_chunk p x.from x.step g.from (omega arith)) ∙ ap (λ q. order_of q x.step p) (sym (eqb-true _ _ one.1)) in
+    sym (order_of_chunk p x.from x.step g.from (omega arith))
+    ∙ ap (λ q. order_of q x.step p) (sym (eqb-true _ _ one.1)) in
     half p (order_of x.to x.step p) x g one.0 from
 by_plan ring Tally x g h = let both = and_parts _ _ h in (whole ring.machines x g both.0, eqb-true _ _ both.1)
 by_plan ring Verdict x g h = let both = and_parts _ _ h in (whole ring.machines x g both.0, eqb-true _ _ both.1)

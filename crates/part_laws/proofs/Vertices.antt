@@ -88,11 +88,14 @@ module _ (most : ℕ) (ends : List ℕ) (are : AreEnds most ends) where
       ∙ range_split a ((b - a) + (n - b)) 0 a (omega arith)
       ∙ ap (λ l. range_with_len 0 a ++ l) (range_split (b - a) (n - b) a b (omega arith)) in
       let low : filter (lies_in ends k) (range_with_len 0 a) ≡ [] =
-      filter_none (lies_in ends k) (range_with_len 0 a) (all_range (λ v. lies_in ends k v ≡ false) 0 a (λ v l h. not_below a b v (omega arith))) in
+      filter_none (lies_in ends k) (range_with_len 0 a)
+      (all_range (λ v. lies_in ends k v ≡ false) 0 a (λ v l h. not_below a b v (omega arith))) in
       let own : filter (lies_in ends k) (range_with_len a (b - a)) ≡ range_with_len a (b - a) =
-      filter_all (lies_in ends k) (range_with_len a (b - a)) (all_range (λ v. lies_in ends k v ≡ true) a (b - a) (λ v l h. lies_is a b v l (omega arith))) in
+      filter_all (lies_in ends k) (range_with_len a (b - a))
+      (all_range (λ v. lies_in ends k v ≡ true) a (b - a) (λ v l h. lies_is a b v l (omega arith))) in
       let high : filter (lies_in ends k) (range_with_len b (n - b)) ≡ [] =
-      filter_none (lies_in ends k) (range_with_len b (n - b)) (all_range (λ v. lies_in ends k v ≡ false) b (n - b) (λ v l h. not_above a b v l)) in
+      filter_none (lies_in ends k) (range_with_len b (n - b))
+      (all_range (λ v. lies_in ends k v ≡ false) b (n - b) (λ v l h. not_above a b v l)) in
       ap (filter (lies_in ends k)) parts
       ∙ filter-append (lies_in ends k) (range_with_len 0 a) (range_with_len a (b - a) ++ range_with_len b (n - b))
       ∙ ap (λ l. l ++ filter (lies_in ends k) (range_with_len a (b - a) ++ range_with_len b (n - b))) low
@@ -102,53 +105,67 @@ module _ (most : ℕ) (ends : List ℕ) (are : AreEnds most ends) where
       ∙ append-nil (range_with_len a (b - a))
 
   -- a filter of all vertices that passes those of a chunk alone
-  within_chunk : (k : ℕ) (p q : ℕ → Bool) → k < length ends → ((v : ℕ) → v < n → p v ≡ (lies_in ends k v && q v)) → filter p (range_with_len 0 n) ≡ filter q (chunk_vertices ends k)
+  within_chunk :
+      (k : ℕ) (p q : ℕ → Bool) → k < length ends → ((v : ℕ) → v < n → p v ≡ (lies_in ends k v && q v)) →
+      filter p (range_with_len 0 n) ≡ filter q (chunk_vertices ends k)
   within_chunk k p q lt h =
-      filter_same p (λ v. lies_in ends k v && q v) (range_with_len 0 n) (all_range (λ v. p v ≡ (lies_in ends k v && q v)) 0 n (λ v low high. h v (omega arith)))
+      filter_same p (λ v. lies_in ends k v && q v) (range_with_len 0 n)
+      (all_range (λ v. p v ≡ (lies_in ends k v && q v)) 0 n (λ v low high. h v (omega arith)))
       ∙ sym (filter_filter q (lies_in ends k) (range_with_len 0 n))
       ∙ ap (filter q) (chunk_of_all k lt)
 
   module _ (edges : List Edge) (k m : ℕ) (kin : k < length ends) (min : m < length ends) where
     -- whether members of a vertex lie with machine m
-    members_any : (v : ℕ) → are_some (members_at ends edges m v) ≡ list_any (λ e. (target e == v) && lies_in ends m (source e)) edges
+    members_any :
+        (v : ℕ) →
+        are_some (members_at ends edges m v) ≡ list_any (λ e. (target e == v) && lies_in ends m (source e)) edges
     members_any v =
         let lies : Edge → Bool = λ e. lies_in ends m (source e) in
         let into : List Edge = bucket target v edges in
         let low : AllByRecursion (λ e. source e < n) (filter lies into) =
-        all_weaker (λ e. lies e ≡ true) (λ e. source e < n) (λ e h. lies_within most ends are m (source e) min h) (filter lies into) (all_passes lies into) in
+        all_weaker (λ e. lies e ≡ true) (λ e. source e < n)
+        (λ e h. lies_within most ends are m (source e) min h) (filter lies into) (all_passes lies into) in
         ap are_some (filter-in_order lies source n into)
         ∙ some-in_order source n (filter lies into) low
         ∙ some-filter lies into
         ∙ any-filter lies (λ e. target e == v) edges
 
-    pub refreshed_meet : refresh_list ends k m edges ≡ filter (λ v. are_some (members_at ends edges m v)) (chunk_vertices ends k)
+    pub refreshed_meet : refresh_list ends k m edges ≡ filter
+        (λ v. are_some (members_at ends edges m v)) (chunk_vertices ends k)
     refreshed_meet =
-        within_chunk k (λ v. list_any (λ e. target e == v) (edges_between ends m k edges)) (λ v. are_some (members_at ends edges m v)) kin
+        within_chunk k (λ v. list_any (λ e. target e == v) (edges_between ends m k edges))
+        (λ v. are_some (members_at ends edges m v)) kin
         (λ v lt.
         any-filter (λ e. target e == v) (λ e. lies_in ends m (source e) && lies_in ends k (target e)) edges
-        ∙ any_same (λ e. (lies_in ends m (source e) && lies_in ends k (target e)) && (target e == v)) (λ e. lies_in ends k v && ((target e == v) && lies_in ends m (source e))) edges
+        ∙ any_same (λ e. (lies_in ends m (source e) && lies_in ends k (target e)) && (target e == v))
+        (λ e. lies_in ends k v && ((target e == v) && lies_in ends m (source e))) edges
         (λ e. at_target (lies_in ends m (source e)) true (lies_in ends k) (target e) v)
         ∙ any_and (lies_in ends k v) (λ e. (target e == v) && lies_in ends m (source e)) edges
         ∙ ap (λ b. lies_in ends k v && b) (sym (members_any v)))
 
     -- whether machine k has edges from a vertex
-    pushes_any : (u : ℕ) → u < n → are_some (bucket source u (push_of ends edges k)) ≡ list_any (λ e. lies_in ends k (target e) && (source e == u)) edges
+    pushes_any : (u : ℕ) → u < n → are_some (bucket source u (push_of ends edges k)) ≡ list_any
+        (λ e. lies_in ends k (target e) && (source e == u)) edges
     pushes_any u lt =
         let lies : Edge → Bool = λ e. lies_in ends k (target e) in
         let own : List Edge = filter lies edges in
         let low : AllByRecursion (λ e. target e < n) own =
-        all_weaker (λ e. lies e ≡ true) (λ e. target e < n) (λ e h. lies_within most ends are k (target e) kin h) own (all_passes lies edges) in
+        all_weaker (λ e. lies e ≡ true) (λ e. target e < n)
+        (λ e h. lies_within most ends are k (target e) kin h) own (all_passes lies edges) in
         ap are_some (part-two_orders source target n own u lt)
         ∙ some-in_order target n (bucket source u own) (all_filter (λ e. target e < n) (λ e. source e == u) own low)
         ∙ some-filter (λ e. source e == u) own
         ∙ any-filter (λ e. source e == u) lies edges
 
-    pub pushed_meet : push_list ends m k edges ≡ filter (λ u. are_some (bucket source u (push_of ends edges k))) (chunk_vertices ends m)
+    pub pushed_meet : push_list ends m k edges ≡ filter
+        (λ u. are_some (bucket source u (push_of ends edges k))) (chunk_vertices ends m)
     pushed_meet =
-        within_chunk m (λ u. list_any (λ e. source e == u) (edges_between ends m k edges)) (λ u. are_some (bucket source u (push_of ends edges k))) min
+        within_chunk m (λ u. list_any (λ e. source e == u) (edges_between ends m k edges))
+        (λ u. are_some (bucket source u (push_of ends edges k))) min
         (λ u lt.
         any-filter (λ e. source e == u) (λ e. lies_in ends m (source e) && lies_in ends k (target e)) edges
-        ∙ any_same (λ e. (lies_in ends m (source e) && lies_in ends k (target e)) && (source e == u)) (λ e. lies_in ends m u && (lies_in ends k (target e) && (source e == u))) edges
+        ∙ any_same (λ e. (lies_in ends m (source e) && lies_in ends k (target e)) && (source e == u))
+        (λ e. lies_in ends m u && (lies_in ends k (target e) && (source e == u))) edges
         (λ e. at_source (lies_in ends m) (lies_in ends k (target e)) (source e) u)
         ∙ any_and (lies_in ends m u) (λ e. lies_in ends k (target e) && (source e == u)) edges
         ∙ ap (λ b. lies_in ends m u && b) (sym (pushes_any u lt)))
@@ -158,23 +175,30 @@ module _ (most : ℕ) (ends : List ℕ) (are : AreEnds most ends) where
     lists k = if k == m then chunk_vertices ends k else refresh_list ends k m edges
 
     -- the vertex is in some chunk
-    in_some_chunk : list_any (λ k. list_any (λ u. u == v) (chunk_vertices ends k)) (range_with_len 0 (length ends)) ≡ true
+    in_some_chunk : list_any
+        (λ k. list_any (λ u. u == v) (chunk_vertices ends k)) (range_with_len 0 (length ends)) ≡ true
     in_some_chunk =
         sym (any-flat_map (λ u. u == v) (chunk_vertices ends) (range_with_len 0 (length ends)))
         ∙ ap (list_any (λ u. u == v)) (chunks_cover most ends are)
         ∙ any_range v 0 n (omega arith) (omega arith)
 
-    knows_by : ((k : ℕ) → k < length ends → list_any (λ u. u == v) (chunk_vertices ends k) ≡ true → (k == m) ≡ false → list_any (λ u. u == v) (refresh_list ends k m edges) ≡ true) →
+    knows_by : ((k : ℕ) → k < length ends → list_any
+        (λ u. u == v) (chunk_vertices ends k) ≡ true → (k == m) ≡ false → list_any
+        (λ u. u == v) (refresh_list ends k m edges) ≡ true) →
         list_any (λ u. u == v) (known_of ends edges m) ≡ true
     knows_by h =
         any-flat_map (λ u. u == v) lists (range_with_len 0 (length ends))
-        ∙ any_more (λ k. list_any (λ u. u == v) (chunk_vertices ends k)) (λ k. list_any (λ u. u == v) (lists k)) (range_with_len 0 (length ends))
-        (all_range (λ k. list_any (λ u. u == v) (chunk_vertices ends k) ≡ true → list_any (λ u. u == v) (lists k) ≡ true) 0 (length ends)
+        ∙ any_more (λ k. list_any (λ u. u == v) (chunk_vertices ends k))
+        (λ k. list_any (λ u. u == v) (lists k)) (range_with_len 0 (length ends))
+        (all_range (λ k. list_any (λ u. u == v) (chunk_vertices ends k) ≡ true → list_any
+        (λ u. u == v) (lists k) ≡ true) 0 (length ends)
         (λ k low high here.
         ⊎_elim
-        (λ (own : (k == m) ≡ true). ap (λ b. list_any (λ u. u == v) (cond b (chunk_vertices ends k) (refresh_list ends k m edges))) own ∙ here)
+        (λ (own : (k == m) ≡ true). ap
+        (λ b. list_any (λ u. u == v) (cond b (chunk_vertices ends k) (refresh_list ends k m edges))) own ∙ here)
         (λ (other : (k == m) ≡ false).
-        ap (λ b. list_any (λ u. u == v) (cond b (chunk_vertices ends k) (refresh_list ends k m edges))) other ∙ h k (omega arith) here other)
+        ap (λ b. list_any (λ u. u == v) (cond b (chunk_vertices ends k) (refresh_list ends k m edges))) other
+        ∙ h k (omega arith) here other)
         (cases_Bool (k == m))))
         in_some_chunk
 
@@ -199,7 +223,8 @@ own_law most ends edges m v are min lies =
     let f : ℕ → List ℕ = λ k. if k == m then chunk_vertices ends k else refresh_list ends k m edges in
     let low = lies_low ends m v lies in
     let high = lies_high ends m v lies in
-    let here : list_any (λ u. u == v) (chunk_vertices ends m) ≡ true = any_range v (start_of ends m) (slice_index ends m - start_of ends m) low (omega arith) in
+    let here : list_any (λ u. u == v) (chunk_vertices ends m) ≡ true =
+    any_range v (start_of ends m) (slice_index ends m - start_of ends m) low (omega arith) in
     any-flat_map (λ u. u == v) f (range_with_len 0 (length ends))
     ∙ any_more (λ k. k == m) (λ k. list_any (λ u. u == v) (f k)) (range_with_len 0 (length ends))
     (all_range (λ k. (k == m) ≡ true → list_any (λ u. u == v) (f k) ≡ true) 0 (length ends)

@@ -15,4 +15,5 @@ KeysBelow = (n t u : ℕ) → t ≤ n → u < n → key_of n t u < n
 abbrev pub KeysRise : Type 0
 KeysRise =
     (n t v : ℕ) (edges : List Edge) → t ≤ n →
-    flat_map (λ k. bucket (λ e. key_of n t (source e)) k (turned t (ins_of n edges v))) (range_with_len 0 n) ≡ turned t (ins_of n edges v)
+    flat_map (λ k. bucket (λ e. key_of n t (source e)) k (turned t (ins_of n edges v))) (range_with_len 0 n)
+    ≡ turned t (ins_of n edges v)

@@ -1,3 +1,4 @@
+pub mod Chunks
 pub mod Keys
 pub mod Members
 pub mod Planned

@@ -23,10 +23,13 @@ PushMembers =
 abbrev pub StepsMembers : Type 0
 StepsMembers =
     (ends : List ℕ) (p d count : ℕ) (members : List Edge) →
-    members_by_steps ends p d 0 (count + 1) members ≡ members_by_steps ends p d 0 count members ++ members_with ends (order_of d count p) members
+    members_by_steps ends p d 0 (count + 1) members
+    ≡ members_by_steps ends p d 0 count members ++ members_with ends (order_of d count p) members
 
 -- what the machines of a chunk scan at a vertex of it, step by step, are its members in the order of its loop
 abbrev pub ScansReadInTurn : Type 0
 ScansReadInTurn =
-    (ends : List ℕ) (edges : List Edge) (p d v : ℕ) → AreEndsUpTo (vertices_of ends) p ends → d < p → IsInChunk ends d v → v < vertices_of ends →
-    flat_map (λ step. bucket target v (scan_of ends edges (order_of d step p))) (range_with_len 0 p) ≡ neighbours_of (vertices_of ends) ends edges v
+    (ends : List ℕ) (edges : List Edge) (p d v : ℕ) →
+    AreEndsUpTo (vertices_of ends) p ends → d < p → IsInChunk ends d v → v < vertices_of ends →
+    flat_map (λ step. bucket target v (scan_of ends edges (order_of d step p))) (range_with_len 0 p)
+    ≡ neighbours_of (vertices_of ends) ends edges v

@@ -28,13 +28,15 @@ SumsByChunks =
 abbrev pub CountsByChunks : Type 0
 CountsByChunks =
     (most : ℕ) (ends : List ℕ) (test : ℕ → Bool) → AreEnds most ends →
-    sum (each (length ends) (λ m. length (filter test (chunk_vertices ends m)))) ≡ length (filter test (range_with_len 0 (vertices_of ends)))
+    sum (each (length ends) (λ m. length (filter test (chunk_vertices ends m))))
+    ≡ length (filter test (range_with_len 0 (vertices_of ends)))
 
 -- and a total over all vertices is the total of the totals over the chunks
 abbrev pub TotalsByChunks : Type 0
 TotalsByChunks =
     (most : ℕ) (ends : List ℕ) (op : Combine) (f : ℕ → ℤ) → AreEnds most ends → op ≢ First →
-    total_of op (each (length ends) (λ m. total_of op (map f (chunk_vertices ends m)))) ≡ total_of op (each (vertices_of ends) f)
+    total_of op (each (length ends) (λ m. total_of op (map f (chunk_vertices ends m))))
+    ≡ total_of op (each (vertices_of ends) f)
 
 -- the machines of the steps on a chunk are all machines, so a sum over the steps is one over the machines
 abbrev pub StepsAreMachines : Type 0

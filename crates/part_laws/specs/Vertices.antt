@@ -35,11 +35,13 @@ knows ends edges m v = list_any (λ u. u == v) (known_of ends edges m)
 -- a machine knows the degrees of its own vertices, and so those of the sources of all edges that it scans
 abbrev pub KnowsOwn : Type 0
 KnowsOwn =
-    (most : ℕ) (ends : List ℕ) (edges : List Edge) (m v : ℕ) → AreEnds most ends → m < length ends → lies_in ends m v ≡ true →
+    (most : ℕ) (ends : List ℕ) (edges : List Edge) (m v : ℕ) →
+    AreEnds most ends → m < length ends → lies_in ends m v ≡ true →
     knows ends edges m v ≡ true
 
 -- and those of each vertex that it works on, some of whose members lie with it
 abbrev pub KnowsWorked : Type 0
 KnowsWorked =
-    (most : ℕ) (ends : List ℕ) (edges : List Edge) (m v : ℕ) → AreEnds most ends → m < length ends → v < vertices_of ends →
+    (most : ℕ) (ends : List ℕ) (edges : List Edge) (m v : ℕ) →
+    AreEnds most ends → m < length ends → v < vertices_of ends →
     are_some (members_at ends edges m v) ≡ true → knows ends edges m v ≡ true

@@ -4,4 +4,6 @@
 
 mod laws;
 
-pub use laws::{chunk_sums, known_degrees, member_edges, met_vertices, planned_can_take, sparse_keys};
+pub use laws::{
+    chunk_sums, known_degrees, member_edges, met_vertices, one_chunk, planned_can_take, sparse_keys,
+};
