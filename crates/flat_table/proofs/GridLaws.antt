@@ -24,23 +24,29 @@ row_is width (suc count) (suc place) cells within =
 
 -- a value in one cell changes one row
 pub put_is : {T : Type 0} (width count place column : ℕ) (value : T) (cells : List T) → place < count → column < width →
-    rows_of width count (set cells (width * place + column) value) ≡ set (rows_of width count cells) place (set (get_or (rows_of width count cells) place []) column value)
+    rows_of width count (set cells (width * place + column) value)
+    ≡ set (rows_of width count cells) place (set (get_or (rows_of width count cells) place []) column value)
 put_is width zero place column value cells within inside = absurd (omega arith)
 put_is width (suc count) zero column value cells within inside =
     let first : width * 0 + column ≡ column = omega arith in
     ap (λ k. rows_of width (suc count) (set cells k value)) first
-    ∙ ap (λ row. row ∷ rows_of width count (drop width (set cells column value))) (take-set-lt width cells column value inside)
-    ∙ ap (λ rest. set (take width cells) column value ∷ rows_of width count rest) (drop-set-lt width cells column value inside)
+    ∙ ap (λ row. row ∷ rows_of width count (drop width (set cells column value)))
+    (take-set-lt width cells column value inside)
+    ∙ ap (λ rest. set (take width cells) column value ∷ rows_of width count rest)
+    (drop-set-lt width cells column value inside)
 put_is width (suc count) (suc place) column value cells within inside =
     let cell = width * place + column in
     let further : width * suc place + column ≡ width + (width * place + column) = omega arith in
     ap (λ k. rows_of width (suc count) (set cells k value)) further
-    ∙ ap (λ row. row ∷ rows_of width count (drop width (set cells (width + cell) value))) (take-set-le width cells (width + cell) value (omega arith))
+    ∙ ap (λ row. row ∷ rows_of width count (drop width (set cells (width + cell) value)))
+    (take-set-le width cells (width + cell) value (omega arith))
     ∙ ap (λ rest. take width cells ∷ rows_of width count rest) (drop-set-add width cells cell value)
-    ∙ ap (λ rows. take width cells ∷ rows) (put_is width count place column value (drop width cells) (omega arith) inside)
+    ∙ ap (λ rows. take width cells ∷ rows)
+    (put_is width count place column value (drop width cells) (omega arith) inside)
 
 -- equal cells make equal rows
-pub filled_is : {T : Type 0} (width count : ℕ) (value : T) → rows_of width count (replicate (width * count) value) ≡ replicate count (replicate width value)
+pub filled_is : {T : Type 0} (width count : ℕ) (value : T) →
+    rows_of width count (replicate (width * count) value) ≡ replicate count (replicate width value)
 filled_is width zero value = refl
 filled_is width (suc count) value =
     let front = replicate width value in
@@ -48,7 +54,8 @@ filled_is width (suc count) value =
     let size : width * suc count ≡ width + width * count = omega arith in
     let parts = ap (λ n. replicate n value) size ∙ sym (replicate-append-replicate width (width * count) value) in
     ap (λ cells. take width cells ∷ rows_of width count (drop width cells)) parts
-    ∙ ap (λ row. row ∷ rows_of width count (drop width (front ++ behind))) (take_at front behind width (length-replicate width value))
+    ∙ ap (λ row. row ∷ rows_of width count (drop width (front ++ behind)))
+    (take_at front behind width (length-replicate width value))
     ∙ ap (λ rest. front ∷ rows_of width count rest) (drop_at front behind width (length-replicate width value))
     ∙ ap (λ rows. front ∷ rows) (filled_is width count value)
 

@@ -1,3 +1,4 @@
+-- A cell is one of all, and few enough for a number of 64 bits.
 use Rattle.std.proofs.Common.{arith}
 use Rattle.flat_table.proofs.GridLaws.{cell_small, cell_within}
 use Rattle.flat_table.proofs.grid.cell_of.Goals as goal

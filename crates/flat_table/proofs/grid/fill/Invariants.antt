@@ -1,3 +1,4 @@
+-- The cells so far.
 use Rattle.std.proofs.Common.{◌≡◌, take, replicate}
 use Rattle.flat_table.proofs.grid.fill.Given as goal
 

@@ -1,3 +1,4 @@
+-- A row stands between the rows before it and those behind it.
 use Rattle.std.proofs.Common.{take, sym, ap, ◌∙◌, arith}
 use Rattle.flat_table.proofs.GridLaws.{cell_small, cell_within, row_is}
 use Rattle.flat_table.proofs.grid.row_in.Goals as goal

@@ -1,3 +1,4 @@
+-- Equal cells are equal rows.
 use Rattle.std.proofs.Common.{◌≡◌, ◌*◌, length, replicate, sym, ap, ◌∙◌}
 use Rattle.std.specs.Vec.{with_items}
 use Rattle.std.proofs.lemmas.List.{length-replicate, with_items_is}

@@ -1,3 +1,4 @@
+-- Equal cells are equal rows.
 use Rattle.std.proofs.Common.{◌≡◌, ◌*◌, replicate, ap, ◌∙◌, arith}
 use Rattle.flat_table.specs.Grids.{rows_of}
 use Rattle.flat_table.proofs.GridLaws.{filled_is}

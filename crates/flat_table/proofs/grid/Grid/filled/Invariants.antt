@@ -1,3 +1,4 @@
+-- The cells so far.
 use Rattle.std.proofs.Common.{◌≡◌, replicate}
 use Rattle.flat_table.proofs.grid.Grid.filled.Given as goal
 

@@ -1,3 +1,4 @@
+-- The value stands in one cell of one row.
 use Rattle.std.proofs.Common.{◌≡◌, ◌<◌, length, get_or, set, ap, ◌∙◌, [], arith}
 use Rattle.flat_table.specs.Grids.{Rows, rows_of}
 use Rattle.flat_table.proofs.GridLaws.{length-rows_of, put_is}

@@ -1,3 +1,4 @@
+-- There are as many rows as the count says.
 use Rattle.std.proofs.Common.{length, ap, arith}
 use Rattle.flat_table.proofs.GridLaws.{length-rows_of}
 use Rattle.flat_table.proofs.grid.Grid.row.Goals as goal
