@@ -50,13 +50,18 @@ class_is : (us : List Use) → class_seen (seen_after Nowhere us) ≡ class_of u
 class_is [] = refl
 class_is (u ∷ us) = always u us
 
-classes_from : (ds : List Decl) (i n : ℕ) (ms : List Mark) → length ds ≤ n → map class_seen (take (length ds) (lets_after i (replicate n Nowhere) ms)) ≡ let_classes i ds ms
+classes_from : (ds : List Decl) (i n : ℕ) (ms : List Mark) → length ds ≤ n →
+    map class_seen (take (length ds) (lets_after i (replicate n Nowhere) ms)) ≡ let_classes i ds ms
 classes_from [] i n ms le = refl
 classes_from (d ∷ ds) i zero ms le = absurd (omega arith)
 classes_from (d ∷ ds) i (suc n) ms le =
-    ap (λ x. x ∷ map class_seen (take (length ds) (lets_after (i + 1) (replicate n Nowhere) ms))) (class_is (uses_of i ms))
+    ap (λ x. x ∷ map class_seen (take (length ds) (lets_after (i + 1) (replicate n Nowhere) ms)))
+    (class_is (uses_of i ms))
     ∙ ap (λ l. class_of (uses_of i ms) ∷ l) (classes_from ds (i + 1) n ms (omega arith))
 
 -- the classes of all lets, after a walk that began with nothing seen
-pub classes_are : (ds : List Decl) (ms : List Mark) → length ds ≤ 8 → map class_seen (take (length ds) (walk_after (sight (replicate 8 Nowhere) false) ms).lets) ≡ let_classes 0 ds ms
-classes_are ds ms le = ap (λ l. map class_seen (take (length ds) l)) (lets-seen (sight (replicate 8 Nowhere) false) ms) ∙ classes_from ds 0 8 ms le
+pub classes_are : (ds : List Decl) (ms : List Mark) → length ds ≤ 8 →
+    map class_seen (take (length ds) (walk_after (sight (replicate 8 Nowhere) false) ms).lets) ≡ let_classes 0 ds ms
+classes_are ds ms le =
+    ap (λ l. map class_seen (take (length ds) l)) (lets-seen (sight (replicate 8 Nowhere) false) ms)
+    ∙ classes_from ds 0 8 ms le

@@ -1,3 +1,4 @@
+pub mod StatementMarks
 pub mod SightLaws
 pub mod Rules
 pub mod MarkLaws

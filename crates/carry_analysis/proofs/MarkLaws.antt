@@ -1,46 +1,18 @@
 -- What a walk over a statement and a block has seen, from what it saw of the parts.
-use Rattle.std.proofs.Common.{◌≡◌, ◌<◌, ◌+◌, ℕ, suc, List, [], ◌∷◌, ◌++◌, drop, length, get_or, Option, None, Some, refl, sym, ap, ◌∙◌, add-one, drop-cons}
-use mathlib.Core.Former.{Count}
+use Rattle.std.proofs.Common.{◌≡◌, ◌<◌, ◌+◌, ℕ, suc, List, ◌∷◌, ◌++◌, drop, length, get_or, Option, None, Some, sym, ap, ◌∙◌, add-one, append-nil, drop-cons}
 use Rattle.std.specs.Global.{Vec}
 use Rattle.vert_base.specs.declared.text.Span.{Span}
 use Rattle.vert_tree.specs.declared.expression.Expr.{Expr}
-use Rattle.vert_tree.specs.declared.statement.Stmt.{Stmt, Row_of-Stmt, end_of-Stmt, more_of-Stmt, If', Some', items-the_row-Stmt, items_hidden-the_row-Stmt-0}
+use Rattle.vert_tree.specs.declared.statement.Stmt.{Stmt}
 use Rattle.vert_tree.specs.declared.statement.Stmt as statements
-use Rattle.carry_analysis.specs.Classes.{Mark, body_marks, expr_marks, row_marks, statement_marks}
+use Rattle.carry_analysis.specs.Classes.{body_marks, expr_marks, statement_marks}
 use Rattle.carry_analysis.specs.Walks.{Sight, walk_after}
 use Rattle.carry_analysis.proofs.SightLaws.{after-append}
-
-marks_of_row : (n : _) (row : Row_of-Stmt n) → row_marks row ≡ body_marks (items-the_row-Stmt n row)
-marks_of_row n end_of-Stmt = refl
-marks_of_row n (more_of-Stmt s rest) = ap (λ l. statement_marks s ++ l) (marks_of_row _ rest)
-
--- the rows of an `if`
-abbrev held_of : Stmt → (n : Count) × Row_of-Stmt n
-held_of (If' s test m held otherwise) = (_, held)
-held_of _ = (_, end_of-Stmt)
-
-abbrev otherwise_of : Stmt → (n : Count) × Row_of-Stmt n
-otherwise_of (If' s test m held (Some' k row)) = (_, row)
-otherwise_of _ = (_, end_of-Stmt)
-
-marks-if : (s : Span) (test : Expr) (held : Vec Stmt) → statement_marks (statements.If s test held None) ≡ expr_marks test ++ (body_marks held.items ++ [])
-marks-if s test held =
-    let b = held_of (statements.If s test held None) in
-    ap (λ l. expr_marks test ++ (l ++ [])) (marks_of_row b.0 b.1 ∙ ap body_marks (items_hidden-the_row-Stmt-0 held))
-
-marks-if_else : (s : Span) (test : Expr) (held otherwise : Vec Stmt) → statement_marks (statements.If s test held (Some otherwise)) ≡ expr_marks test ++ (body_marks held.items ++ body_marks otherwise.items)
-marks-if_else s test held otherwise =
-    let b = held_of (statements.If s test held (Some otherwise)) in
-    let o = otherwise_of (statements.If s test held (Some otherwise)) in
-    ap (λ l. expr_marks test ++ (l ++ row_marks o.1)) (marks_of_row b.0 b.1 ∙ ap body_marks (items_hidden-the_row-Stmt-0 held))
-    ∙ ap (λ l. expr_marks test ++ (body_marks held.items ++ l)) (marks_of_row o.0 o.1 ∙ ap body_marks (items_hidden-the_row-Stmt-0 otherwise))
-
-append_none : (l : List Mark) → l ++ [] ≡ l
-append_none [] = refl
-append_none (x ∷ l) = ap (λ t. x ∷ t) (append_none l)
+use Rattle.carry_analysis.proofs.StatementMarks.{marks-if, marks-if_else}
 
 pub if_walked :
-    (s : Span) (test : Expr) (held : Vec Stmt) (otherwise : Option (Vec Stmt)) (stmt : Stmt) (body : List Stmt) (o a b : Sight) →
+    (s : Span) (test : Expr) (held : Vec Stmt) (otherwise : Option (Vec Stmt)) (stmt : Stmt) (body : List Stmt)
+    (o a b : Sight) →
     stmt ≡ statements.If s test held otherwise → otherwise ≡ None → body ≡ held.items →
     a ≡ walk_after o (expr_marks test) → b ≡ walk_after a (body_marks body) →
     b ≡ walk_after o (statement_marks stmt)
@@ -49,13 +21,14 @@ if_walked s test held otherwise stmt body o a b is none same first second =
     ∙ ap (λ x. walk_after x (body_marks body)) first
     ∙ ap (λ l. walk_after (walk_after o (expr_marks test)) (body_marks l)) same
     ∙ sym (after-append o (expr_marks test) (body_marks held.items))
-    ∙ ap (λ l. walk_after o (expr_marks test ++ l)) (sym (append_none (body_marks held.items)))
+    ∙ ap (λ l. walk_after o (expr_marks test ++ l)) (sym (append-nil (body_marks held.items)))
     ∙ sym (ap (walk_after o) (marks-if s test held))
     ∙ ap (λ x. walk_after o (statement_marks (statements.If s test held x))) (sym none)
     ∙ ap (λ x. walk_after o (statement_marks x)) (sym is)
 
 pub if_else_walked :
-    (s : Span) (test : Expr) (held : Vec Stmt) (otherwise : Option (Vec Stmt)) (other : Vec Stmt) (stmt : Stmt) (body rest : List Stmt) (o a b e : Sight) →
+    (s : Span) (test : Expr) (held : Vec Stmt) (otherwise : Option (Vec Stmt)) (other : Vec Stmt) (stmt : Stmt)
+    (body rest : List Stmt) (o a b e : Sight) →
     stmt ≡ statements.If s test held otherwise → otherwise ≡ Some other → body ≡ held.items → rest ≡ other.items →
     a ≡ walk_after o (expr_marks test) → b ≡ walk_after a (body_marks body) → e ≡ walk_after b (body_marks rest) →
     e ≡ walk_after o (statement_marks stmt)
@@ -78,7 +51,9 @@ pub block_turn :
     walk_after a (body_marks (drop (i + 1) body)) ≡ walk_after o (body_marks (drop i body))
 block_turn body i x lt is o a first =
     let rest = drop (i + 1) body in
-    let head : drop i body ≡ x ∷ rest = drop-cons body i x lt ∙ ap (λ (y : Stmt). y ∷ drop (suc i) body) (sym is) ∙ ap (λ (n : ℕ). x ∷ drop n body) (sym (add-one i)) in
+    let head : drop i body ≡ x ∷ rest =
+    drop-cons body i x lt ∙ ap (λ (y : Stmt). y ∷ drop (suc i) body) (sym is)
+    ∙ ap (λ (n : ℕ). x ∷ drop n body) (sym (add-one i)) in
     ap (λ y. walk_after y (body_marks rest)) first
     ∙ sym (after-append o (statement_marks x) (body_marks rest))
     ∙ ap (λ l. walk_after o (body_marks l)) (sym head)

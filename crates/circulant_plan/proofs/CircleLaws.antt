@@ -36,7 +36,8 @@ chunk_of_order p d s a b =
     (λ (low : d + 1 + s < p).
     ap (λ m. chunk_of m s p) (order_low d s p low) ∙ (chunk_high (d + 1 + s) s p (omega arith) low b ∙ omega arith))
     (λ (high : p ≤ d + 1 + s).
-    ap (λ m. chunk_of m s p) (order_high d s p high a b) ∙ (chunk_low (d + 1 + s - p) s p (omega arith) (omega arith) b ∙ omega arith))
+    ap (λ m. chunk_of m s p) (order_high d s p high a b)
+    ∙ (chunk_low (d + 1 + s - p) s p (omega arith) (omega arith) b ∙ omega arith))
     (cases_lt (d + 1 + s) p)
 
 pub order_of_chunk : (p m s : ℕ) → m < p → s < p → order_of (chunk_of m s p) s p ≡ m
@@ -45,7 +46,8 @@ order_of_chunk p m s a b =
     (λ (gt : s < m).
     ap (λ d. order_of d s p) (chunk_high m s p gt a b) ∙ (order_low (m - 1 - s) s p (omega arith) ∙ omega arith))
     (λ (le : m ≤ s).
-    ap (λ d. order_of d s p) (chunk_low m s p le a b) ∙ (order_high (m + p - 1 - s) s p (omega arith) (omega arith) b ∙ omega arith))
+    ap (λ d. order_of d s p) (chunk_low m s p le a b)
+    ∙ (order_high (m + p - 1 - s) s p (omega arith) (omega arith) b ∙ omega arith))
     (cases_lt s m)
 
 pub owner_last : (p d : ℕ) → d < p → order_of d (p - 1) p ≡ d
@@ -82,7 +84,8 @@ before_is p d s a b =
     (λ (edge : d + 1 + s < p).
     before_low (d + 1 + (s + 1) - p) p (omega arith) (omega arith) ∙ sym (order_low d s p edge ∙ omega arith))
     (λ (more : p ≤ d + 1 + s).
-    before_high (d + 1 + (s + 1) - p) p (omega arith) (omega arith) ∙ sym (order_high d s p more a (omega arith) ∙ omega arith))
+    before_high (d + 1 + (s + 1) - p) p (omega arith) (omega arith)
+    ∙ sym (order_high d s p more a (omega arith) ∙ omega arith))
     (cases_lt (d + 1 + s) p))
     (cases_lt (d + 1 + (s + 1)) p)
 
@@ -117,17 +120,21 @@ each_ring_turns p some = record {
 pub before_after : (m p : ℕ) → m < p → before_machine (after_machine m p) p ≡ m
 before_after m p lt =
     ⊎_elim
-    (λ (low : m + 1 < p). ap (λ q. before_machine q p) (mod_low (m + 1) p low) ∙ (before_high (m + 1) p low (omega arith) ∙ omega arith))
+    (λ (low : m + 1 < p). ap (λ q. before_machine q p) (mod_low (m + 1) p low)
+    ∙ (before_high (m + 1) p low (omega arith) ∙ omega arith))
     (λ (high : p ≤ m + 1).
-    ap (λ q. before_machine q p) (mod_high (m + 1) p 0 (omega arith) (omega arith)) ∙ (before_low 0 p (omega arith) refl ∙ omega arith))
+    ap (λ q. before_machine q p) (mod_high (m + 1) p 0 (omega arith) (omega arith))
+    ∙ (before_low 0 p (omega arith) refl ∙ omega arith))
     (cases_lt (m + 1) p)
 
 pub after_before : (m p : ℕ) → m < p → after_machine (before_machine m p) p ≡ m
 after_before m p lt =
     ⊎_elim
-    (λ (first : m ≡ 0). ap (λ q. after_machine q p) (before_low m p lt first) ∙ (mod_high (p - 1 + 1) p 0 (omega arith) (omega arith) ∙ omega arith))
+    (λ (first : m ≡ 0). ap (λ q. after_machine q p) (before_low m p lt first)
+    ∙ (mod_high (p - 1 + 1) p 0 (omega arith) (omega arith) ∙ omega arith))
     (λ (other : m ≢ 0).
-    ap (λ q. after_machine q p) (before_high m p lt (omega arith)) ∙ (mod_low (m - 1 + 1) p (omega arith) ∙ omega arith))
+    ap (λ q. after_machine q p) (before_high m p lt (omega arith))
+    ∙ (mod_low (m - 1 + 1) p (omega arith) ∙ omega arith))
     (cases_eq m 0)
 
 -- of two machines or more none is next to itself
@@ -164,8 +171,10 @@ order_other d s p lt early =
 pub step_of_chunk : (m d p : ℕ) → m < p → d < p → chunk_of m (chunk_of m d p) p ≡ d
 step_of_chunk m d p a b =
     ⊎_elim
-    (λ (gt : d < m). ap (λ s. chunk_of m s p) (chunk_high m d p gt a b) ∙ (chunk_high m (m - 1 - d) p (omega arith) a (omega arith) ∙ omega arith))
-    (λ (le : m ≤ d). ap (λ s. chunk_of m s p) (chunk_low m d p le a b) ∙ (chunk_low m (m + p - 1 - d) p (omega arith) a (omega arith) ∙ omega arith))
+    (λ (gt : d < m). ap (λ s. chunk_of m s p) (chunk_high m d p gt a b)
+    ∙ (chunk_high m (m - 1 - d) p (omega arith) a (omega arith) ∙ omega arith))
+    (λ (le : m ≤ d). ap (λ s. chunk_of m s p) (chunk_low m d p le a b)
+    ∙ (chunk_low m (m + p - 1 - d) p (omega arith) a (omega arith) ∙ omega arith))
     (cases_lt d m)
 
 pub step_early : (m d p : ℕ) → m < p → d < p → d ≢ m → chunk_of m d p < p - 1

@@ -26,7 +26,8 @@ sum_same f b a (suc n) all =
     omega (arith, first, rest))
 
 -- machine 0 counts for itself, and the q others alike
-sum_first : (f : ℕ → ℕ) (a b p q : ℕ) → p ≡ suc q → f 0 ≡ a → ((m : ℕ) → 1 ≤ m → m < p → f m ≡ b) → over_machines p f ≡ a + q * b
+sum_first : (f : ℕ → ℕ) (a b p q : ℕ) → p ≡ suc q → f 0 ≡ a → ((m : ℕ) → 1 ≤ m → m < p → f m ≡ b) →
+    over_machines p f ≡ a + q * b
 sum_first f a b p q e first all =
     ap (λ n. over_machines n f) e
     ∙ (sum_by-cons f 0 (range_with_len 1 q)
@@ -49,10 +50,11 @@ tally_none r = refl
 tally_one : (m r : ℕ) → 1 ≤ m → length (tally_gives m r) ≡ 1
 tally_one m r some = let b = not_zero m (λ e. omega arith) in rw b refl
 
-length-map_others : (f : ℕ → Name) (p m : ℕ) → m < p → length (map f (others_of p m)) ≡ p - 1
+pub length-map_others : (f : ℕ → Name) (p m : ℕ) → m < p → length (map f (others_of p m)) ≡ p - 1
 length-map_others f p m lt = length-map (others_of p m) f ∙ length-others p m lt
 
-length-flat_map_append : {X Y : Type 0} (f : X → List Y) (xs ys : List X) → length (flat_map f (xs ++ ys)) ≡ length (flat_map f xs) + length (flat_map f ys)
+length-flat_map_append : {X Y : Type 0} (f : X → List Y) (xs ys : List X) →
+    length (flat_map f (xs ++ ys)) ≡ length (flat_map f xs) + length (flat_map f ys)
 length-flat_map_append f xs ys = ap length (flat_map-append f xs ys) ∙ length-append (flat_map f xs) (flat_map f ys)
 
 goes_total : (p q : ℕ) → p ≡ suc q → (2 * p + 3) + q * (2 * p + 2) ≡ p * (2 * p + 2) + 1
@@ -75,7 +77,8 @@ module _ (ring : Ring) (q : ℕ) (more : ring.machines ≡ suc q) where
   end_gifts_first : (r : ℕ) (ruling : Ruling) → length (tally_gives 0 r ++ gifts_at ring 0 ruling (judges_of 0 r)) ≡ q
   end_gifts_first r ruling = judge_gifts_first r ruling
 
-  end_gifts_other : (m r : ℕ) (ruling : Ruling) → 1 ≤ m → length (tally_gives m r ++ gifts_at ring m ruling (judges_of m r)) ≡ 1
+  end_gifts_other : (m r : ℕ) (ruling : Ruling) → 1 ≤ m →
+      length (tally_gives m r ++ gifts_at ring m ruling (judges_of m r)) ≡ 1
   end_gifts_other m r ruling some =
       length-append (tally_gives m r) (gifts_at ring m ruling (judges_of m r))
       ∙ omega (arith, tally_one m r some, judge_gifts_other m r ruling some)
@@ -86,9 +89,12 @@ module _ (ring : Ring) (q : ℕ) (more : ring.machines ≡ suc q) where
       (λ m some within. let none = ap length (judges_none m 0 some) in omega (arith, none))
       ∙ omega arith
 
-  first_takes_are : (ruling : Ruling) → over_machines ring.machines (λ m. length (gifts_at ring m ruling (first_spots m))) ≡ 2 * (ring.machines - 1)
+  first_takes_are : (ruling : Ruling) →
+      over_machines ring.machines (λ m. length (gifts_at ring m ruling (first_spots m))) ≡ 2 *
+      (ring.machines - 1)
   first_takes_are ruling =
-      sum_first (λ m. length (gifts_at ring m ruling (first_spots m))) q 1 ring.machines q more (end_gifts_first 0 ruling)
+      sum_first (λ m. length (gifts_at ring m ruling (first_spots m))) q 1 ring.machines q more
+      (end_gifts_first 0 ruling)
       (λ m some within. end_gifts_other m 0 ruling some)
       ∙ omega arith
 
@@ -98,14 +104,18 @@ module _ (ring : Ring) (q : ℕ) (more : ring.machines ≡ suc q) where
       (λ m some within. let none = ap length (judges_none m r some) in omega (arith, none))
       ∙ omega arith
 
-  sparse_gifts : (m r : ℕ) → m < ring.machines → length (gifts_at ring m Sparse (round_spots ring m r Sparse)) ≡ q + length (tally_gives m r ++ gifts_at ring m Sparse (judges_of m r))
+  sparse_gifts : (m r : ℕ) → m < ring.machines →
+      length (gifts_at ring m Sparse (round_spots ring m r Sparse)) ≡ q + length
+      (tally_gives m r ++ gifts_at ring m Sparse (judges_of m r))
   sparse_gifts m r within =
-      length-append (map (push_name r m) (others_of ring.machines m)) (tally_gives m r ++ gifts_at ring m Sparse (judges_of m r))
+      length-append (map (push_name r m) (others_of ring.machines m))
+      (tally_gives m r ++ gifts_at ring m Sparse (judges_of m r))
       ∙ (let len = length-map_others (push_name r m) ring.machines m within in omega (arith, len))
 
   sparse_takes_are : (r : ℕ) → takes_in ring r Sparse ≡ ring.machines * (ring.machines - 1) + 2 * (ring.machines - 1)
   sparse_takes_are r =
-      sum_first (λ m. length (gifts_at ring m Sparse (round_spots ring m r Sparse))) (q + q) (q + 1) ring.machines q more
+      sum_first (λ m. length (gifts_at ring m Sparse (round_spots ring m r Sparse))) (q + q)
+      (q + 1) ring.machines q more
       (let head = sparse_gifts 0 r (omega arith) in omega (arith, head, end_gifts_first r Sparse))
       (λ m some within. let head = sparse_gifts m r within in omega (arith, head, end_gifts_other m r Sparse some))
       ∙ (let total = takes_total ring.machines q 1 more in omega (arith, total))
@@ -118,9 +128,13 @@ module _ (ring : Ring) (q : ℕ) (more : ring.machines ≡ suc q) where
 
   dense_goes_are : (r : ℕ) → goes_in ring r Dense ≡ ring.machines * (2 * ring.machines + 2) + 1
   dense_goes_are r =
-      sum_first (λ m. length (round_spots ring m r Dense)) (2 * ring.machines + 3) (2 * ring.machines + 2) ring.machines q more
+      sum_first (λ m. length (round_spots ring m r Dense)) (2 * ring.machines + 3)
+      (2 * ring.machines + 2) ring.machines q more
       (let all = dense_spots 0 r in omega (arith, all, judges_one r))
-      (λ m some within. let all = dense_spots m r in let none = ap length (judges_none m r some) in omega (arith, all, none))
+      (λ m some within.
+      let all = dense_spots m r in
+      let none = ap length (judges_none m r some) in
+      omega (arith, all, none))
       ∙ goes_total ring.machines q more
 
   module _ (w : ℕ) (states : (x : Name) → length (name_if ring.carry x) ≡ w) where
@@ -133,7 +147,11 @@ module _ (ring : Ring) (q : ℕ) (more : ring.machines ≡ suc q) where
     scan_last : (m r s h : ℕ) → q ≤ s → gives_of ring m (Scan r s h) Dense ≡ []
     scan_last m r s h last = let b = below_false s (ring.machines - 1) (omega arith) in rw b refl
 
-    scans_gifts : (m r j a : ℕ) → a + j ≡ q → length (gifts_at ring m Dense (flat_map (λ s. Scan r s 0 ∷ Scan r s 1 ∷ []) (range_with_len a (suc j)))) ≡ j * (2 * (1 + w))
+    scans_gifts : (m r j a : ℕ) → a + j ≡ q →
+        length
+        (gifts_at ring m Dense (flat_map (λ s. Scan r s 0 ∷ Scan r s 1 ∷ []) (range_with_len a (suc j)))) ≡
+        j *
+        (2 * (1 + w))
     scans_gifts m r zero a e =
         ap (λ ys. length (ys ++ (gives_of ring m (Scan r a 1) Dense ++ []))) (scan_last m r a 0 (omega arith))
         ∙ (ap (λ ys. length (ys ++ [])) (scan_last m r a 1 (omega arith)) ∙ omega arith)
@@ -148,26 +166,34 @@ module _ (ring : Ring) (q : ℕ) (more : ring.machines ≡ suc q) where
         let z = scans_gifts m r j (a + 1) (omega arith) in
         omega (arith, first, second, x, y, z)
 
-    dense_gifts : (m r : ℕ) → m < ring.machines → length (gifts_at ring m Dense (round_spots ring m r Dense)) ≡ q + q * (2 * (1 + w)) + length (tally_gives m r ++ gifts_at ring m Dense (judges_of m r))
+    dense_gifts : (m r : ℕ) → m < ring.machines →
+        length (gifts_at ring m Dense (round_spots ring m r Dense)) ≡ q + q * (2 * (1 + w)) + length
+        (tally_gives m r ++ gifts_at ring m Dense (judges_of m r))
     dense_gifts m r within =
         let scans = scans_of ring.machines r in
         let end = Close r true ∷ judges_of m r in
-        let head = length-append (map (refresh_name r m) (others_of ring.machines m)) (gifts_at ring m Dense (scans ++ end)) in
+        let head =
+        length-append (map (refresh_name r m) (others_of ring.machines m))
+        (gifts_at ring m Dense (scans ++ end)) in
         let len = length-map_others (refresh_name r m) ring.machines m within in
         let both = length-flat_map_append (λ spot. gives_of ring m spot Dense) scans end in
-        let inner : length (gifts_at ring m Dense scans) ≡ q * (2 * (1 + w)) = ap (λ n. length (gifts_at ring m Dense (scans_of n r))) more ∙ scans_gifts m r q 0 (omega arith) in
+        let inner : length (gifts_at ring m Dense scans) ≡ q * (2 * (1 + w)) =
+        ap (λ n. length (gifts_at ring m Dense (scans_of n r))) more ∙ scans_gifts m r q 0 (omega arith) in
         omega (arith, head, len, both, inner)
 
     dense_takes_are : (r : ℕ) → takes_in ring r Dense ≡ (2 * (1 + w) + 1 + 1) * q + q * ((2 * (1 + w) + 1) * q + 1)
     dense_takes_are r =
-        sum_first (λ m. length (gifts_at ring m Dense (round_spots ring m r Dense))) ((2 * (1 + w) + 1 + 1) * q) ((2 * (1 + w) + 1) * q + 1) ring.machines q more
+        sum_first (λ m. length (gifts_at ring m Dense (round_spots ring m r Dense)))
+        ((2 * (1 + w) + 1 + 1) * q) ((2 * (1 + w) + 1) * q + 1) ring.machines q more
         (let all = dense_gifts 0 r (omega arith) in omega (arith, all, end_gifts_first r Dense))
         (λ m some within. let all = dense_gifts m r within in omega (arith, all, end_gifts_other m r Dense some))
 
-  carry_takes_are : (r : ℕ) → ring.carry ≡ true → takes_in ring r Dense ≡ 5 * ring.machines * (ring.machines - 1) + 2 * (ring.machines - 1)
+  carry_takes_are : (r : ℕ) → ring.carry ≡ true →
+      takes_in ring r Dense ≡ 5 * ring.machines * (ring.machines - 1) + 2 * (ring.machines - 1)
   carry_takes_are r carries = dense_takes_are 1 (λ x. rw carries refl) r ∙ takes_total ring.machines q 5 more
 
-  plain_takes_are : (r : ℕ) → ring.carry ≡ false → takes_in ring r Dense ≡ 3 * ring.machines * (ring.machines - 1) + 2 * (ring.machines - 1)
+  plain_takes_are : (r : ℕ) → ring.carry ≡ false →
+      takes_in ring r Dense ≡ 3 * ring.machines * (ring.machines - 1) + 2 * (ring.machines - 1)
   plain_takes_are r carries = dense_takes_are 0 (λ x. rw carries refl) r ∙ takes_total ring.machines q 3 more
 
 pub rounds_are_counted : RoundsAreCounted

@@ -1,7 +1,8 @@
 -- The members with the machines of a chunk, in the order of its steps, are the neighbours in the order of the loop.
+use Rattle.vert_base.proofs.Orders.{in_order_below, in_order_rises}
 use Rattle.std.proofs.Common.{◌≡◌, ℕ, zero, suc, ◌+◌, ◌-◌, ◌<◌, ◌≤◌, true, false, nat_lt, leb, List, [], ◌∷◌, ◌++◌, length, get_or, slice_index, refl, ap, sym, ◌∙◌, arith, ⊎_elim}
-use Rattle.std.specs.List.{filter, flat_map, range_with_len}
 use Rattle.std.specs.Prelude.{◌==◌}
+use Rattle.std.specs.List.{filter, flat_map, range_with_len}
 use Rattle.std.proofs.lemmas.Bool.{cases_lt}
 use Rattle.std.proofs.lemmas.Bool.Decides.{nat_tests}
 use Rattle.std.proofs.lemmas.List.Concat.{flat_map-append}
@@ -10,7 +11,7 @@ use Rattle.vert_base.specs.declared.graph.Edge.{Edge}
 use Rattle.vert_base.specs.Neighbours.{source, target, ins_of, turned, turn_of, neighbours_of}
 use Rattle.circulant_plan.specs.Ring.{AreEndsUpTo, order_of, start_of, lies_in, IsInChunk, members_with, members_by_steps}
 use Rattle.circulant_plan.specs.Laws.{TurnsAtItsEnd, ReadsInTurn, ReadsByParts}
-use Rattle.circulant_plan.proofs.SpanLaws.{span, by_machines, by_machines_is, rises_far, range_split, flat_map_shift, is_below, in_order_below, in_order_rises, span_to_end, span_from_start}
+use Rattle.circulant_plan.proofs.SpanLaws.{span, by_machines, by_machines_is, rises_far, range_split, flat_map_shift, is_below, span_to_end, span_from_start}
 
 -- where chunk m starts; past the last chunk it is n
 abbrev pub bound : ℕ → List ℕ → ℕ → ℕ
@@ -42,7 +43,8 @@ not_below a b h = grind (arith, nat_tests)
 pub order_within : (d s p : ℕ) → 1 ≤ p → order_of d s p < p
 order_within d s p some = mod-lt (d + 1 + s) (omega arith)
 
-turn_from : (ends : List ℕ) (d v : ℕ) → ((m : ℕ) → m < d → slice_index ends m ≤ v) → v < slice_index ends d → d < length ends → turn_of ends v ≡ slice_index ends d
+turn_from : (ends : List ℕ) (d v : ℕ) → ((m : ℕ) → m < d → slice_index ends m ≤ v) →
+    v < slice_index ends d → d < length ends → turn_of ends v ≡ slice_index ends d
 turn_from [] d v below above inside = absurd (omega arith)
 turn_from (end ∷ ends) zero v below above inside =
     let here : nat_lt v end ≡ true = is_below v end above in
@@ -79,8 +81,10 @@ module _ (n p : ℕ) (ends : List ℕ) (are : AreEndsUpTo n p ends) where
       ⊎_elim
       (λ (lt : m + 1 < p).
       let first : bound n ends (suc m) ≡ slice_index ends m = get_or_any ends m n 0 (omega (arith, are.count)) in
-      let second : slice_index ends (m + 1) ≡ bound n ends (suc m + 1) = (let on : m + 1 + 1 ≡ suc m + 1 = omega arith in end_is (m + 1) lt ∙ ap (bound n ends) on) in
-      let rising : slice_index ends m ≤ slice_index ends (m + 1) = are.rises m (m + 1) 0 (omega arith) (omega (arith, are.count)) in
+      let second : slice_index ends (m + 1) ≡ bound n ends (suc m + 1) =
+      (let on : m + 1 + 1 ≡ suc m + 1 = omega arith in end_is (m + 1) lt ∙ ap (bound n ends) on) in
+      let rising : slice_index ends m ≤ slice_index ends (m + 1) =
+      are.rises m (m + 1) 0 (omega arith) (omega (arith, are.count)) in
       omega (arith, first, second, rising))
       (λ (out : p ≤ m + 1).
       omega (arith, bound_past (suc m) (omega arith), bound_past (suc m + 1) (omega arith)))
@@ -95,7 +99,8 @@ module _ (n p : ℕ) (ends : List ℕ) (are : AreEndsUpTo n p ends) where
       (lies_below ends d v here)
       (omega (arith, are.count))
 
-  with_is : (m : ℕ) (xs : List Edge) → m < p → members_with ends m xs ≡ span source (bound n ends m) (bound n ends (m + 1)) xs
+  with_is : (m : ℕ) (xs : List Edge) → m < p →
+      members_with ends m xs ≡ span source (bound n ends m) (bound n ends (m + 1)) xs
   with_is m xs lt =
       ap (λ q. span source q (slice_index ends m) xs) (start_is m lt)
       ∙ ap (λ q. span source (bound n ends m) q xs) (end_is m lt)
@@ -108,7 +113,8 @@ module _ (n p : ℕ) (ends : List ℕ) (are : AreEndsUpTo n p ends) where
       p 0 0
       (λ i less. with_is (order_of d (0 + i) p) xs (order_within d (0 + i) p are.some))
 
-  in_turn : (d v : ℕ) (edges : List Edge) → d < p → lies_in ends d v ≡ true → members_by_steps ends p d 0 p (ins_of n edges v) ≡ neighbours_of n ends edges v
+  in_turn : (d v : ℕ) (edges : List Edge) → d < p → lies_in ends d v ≡ true →
+      members_by_steps ends p d 0 p (ins_of n edges v) ≡ neighbours_of n ends edges v
   in_turn d v edges lt here =
       let xs = ins_of n edges v in
       let mine = filter (λ e. target e == v) edges in
@@ -122,12 +128,14 @@ module _ (n p : ℕ) (ends : List ℕ) (are : AreEndsUpTo n p ends) where
       ∙ ap (λ q. turned q xs) ending))))
 
   pub by_parts : (d v count : ℕ) (edges : List Edge) → d < p → lies_in ends d v ≡ true → count ≤ p →
-      members_by_steps ends p d 0 count (ins_of n edges v) ++ members_by_steps ends p d count (p - count) (ins_of n edges v) ≡ neighbours_of n ends edges v
+      members_by_steps ends p d 0 count (ins_of n edges v) ++ members_by_steps ends p d count (p - count)
+      (ins_of n edges v) ≡ neighbours_of n ends edges v
   by_parts d v count edges lt here le =
       let xs = ins_of n edges v in
       let f : ℕ → List Edge = λ s. members_with ends (order_of d s p) xs in
       let all : count + (p - count) ≡ p = omega arith in
-      let whole : range_with_len 0 p ≡ range_with_len 0 count ++ range_with_len count (p - count) = sym (ap (range_with_len 0) all) ∙ range_split count (p - count) 0 count (omega arith) in
+      let whole : range_with_len 0 p ≡ range_with_len 0 count ++ range_with_len count (p - count) =
+      sym (ap (range_with_len 0) all) ∙ range_split count (p - count) 0 count (omega arith) in
       sym (ap (flat_map f) whole ∙ flat_map-append f (range_with_len 0 count) (range_with_len count (p - count)))
       ∙ in_turn d v edges lt here
 
@@ -138,4 +146,5 @@ pub reads_in_turn : ReadsInTurn
 reads_in_turn n p d v ends edges are lt here = in_turn n p ends are d v edges lt (lies_is ends d v here)
 
 pub reads_by_parts : ReadsByParts
-reads_by_parts n p d v count ends edges are lt here le = by_parts n p ends are d v count edges lt (lies_is ends d v here) le
+reads_by_parts n p d v count ends edges are lt here le =
+    by_parts n p ends are d v count edges lt (lies_is ends d v here) le

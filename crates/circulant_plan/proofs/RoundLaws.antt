@@ -20,7 +20,8 @@ module _ (ring : Ring) (m : ℕ) (r : ℕ) where
   judge_leads Dense mode = refl
   judge_leads Sparse mode = refl
 
-  close_leads : (ruling : Ruling) (dense : Bool) → ruling ≢ Stop → LeadsThrough ring m ruling (Close r dense ∷ judges_of m r) (Begin (r + 1))
+  close_leads : (ruling : Ruling) (dense : Bool) → ruling ≢ Stop →
+      LeadsThrough ring m ruling (Close r dense ∷ judges_of m r) (Begin (r + 1))
   close_leads ruling dense mode =
       ⊎_elim
       (λ (first : m ≡ 0). let b = is_zero m first in rw b (rw b refl, judge_leads ruling mode))
@@ -31,7 +32,8 @@ module _ (ring : Ring) (m : ℕ) (r : ℕ) where
   abbrev scans_from : ℕ → ℕ → List Spot
   scans_from s k = flat_map (λ i. Scan r i 0 ∷ Scan r i 1 ∷ []) (range_with_len s k) ++ Close r true ∷ judges_of m r
 
-  second_leads : (k s : ℕ) → s + 1 + k ≡ ring.machines → LeadsThrough ring m Dense (Scan r s 1 ∷ scans_from (s + 1) k) (Begin (r + 1))
+  second_leads : (k s : ℕ) → s + 1 + k ≡ ring.machines →
+      LeadsThrough ring m Dense (Scan r s 1 ∷ scans_from (s + 1) k) (Begin (r + 1))
   second_leads zero s e =
       let last = below_false s (ring.machines - 1) (omega arith) in
       let one : next_spot ring m (Scan r s 1) Dense ≡ Close r true = rw last refl in
@@ -41,11 +43,13 @@ module _ (ring : Ring) (m : ℕ) (r : ℕ) where
       let one : next_spot ring m (Scan r s 1) Dense ≡ Scan r (s + 1) 0 = rw more refl in
       (one, (refl, second_leads k (s + 1) (omega arith)))
 
-  dense_leads : 1 ≤ ring.machines → (k : ℕ) → k ≡ ring.machines → LeadsThrough ring m Dense (Begin r ∷ scans_from 0 k) (Begin (r + 1))
+  dense_leads : 1 ≤ ring.machines → (k : ℕ) → k ≡ ring.machines →
+      LeadsThrough ring m Dense (Begin r ∷ scans_from 0 k) (Begin (r + 1))
   dense_leads some zero e = absurd (omega arith)
   dense_leads some (suc k) e = (refl, (refl, second_leads k 0 (omega arith)))
 
-  pub round_leads : (ruling : Ruling) → m < ring.machines → ruling ≢ Stop → LeadsThrough ring m ruling (round_spots ring m r ruling) (Begin (r + 1))
+  pub round_leads : (ruling : Ruling) → m < ring.machines → ruling ≢ Stop →
+      LeadsThrough ring m ruling (round_spots ring m r ruling) (Begin (r + 1))
   round_leads Stop within mode = absurd (mode refl)
   round_leads Dense within mode = dense_leads (omega arith) ring.machines refl
   round_leads Sparse within mode = (refl, close_leads Sparse false mode)

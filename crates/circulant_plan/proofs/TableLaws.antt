@@ -12,7 +12,8 @@ slice_get-append_left [] ys k lt = absurd (omega arith)
 slice_get-append_left (x ∷ xs) ys zero lt = refl
 slice_get-append_left (x ∷ xs) ys (suc k) lt = slice_get-append_left xs ys k (omega arith)
 
-slice_get-append_right : {X : Type 0} (xs ys : List X) (k i : ℕ) → length xs + i ≡ k → slice_get (xs ++ ys) k ≡ slice_get ys i
+slice_get-append_right : {X : Type 0} (xs ys : List X) (k i : ℕ) → length xs + i ≡ k →
+    slice_get (xs ++ ys) k ≡ slice_get ys i
 slice_get-append_right [] ys k i e = let same : k ≡ i = omega arith in ap (slice_get ys) same
 slice_get-append_right (x ∷ xs) ys zero i e = absurd (omega arith)
 slice_get-append_right (x ∷ xs) ys (suc k) i e = slice_get-append_right xs ys k i (omega arith)
@@ -38,33 +39,40 @@ pub other_past : (p m k : ℕ) → m < p → p - 1 ≤ k → slice_get (others_o
 other_past p m k within ge =
     let at : length (range_with_len 0 m) + (k - m) ≡ k = omega (arith, length-range_with_len 0 m) in
     slice_get-append_right (range_with_len 0 m) (range_with_len (m + 1) (p - 1 - m)) k (k - m) at
-    ∙ slice_get_past (range_with_len (m + 1) (p - 1 - m)) (k - m) (omega (arith, length-range_with_len (m + 1) (p - 1 - m)))
+    ∙ slice_get_past (range_with_len (m + 1) (p - 1 - m)) (k - m)
+    (omega (arith, length-range_with_len (m + 1) (p - 1 - m)))
 
 -- two elements for each number
-pairs_get : {X : Type 0} (f : ℕ → ℕ → X) (a n k s h j : ℕ) → k ≡ 2 * s + h → h < 2 → s < n → a + s ≡ j → slice_get (flat_map (λ i. f i 0 ∷ f i 1 ∷ []) (range_with_len a n)) k ≡ Some (f j h)
+pairs_get : {X : Type 0} (f : ℕ → ℕ → X) (a n k s h j : ℕ) → k ≡ 2 * s + h → h < 2 → s < n → a + s ≡ j →
+    slice_get (flat_map (λ i. f i 0 ∷ f i 1 ∷ []) (range_with_len a n)) k ≡ Some (f j h)
 pairs_get f a zero k s h j e small lt at = absurd (omega arith)
 pairs_get f a (suc n) zero zero zero j e small lt at = let same : a ≡ j = omega arith in ap (λ q. Some (f q 0)) same
 pairs_get f a (suc n) zero zero (suc h) j e small lt at = absurd (omega arith)
 pairs_get f a (suc n) zero (suc s) h j e small lt at = absurd (omega arith)
 pairs_get f a (suc n) (suc zero) zero zero j e small lt at = absurd (omega arith)
-pairs_get f a (suc n) (suc zero) zero (suc zero) j e small lt at = let same : a ≡ j = omega arith in ap (λ q. Some (f q 1)) same
+pairs_get f a (suc n) (suc zero) zero (suc zero) j e small lt at =
+    let same : a ≡ j = omega arith in ap (λ q. Some (f q 1)) same
 pairs_get f a (suc n) (suc zero) zero (suc (suc h)) j e small lt at = absurd (omega arith)
 pairs_get f a (suc n) (suc zero) (suc s) h j e small lt at = absurd (omega arith)
 pairs_get f a (suc n) (suc (suc k)) zero h j e small lt at = absurd (omega arith)
 pairs_get f a (suc n) (suc (suc k)) (suc s) h j e small lt at =
     pairs_get f (a + 1) n k s h j (omega arith) small (omega arith) (omega arith)
 
-pub pairs_length : {X : Type 0} (f : ℕ → ℕ → X) (a n : ℕ) → length (flat_map (λ i. f i 0 ∷ f i 1 ∷ []) (range_with_len a n)) ≡ 2 * n
+pub pairs_length : {X : Type 0} (f : ℕ → ℕ → X) (a n : ℕ) →
+    length (flat_map (λ i. f i 0 ∷ f i 1 ∷ []) (range_with_len a n)) ≡ 2 * n
 pairs_length f a zero = refl
 pairs_length f a (suc n) = omega (arith, pairs_length f (a + 1) n)
 
-pub update_at : (p r m k : ℕ) → k < 2 * (p - 1) → slice_get (updates_to p r m) k ≡ Some (update_name r (k / 2) (k % 2) (order_of m (k / 2) p) m)
+pub update_at : (p r m k : ℕ) → k < 2 * (p - 1) →
+    slice_get (updates_to p r m) k ≡ Some (update_name r (k / 2) (k % 2) (order_of m (k / 2) p) m)
 update_at p r m k lt =
     let q : k ≡ 2 * (k / 2) + k % 2 = omega arith in
     let small : k % 2 < 2 = omega arith in
     let low : k / 2 < p - 1 = omega arith in
-    pairs_get (λ s h. update_name r s h (order_of m s p) m) 0 (p - 1) k (k / 2) (k % 2) (k / 2) q small low (omega arith)
+    pairs_get (λ s h. update_name r s h (order_of m s p) m) 0 (p - 1) k (k / 2) (k % 2) (k / 2) q small low
+    (omega arith)
 
 pub update_past : (p r m k : ℕ) → 2 * (p - 1) ≤ k → slice_get (updates_to p r m) k ≡ None
 update_past p r m k ge =
-    slice_get_past (updates_to p r m) k (omega (arith, pairs_length (λ s h. update_name r s h (order_of m s p) m) 0 (p - 1)))
+    slice_get_past (updates_to p r m) k
+    (omega (arith, pairs_length (λ s h. update_name r s h (order_of m s p) m) 0 (p - 1)))

@@ -31,7 +31,8 @@ round_spots ring m r Sparse = Begin r ∷ Close r false ∷ judges_of m r
 abbrev pub LeadsThrough : Ring → ℕ → Ruling → List Spot → Spot → Type 0
 LeadsThrough ring m ruling [] end = Unit {0}
 LeadsThrough ring m ruling (a ∷ []) end = next_spot ring m a ruling ≡ end
-LeadsThrough ring m ruling (a ∷ b ∷ rest) end = (next_spot ring m a ruling ≡ b) × LeadsThrough ring m ruling (b ∷ rest) end
+LeadsThrough ring m ruling (a ∷ b ∷ rest) end =
+    (next_spot ring m a ruling ≡ b) × LeadsThrough ring m ruling (b ∷ rest) end
 
 -- what machine m sends at these spots
 abbrev pub gifts_at : Ring → ℕ → Ruling → List Spot → List Name
@@ -45,12 +46,14 @@ abbrev pub goes_in : Ring → ℕ → Ruling → ℕ
 goes_in ring r ruling = over_machines ring.machines (λ m. length (round_spots ring m r ruling))
 
 abbrev pub takes_in : Ring → ℕ → Ruling → ℕ
-takes_in ring r ruling = over_machines ring.machines (λ m. length (gifts_at ring m ruling (round_spots ring m r ruling)))
+takes_in ring r ruling =
+    over_machines ring.machines (λ m. length (gifts_at ring m ruling (round_spots ring m r ruling)))
 
 -- the goes before round 1 and of a round, and the messages sent in them
 pub record HasCounts (p : ℕ) (ring : Ring) (r : ℕ) : Type 0 where
   pub first_goes : over_machines p (λ m. length (first_spots m)) ≡ p + 1
-  pub first_takes : (ruling : Ruling) → over_machines p (λ m. length (gifts_at ring m ruling (first_spots m))) ≡ 2 * (p - 1)
+  pub first_takes : (ruling : Ruling) →
+      over_machines p (λ m. length (gifts_at ring m ruling (first_spots m))) ≡ 2 * (p - 1)
   pub dense_goes : goes_in ring r Dense ≡ p * (2 * p + 2) + 1
   pub carry_takes : ring.carry ≡ true → takes_in ring r Dense ≡ 5 * p * (p - 1) + 2 * (p - 1)
   pub plain_takes : ring.carry ≡ false → takes_in ring r Dense ≡ 3 * p * (p - 1) + 2 * (p - 1)

@@ -86,20 +86,26 @@ pub record IsNeededLater (ring : Ring) (m : ℕ) (ruling : Ruling) (spot : Spot)
 pub record IsOneOn (ring : Ring) (m : ℕ) (ruling : Ruling) (s : Standing) : Type 0 where
   pub has : HasSpot ring m ruling (next_standing ring m ruling s).spot
   pub later : place_of s < place_of (next_standing ring m ruling s)
-  pub round : (next_standing ring m ruling s).round ≡ round_of (next_standing ring m ruling s).round (next_standing ring m ruling s).spot
+  pub round :
+      (next_standing ring m ruling s).round
+      ≡ round_of (next_standing ring m ruling s).round (next_standing ring m ruling s).spot
 
 abbrev pub NeededIsSent : Type 0
 NeededIsSent =
-    (ring : Ring) (m : ℕ) (ruling : Ruling) (spot : Spot) (x : Name) → m < ring.machines → ring.machines ≤ 64 → ruling ≢ Stop →
+    (ring : Ring) (m : ℕ) (ruling : Ruling) (spot : Spot) (x : Name) → m < ring.machines → ring.machines ≤ 64 →
+    ruling ≢ Stop →
     HasSpot ring m ruling spot → Contains (needs_of ring m spot) x → IsSentBefore ring m ruling spot x
 
 abbrev pub SentIsNeeded : Type 0
 SentIsNeeded =
-    (ring : Ring) (m : ℕ) (ruling : Ruling) (spot : Spot) (x : Name) → m < ring.machines → ring.machines ≤ 64 → ruling ≢ Stop →
+    (ring : Ring) (m : ℕ) (ruling : Ruling) (spot : Spot) (x : Name) → m < ring.machines → ring.machines ≤ 64 →
+    ruling ≢ Stop →
     HasSpot ring m ruling spot → Contains (gives_of ring m spot ruling) x → IsNeededLater ring m ruling spot x
 
 -- at a judge the ruling is the one that it makes
 abbrev pub ActionsLeadOn : Type 0
 ActionsLeadOn =
-    (ring : Ring) (m : ℕ) (ruling : Ruling) (s : Standing) → m < ring.machines → ring.machines ≤ 64 → HasSpot ring m ruling s.spot →
-    s.round ≡ round_of s.round s.spot → s.spot ≢ Over → ((r : ℕ) → s.spot ≡ Begin r → ruling ≢ Stop) → IsOneOn ring m ruling s
+    (ring : Ring) (m : ℕ) (ruling : Ruling) (s : Standing) → m < ring.machines → ring.machines ≤ 64 →
+    HasSpot ring m ruling s.spot →
+    s.round ≡ round_of s.round s.spot → s.spot ≢ Over → ((r : ℕ) → s.spot ≡ Begin r → ruling ≢ Stop) →
+    IsOneOn ring m ruling s

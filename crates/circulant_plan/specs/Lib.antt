@@ -1,8 +1,11 @@
+pub mod Choosing
 pub mod Counts
 pub mod Deliveries
 pub mod Laws
 pub mod Names
+pub mod Remaining
 pub mod Ring
+pub mod Runs
 pub mod Skeleton
 pub mod Spots
 pub mod Standing

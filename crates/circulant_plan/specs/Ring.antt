@@ -63,7 +63,8 @@ abbrev pub lies_early : List ℕ → ℕ → ℕ → ℕ → ℕ → Bool
 lies_early ends p d zero v = false
 lies_early ends p d (suc count) v = lies_early ends p d count v || lies_in ends (order_of d count p) v
 
--- each machine works on each chunk in one step, its owner in the last, and after each machine comes the next of the ring
+-- each machine works on each chunk in one step, its owner in the last, and after each machine comes the next of
+-- the ring
 pub record IsCirculant (p : ℕ) : Type 0 where
   pub within : (d s : ℕ) → order_of d s p < p
   pub chunk : (d s : ℕ) → d < p → s < p → chunk_of (order_of d s p) s p ≡ d

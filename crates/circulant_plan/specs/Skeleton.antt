@@ -81,7 +81,8 @@ is_ready ring m s taken = list_all (λ x. has_name x taken) (needs_of ring m s.s
 
 abbrev pub can_go : Ring → Blocks → Ruling → ℕ → Option Standing → List Name → Bool
 can_go ring blocks ruling m None taken = false
-can_go ring blocks ruling m (Some s) taken = not (is_over s.spot) && (is_ready ring m s taken && rules_rightly blocks ruling s.spot)
+can_go ring blocks ruling m (Some s) taken =
+    not (is_over s.spot) && (is_ready ring m s taken && rules_rightly blocks ruling s.spot)
 
 -- whether an event is possible. The ruling is the one that a judge makes, and matters for its go alone
 abbrev pub is_possible : Ring → Blocks → Ruling → Event → Skeleton → Bool
@@ -151,7 +152,8 @@ skeleton_after ring (e ∷ es) k = skeleton_after ring es (step_of ring e.1 e.0 
 -- whether each event is possible in turn
 abbrev pub all_possible : Ring → Blocks → List (Event × Ruling) → Skeleton → Bool
 all_possible ring blocks [] k = true
-all_possible ring blocks (e ∷ es) k = is_possible ring blocks e.1 e.0 k && all_possible ring blocks es (step_of ring e.1 e.0 k)
+all_possible ring blocks (e ∷ es) k =
+    is_possible ring blocks e.1 e.0 k && all_possible ring blocks es (step_of ring e.1 e.0 k)
 
 -- whether the list is a complete schedule from a state
 abbrev pub is_complete : Ring → Blocks → List (Event × Ruling) → Skeleton → Bool

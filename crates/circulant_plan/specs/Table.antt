@@ -21,7 +21,8 @@ name_if b x = if b then x ∷ [] else []
 -- the updates of a round to machine m: by step, and within a step by half
 abbrev pub updates_to : ℕ → ℕ → ℕ → List Name
 updates_to p r m =
-    flat_map (λ s. update_name r s 0 (order_of m s p) m ∷ update_name r s 1 (order_of m s p) m ∷ []) (range_with_len 0 (p - 1))
+    flat_map (λ s. update_name r s 0 (order_of m s p) m ∷ update_name r s 1 (order_of m s p) m ∷ [])
+    (range_with_len 0 (p - 1))
 
 -- what machine m needs at a spot
 abbrev pub needs_of : Ring → ℕ → Spot → List Name
@@ -52,7 +53,8 @@ gives_of ring m (Judge r) ruling = if m == 0 then map (verdict_name (r + 1)) (ot
 gives_of ring m (Begin r) ruling = begin_gives ring.machines m r ruling
 gives_of ring m (Scan r s h) ruling =
     if nat_lt s (ring.machines - 1)
-    then update_name r s h m (chunk_of m s ring.machines) ∷ name_if ring.carry (dep_name r s h m (after_machine m ring.machines))
+    then update_name r s h m (chunk_of m s ring.machines)
+    ∷ name_if ring.carry (dep_name r s h m (after_machine m ring.machines))
     else []
 gives_of ring m (Close r dense) ruling = tally_gives m r
 gives_of ring m Over ruling = []
@@ -69,7 +71,8 @@ after_judge r Stop = Over
 after_judge r Dense = Begin (r + 1)
 after_judge r Sparse = Begin (r + 1)
 
--- the spot of machine m after the action of a spot. The ruling is that of the spot's round, at a judge the one that it makes
+-- the spot of machine m after the action of a spot. The ruling is that of the spot's round, at a judge the one
+-- that it makes
 abbrev pub next_spot : Ring → ℕ → Spot → Ruling → Spot
 next_spot ring m Tell ruling = if m == 0 then Judge 0 else Begin 1
 next_spot ring m (Judge r) ruling = after_judge r ruling

@@ -117,11 +117,11 @@ replicate_length : (n : ℕ) → ◌≡◌ {A = ℕ} (length {A = Option Message
 replicate_length zero = refl
 replicate_length (suc n) = ap suc (replicate_length n)
 
-pub sound_free : (cap p : ℕ) → 1 ≤ p → p ≤ cap → cap ≤ 64 → AreSound cap p (replicate (12 * p) None)
+pub sound_free : (cap p : ℕ) → 1 ≤ p → p ≤ cap → p ≤ 64 → AreSound cap p (replicate (12 * p) None)
 sound_free cap p some within few = record {
   some = some;
   within = within;
-  few = omega (arith, within, few);
+  few = few;
   size = replicate_length (12 * p);
   lie = free_lie p 0 (12 * p);
   ascends = subst Ascends (sym (none_held (12 * p))) tt;

@@ -1,4 +1,5 @@
 -- A machine can take each message that it needs.
+use Rattle.std.proofs.lemmas.Bool.{and_parts}
 use Rattle.std.proofs.Common.{◌≡◌, ◌≢◌, ℕ, ◌+◌, ◌-◌, ◌<◌, ◌≤◌, true, false, cond, ◌&&◌, nat_lt, List, [], ◌∷◌, map, refl, sym, subst, arith, ⊎_elim}
 use Rattle.std.specs.List.{range_with_len}
 use Rattle.std.proofs.lemmas.Bool.{cases_eq}
@@ -14,7 +15,7 @@ use Rattle.circulant_plan.specs.Ring.{order_of, chunk_of, before_machine}
 use Rattle.circulant_plan.specs.Spots.{IsSpotOf}
 use Rattle.circulant_plan.specs.Table.{others_of, name_if, needs_of}
 use Rattle.circulant_plan.proofs.Members.{Has, has_from_contains, has_append_cases, has_map_cases, has_flat_map_cases, has_range_cases, has_others_cases}
-use Rattle.circulant_plan.proofs.Choices.{has_name_if_cases, below_from, and_right}
+use Rattle.circulant_plan.proofs.Choices.{has_name_if_cases, below_from}
 use Rattle.circulant_plan.proofs.StandingLaws.{is_zero, not_zero}
 use Rattle.circulant_plan.proofs.CircleLaws.{chunk_other}
 use Rattle.double_buffer.specs.Laws.{IsForSpot, NeedsCanBeTaken}
@@ -70,7 +71,7 @@ module _ (ring : Ring) where
       }))
       (λ states.
       let c = has_name_if_cases (ring.carry && nat_lt 0 s) (dep_name r (s - 1) h (before_machine m p) m) x states in
-      let some = below_from 0 s (and_right ring.carry (nat_lt 0 s) c.0) in
+      let some = below_from 0 s (and_parts ring.carry (nat_lt 0 s) c.0).1 in
       subst (λ y. IsForSpot ring m (Scan r s h) y) c.1 (record {
         one = record { from = refl; to = within; step = omega arith; half = half };
         to = refl;

@@ -1,4 +1,4 @@
-ghost use Rattle.std.specs.Prelude.{◌≡◌, ◌<◌, None, Some, option_map, option_copied, slice_index_or, slice_set, length, vec_len, if◌then◌else◌, is_some};
+ghost use Rattle.std.specs.Prelude.{◌≡◌, ◌<◌, None, Some, option_map, option_copied, slice_index_or, slice_set, length, vec_len, if◌then◌else◌, is_some, replicate};
 ghost use Rattle.vert_base.specs.Letters.{letter_of};
 ghost use Rattle.double_buffer.specs.Places.{letter_at};
 
@@ -31,4 +31,13 @@ pub(crate) fn clear(places: &mut Vec<Option<Message>>, at: usize, name: &Name) -
         return None;
     }
     places[at].take()
+}
+
+/// Takes the messages of all places out, and drops them.
+pub(crate) fn free_all(places: &mut Vec<Option<Message>>)
+    ensures { places.new.items ≡ replicate (length places.old.items) None }
+{
+    'places: for at in 0..places.len() {
+        places[at] = None;
+    }
 }

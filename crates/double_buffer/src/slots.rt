@@ -5,7 +5,7 @@ ghost use Rattle.double_buffer.specs.Taking.{CanTake};
 ghost use Rattle.double_buffer.specs.Held.{AreOfRound, with_letter, without_name};
 
 use crate::names::place_of;
-use crate::places::{clear, fill, held};
+use crate::places::{clear, fill, free_all, held};
 use std::alloc::Global;
 use std::marker::Model;
 use vert_base::{Message, Name, Want};
@@ -80,6 +80,13 @@ impl<const CAP: usize> Slots<CAP> {
     {
         let at = place_of(self.machines, name);
         clear(&mut self.places, at, name).map(|message| message.body)
+    }
+
+    /// Lets go of all that is held. It takes no memory.
+    pub fn clear(&mut self)
+        ensures { self.new ≡ record self.old { letters = [] } }
+    {
+        free_all(&mut self.places);
     }
 
     /// The body of a name, where it is held.

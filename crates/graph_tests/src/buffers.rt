@@ -5,7 +5,7 @@ ghost use Rattle.circulant_plan.specs.Spots.{IsSpotOf};
 ghost use Rattle.circulant_plan.specs.Standing.{round_of};
 ghost use Rattle.double_buffer.specs.Held.{AreOfRound};
 
-use super::messages::name_at;
+use super::names::name_at;
 use circulant_plan::{Ring, Spot, need};
 use double_buffer::Slots;
 use flight::Flight;

@@ -16,6 +16,8 @@ mod edges;
 #[cfg(test)]
 mod messages;
 #[cfg(test)]
+mod names;
+#[cfg(test)]
 mod parts;
 #[cfg(test)]
 mod plans;

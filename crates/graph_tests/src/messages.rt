@@ -1,10 +1,11 @@
-//! Names of messages, and their spelling.
+//! The spelling of messages.
 
 use super::bytes::bytes_of;
+use super::names::name_at;
 use dep_message::{HEADER, Header, encode, one_spelling};
 use sample_programs::Cells;
 use std::test::Fail;
-use vert_base::{Message, Name, NameKind};
+use vert_base::Message;
 
 /// The name: kind, round, step, half, sender and receiver; the body, and the spelling.
 static MESSAGES: &str = "\
@@ -15,29 +16,6 @@ tally | 0 | 0 | 0 | 1 | 0 | 0100000000000000000000000000000000000000000000000100
 verdict | 1 | 0 | 0 | 0 | 1 | 010300000000000000 | 06010000000000000109000000010300000000000000
 refresh | 10000 | 0 | 0 | 63 | 0 | | 011027000000003f0000000000
 push | 4294967295 | 0 | 0 | 255 | 0 | 00 | 04ffffffff0000ff000100000000";
-
-fn kind_of(word: &str) -> NameKind {
-    match word {
-        "refresh" => NameKind::Refresh,
-        "dep" => NameKind::Dep,
-        "update" => NameKind::Update,
-        "push" => NameKind::Push,
-        "tally" => NameKind::Tally,
-        _ => NameKind::Verdict,
-    }
-}
-
-/// The name in the next six cells.
-pub(crate) fn name_at(cells: &mut Cells) -> Result<Name, Fail> {
-    Ok(Name {
-        kind: kind_of(cells.text()),
-        round: cells.number()?,
-        step: cells.byte()?,
-        half: cells.byte()?,
-        from: cells.byte()?,
-        to: cells.byte()?,
-    })
-}
 
 #[test]
 fn spellings(rt: HostRuntime) -> Result<(), Fail> {

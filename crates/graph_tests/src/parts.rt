@@ -1,7 +1,7 @@
 //! Parts of machines: what they hold, the forms of their messages, and the messages that they take.
 
 use super::bytes::bytes_of;
-use super::messages::name_at;
+use super::names::name_at;
 use super::tables::table_at;
 use chunk_split::cuts_of;
 use dep_message::{decode, encode};

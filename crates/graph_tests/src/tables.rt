@@ -115,11 +115,11 @@ fn tables(rt: HostRuntime) -> Result<(), Fail> {
     for line in TABLES.lines() {
         let mut cells = Cells::new(line);
         let table = table_at(&rt, alloc, &mut cells)?;
-        let mut list = 0;
+        let mut count = 0u64;
         for v in 0..table.vertices() {
-            list += table.ins(VertexId(v)).len() as u64;
+            count = count.saturating_add(table.ins(VertexId(v)).len() as u64);
         }
-        assert_eq!(rt; u64::from(table.edges()), list, "{line}");
+        assert_eq!(rt; u64::from(table.edges()), count, "{line}");
         let found = told(&rt, alloc, &table, true)?;
         assert_eq!(rt; found.as_str(), cells.text(), "{line}");
         let found = told(&rt, alloc, &table, false)?;

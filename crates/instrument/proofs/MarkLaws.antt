@@ -4,50 +4,20 @@ use Rattle.std.specs.Prelude.{if◌then◌else◌, slice_get}
 use Rattle.std.specs.List.{list_all}
 use Rattle.std.proofs.lemmas.Bool.{and_parts, eq-eqb}
 use Rattle.std.proofs.lemmas.List.Folds.{list_all-append}
-use mathlib.Core.Former.{Count}
-use Rattle.std.specs.Global.{Vec}
-use Rattle.vert_base.specs.declared.text.Span.{Span}
 use Rattle.vert_base.specs.declared.value.Combine.TheVariants as combine
-use Rattle.vert_tree.specs.declared.expression.Expr.{Expr}
 use Rattle.vert_tree.specs.declared.expression.Node.TheVariants as nodes
 use Rattle.vert_tree.specs.declared.name.What.{What}
 use Rattle.vert_tree.specs.declared.name.What.TheVariants as what
 use Rattle.vert_tree.specs.declared.program.Decl.{Decl}
 use Rattle.vert_tree.specs.declared.statement.AssignOp.{AssignOp}
 use Rattle.vert_tree.specs.declared.statement.AssignOp.TheVariants as assign
-use Rattle.vert_tree.specs.declared.statement.Stmt.{Stmt, Row_of-Stmt, end_of-Stmt, more_of-Stmt, If', Some', items-the_row-Stmt, items_hidden-the_row-Stmt-0}
 use Rattle.vert_tree.specs.declared.statement.Stmt as statements
 use Rattle.vert_tree.specs.Plain.{nowhere}
 use Rattle.carry_analysis.specs.declared.classes.Class.{Class}
 use Rattle.carry_analysis.specs.declared.classes.Class.TheVariants.{Constant, Reduced, Carried}
-use Rattle.carry_analysis.specs.Classes.{Mark, Uses, Breaks, body_marks, class_of, expr_marks, is_added, is_lowered, is_raised, is_read, let_classes, node_marks, row_marks, statement_marks, uses_of}
+use Rattle.carry_analysis.specs.Classes.{Mark, class_of, is_added, is_lowered, is_raised, is_read, let_classes, node_marks, statement_marks, uses_of}
+use Rattle.carry_analysis.proofs.StatementMarks.{uses-append}
 use Rattle.instrument.proofs.WordLaws.{is_assignable, is_readable}
-
--- ---- the marks of an `if`
-
-marks_of_row : (n : _) (row : Row_of-Stmt n) → row_marks row ≡ body_marks (items-the_row-Stmt n row)
-marks_of_row n end_of-Stmt = refl
-marks_of_row n (more_of-Stmt s rest) = ap (λ l. statement_marks s ++ l) (marks_of_row _ rest)
-
-abbrev held_of : Stmt → (n : Count) × Row_of-Stmt n
-held_of (If' s test m held otherwise) = (_, held)
-held_of _ = (_, end_of-Stmt)
-
-abbrev otherwise_of : Stmt → (n : Count) × Row_of-Stmt n
-otherwise_of (If' s test m held (Some' k row)) = (_, row)
-otherwise_of _ = (_, end_of-Stmt)
-
-pub marks-if : (s : Span) (test : Expr) (held : Vec Stmt) → statement_marks (statements.If s test held None) ≡ expr_marks test ++ (body_marks held.items ++ [])
-marks-if s test held =
-    let b = held_of (statements.If s test held None) in
-    ap (λ l. expr_marks test ++ (l ++ [])) (marks_of_row b.0 b.1 ∙ ap body_marks (items_hidden-the_row-Stmt-0 held))
-
-pub marks-if_else : (s : Span) (test : Expr) (held otherwise : Vec Stmt) → statement_marks (statements.If s test held (Some otherwise)) ≡ expr_marks test ++ (body_marks held.items ++ body_marks otherwise.items)
-marks-if_else s test held otherwise =
-    let b = held_of (statements.If s test held (Some otherwise)) in
-    let o = otherwise_of (statements.If s test held (Some otherwise)) in
-    ap (λ l. expr_marks test ++ (l ++ row_marks o.1)) (marks_of_row b.0 b.1 ∙ ap body_marks (items_hidden-the_row-Stmt-0 held))
-    ∙ ap (λ l. expr_marks test ++ (body_marks held.items ++ l)) (marks_of_row o.0 o.1 ∙ ap body_marks (items_hidden-the_row-Stmt-0 otherwise))
 
 -- ---- what is allowed
 
@@ -67,24 +37,21 @@ is_allowed_at (Some c) i ms = is_allowed c i ms
 pub record Allowed (cs : List Class) (ms : List Mark) : Type 0 where
   pub each : (i : ℕ) → is_allowed_at (slice_get cs i) i ms ≡ true
 
-with-append : {U : Type 0} (t : Bool) (u : U) (all us vs : List U) → all ≡ us ++ vs → (if t then u ∷ all else all) ≡ (if t then u ∷ us else us) ++ vs
-with-append true u all us vs e = ap (λ l. u ∷ l) e
-with-append false u all us vs e = e
+tests_parts : {U : Type 0} (test : U → Bool) (all a b : List U) → all ≡ a ++ b → list_all test all ≡ true →
+    (list_all test a ≡ true) × (list_all test b ≡ true)
+tests_parts test all a b e h =
+    and_parts (list_all test a) (list_all test b) (sym (ap (list_all test) e ∙ list_all-append test a b) ∙ h)
 
-uses-append : (i : ℕ) (a b : List Mark) → uses_of i (a ++ b) ≡ uses_of i a ++ uses_of i b
-uses-append i [] b = refl
-uses-append i (Uses j u ∷ a) b = with-append (i == j) u (uses_of i (a ++ b)) (uses_of i a) (uses_of i b) (uses-append i a b)
-uses-append i (Breaks ∷ a) b = uses-append i a b
-
-tests_parts : {U : Type 0} (test : U → Bool) (all a b : List U) → all ≡ a ++ b → list_all test all ≡ true → (list_all test a ≡ true) × (list_all test b ≡ true)
-tests_parts test all a b e h = and_parts (list_all test a) (list_all test b) (sym (ap (list_all test) e ∙ list_all-append test a b) ∙ h)
-
-allowed_parts_at : (c : Option Class) (i : ℕ) (a b : List Mark) → is_allowed_at c i (a ++ b) ≡ true → (is_allowed_at c i a ≡ true) × (is_allowed_at c i b ≡ true)
+allowed_parts_at : (c : Option Class) (i : ℕ) (a b : List Mark) → is_allowed_at c i (a ++ b) ≡ true →
+    (is_allowed_at c i a ≡ true) × (is_allowed_at c i b ≡ true)
 allowed_parts_at None i a b h = (refl, refl)
 allowed_parts_at (Some Constant) i a b h = tests_parts is_read _ (uses_of i a) (uses_of i b) (uses-append i a b) h
-allowed_parts_at (Some (Reduced combine.Sum)) i a b h = tests_parts is_added _ (uses_of i a) (uses_of i b) (uses-append i a b) h
-allowed_parts_at (Some (Reduced combine.Min)) i a b h = tests_parts is_lowered _ (uses_of i a) (uses_of i b) (uses-append i a b) h
-allowed_parts_at (Some (Reduced combine.Max)) i a b h = tests_parts is_raised _ (uses_of i a) (uses_of i b) (uses-append i a b) h
+allowed_parts_at (Some (Reduced combine.Sum)) i a b h =
+    tests_parts is_added _ (uses_of i a) (uses_of i b) (uses-append i a b) h
+allowed_parts_at (Some (Reduced combine.Min)) i a b h =
+    tests_parts is_lowered _ (uses_of i a) (uses_of i b) (uses-append i a b) h
+allowed_parts_at (Some (Reduced combine.Max)) i a b h =
+    tests_parts is_raised _ (uses_of i a) (uses_of i b) (uses-append i a b) h
 allowed_parts_at (Some (Reduced combine.First)) i a b h = (h, h)
 allowed_parts_at (Some Carried) i a b h = (refl, refl)
 
@@ -99,10 +66,13 @@ abbrev pub read_marks : What → List Mark
 read_marks w = node_marks (nodes.Name (record { span = nowhere; name = 0; what = w }))
 
 abbrev pub assign_marks : What → AssignOp → List Mark
-assign_marks w op = statement_marks (statements.Assign (record { span = nowhere; name = 0; what = w }) op (record { span = nowhere; node = nodes.Int (pos 0) }))
+assign_marks w op = statement_marks
+    (statements.Assign (record { span = nowhere; name = 0; what = w }) op
+    (record { span = nowhere; node = nodes.Int (pos 0) }))
 
 -- the one use of a list of uses
-sole : {U : Type 0} (test : U → Bool) (b : Bool) (u : U) → b ≡ true → list_all test (if b then u ∷ [] else []) ≡ true → test u ≡ true
+sole : {U : Type 0} (test : U → Bool) (b : Bool) (u : U) → b ≡ true → list_all test (if b then u ∷ [] else []) ≡ true →
+    test u ≡ true
 sole test true u e h = (and_parts (test u) true h).0
 sole test false u e h = cc
 
@@ -118,7 +88,8 @@ readable_at (Some Carried) i h = refl
 pub readable : (cs : List Class) (i : ℕ) → Allowed cs (read_marks (what.Local i)) → is_readable (slice_get cs i) ≡ true
 readable cs i p = readable_at (slice_get cs i) i (p.each i)
 
-assignable_at : (c : Option Class) (i : ℕ) (op : AssignOp) → is_allowed_at c i (assign_marks (what.Local i) op) ≡ true → is_assignable c op ≡ true
+assignable_at : (c : Option Class) (i : ℕ) (op : AssignOp) → is_allowed_at c i (assign_marks (what.Local i) op) ≡ true →
+    is_assignable c op ≡ true
 assignable_at None i op h = refl
 assignable_at (Some Constant) i op h = sole is_read (i == i) _ (eq-eqb i i refl) h
 assignable_at (Some (Reduced combine.Sum)) i assign.Set h = sole is_added (i == i) _ (eq-eqb i i refl) h
@@ -136,7 +107,8 @@ assignable_at (Some (Reduced combine.Max)) i assign.Greatest h = refl
 assignable_at (Some (Reduced combine.First)) i op h = cc
 assignable_at (Some Carried) i op h = refl
 
-pub assignable : (cs : List Class) (i : ℕ) (op : AssignOp) → Allowed cs (assign_marks (what.Local i) op) → is_assignable (slice_get cs i) op ≡ true
+pub assignable : (cs : List Class) (i : ℕ) (op : AssignOp) → Allowed cs (assign_marks (what.Local i) op) →
+    is_assignable (slice_get cs i) op ≡ true
 assignable cs i op p = assignable_at (slice_get cs i) i op (p.each i)
 
 -- ---- the classes of a body allow what stands in it
@@ -159,7 +131,8 @@ by_class (Reduced combine.Max) reads adds lowers raises = raises
 by_class (Reduced combine.First) reads adds lowers raises = false
 by_class Carried reads adds lowers raises = true
 
-chosen_holds : (reads adds lowers raises : Bool) → by_class (chosen reads adds lowers raises) reads adds lowers raises ≡ true
+chosen_holds : (reads adds lowers raises : Bool) →
+    by_class (chosen reads adds lowers raises) reads adds lowers raises ≡ true
 chosen_holds true adds lowers raises = refl
 chosen_holds false true lowers raises = refl
 chosen_holds false false true raises = refl
@@ -167,7 +140,8 @@ chosen_holds false false false true = refl
 chosen_holds false false false false = refl
 
 allowed_is : (c : Class) (i : ℕ) (ms : List Mark) →
-    is_allowed c i ms ≡ by_class c (list_all is_read (uses_of i ms)) (list_all is_added (uses_of i ms)) (list_all is_lowered (uses_of i ms)) (list_all is_raised (uses_of i ms))
+    is_allowed c i ms ≡ by_class c (list_all is_read (uses_of i ms)) (list_all is_added (uses_of i ms))
+    (list_all is_lowered (uses_of i ms)) (list_all is_raised (uses_of i ms))
 allowed_is Constant i ms = refl
 allowed_is (Reduced combine.Sum) i ms = refl
 allowed_is (Reduced combine.Min) i ms = refl
@@ -178,11 +152,14 @@ allowed_is Carried i ms = refl
 class_allows : (i : ℕ) (ms : List Mark) → is_allowed (class_of (uses_of i ms)) i ms ≡ true
 class_allows i ms =
     allowed_is (class_of (uses_of i ms)) i ms
-    ∙ chosen_holds (list_all is_read (uses_of i ms)) (list_all is_added (uses_of i ms)) (list_all is_lowered (uses_of i ms)) (list_all is_raised (uses_of i ms))
+    ∙ chosen_holds (list_all is_read (uses_of i ms)) (list_all is_added (uses_of i ms))
+    (list_all is_lowered (uses_of i ms)) (list_all is_raised (uses_of i ms))
 
-classes_allow_from : (ds : List Decl) (i j k : ℕ) (ms : List Mark) → k ≡ i + j → is_allowed_at (slice_get (let_classes i ds ms) j) k ms ≡ true
+classes_allow_from : (ds : List Decl) (i j k : ℕ) (ms : List Mark) → k ≡ i + j →
+    is_allowed_at (slice_get (let_classes i ds ms) j) k ms ≡ true
 classes_allow_from [] i j k ms e = refl
-classes_allow_from (d ∷ ds) i zero k ms e = ap (λ n. is_allowed (class_of (uses_of i ms)) n ms) (omega arith) ∙ class_allows i ms
+classes_allow_from (d ∷ ds) i zero k ms e =
+    ap (λ n. is_allowed (class_of (uses_of i ms)) n ms) (omega arith) ∙ class_allows i ms
 classes_allow_from (d ∷ ds) i (suc j) k ms e = classes_allow_from ds (i + 1) j k ms (omega arith)
 
 pub classes_allow : (ds : List Decl) (ms : List Mark) → Allowed (let_classes 0 ds ms) ms

@@ -16,7 +16,7 @@ use Rattle.slot_merge.proofs.CombineLaws.{combined_of-assoc, combined_of-comm, M
 use Rattle.vert_eval.specs.Values.{word_at}
 use Rattle.vert_eval.specs.Words.{assigned}
 use Rattle.instrument.specs.Segments.{carried_words, received_over, with_neutral}
-use Rattle.instrument.specs.Continued.{combined_word, combined_words}
+use Rattle.instrument.specs.Continued.{AreLeft, IsLeft, combined_word, combined_words}
 
 -- ---- what each class allows
 
@@ -42,7 +42,8 @@ is_assignable (Some Carried) op = true
 
 -- ---- one word
 
-combine_after : (op : Combine) (other : AssignOp) (b x v : ℤ) → is_operator op other ≡ true → assigned other (combined_of op b x) v ≡ combined_of op b (assigned other x v)
+combine_after : (op : Combine) (other : AssignOp) (b x v : ℤ) → is_operator op other ≡ true →
+    assigned other (combined_of op b x) v ≡ combined_of op b (assigned other x v)
 combine_after combine.Sum assign.Add b x v e = combined_of-assoc combine.Sum b x v
 combine_after combine.Min assign.Least b x v e = combined_of-assoc combine.Min b x v
 combine_after combine.Max assign.Greatest b x v e = combined_of-assoc combine.Max b x v
@@ -59,7 +60,8 @@ combine_after combine.First other b x v e = cc
 
 -- ---- the words of a segment over those before it
 
-pub read_same : (cs : List Class) (before xs : List ℤ) (i : ℕ) → is_readable (slice_get cs i) ≡ true → word_at (combined_words cs before xs) i ≡ word_at xs i
+pub read_same : (cs : List Class) (before xs : List ℤ) (i : ℕ) → is_readable (slice_get cs i) ≡ true →
+    word_at (combined_words cs before xs) i ≡ word_at xs i
 read_same [] before xs i h = refl
 read_same (c ∷ cs) [] xs i h = refl
 read_same (c ∷ cs) (b ∷ before) [] i h = refl
@@ -69,17 +71,23 @@ read_same (Carried ∷ cs) (b ∷ before) (x ∷ xs) zero h = refl
 read_same (c ∷ cs) (b ∷ before) (x ∷ xs) (suc i) h = read_same cs before xs i h
 
 -- an assignment before or after the words are combined
-pub assign_same : (cs : List Class) (before xs : List ℤ) (i : ℕ) (op : AssignOp) (v : ℤ) → is_assignable (slice_get cs i) op ≡ true →
-    slice_set (combined_words cs before xs) i (assigned op (word_at (combined_words cs before xs) i) v) ≡ combined_words cs before (slice_set xs i (assigned op (word_at xs i) v))
+pub assign_same : (cs : List Class) (before xs : List ℤ) (i : ℕ) (op : AssignOp) (v : ℤ) →
+    is_assignable (slice_get cs i) op ≡ true →
+    slice_set (combined_words cs before xs) i
+    (assigned op (word_at (combined_words cs before xs) i) v) ≡ combined_words cs before
+    (slice_set xs i (assigned op (word_at xs i) v))
 assign_same [] before xs i op v h = refl
 assign_same (c ∷ cs) [] xs i op v h = refl
 assign_same (c ∷ cs) (b ∷ before) [] i op v h = refl
 assign_same (Constant ∷ cs) (b ∷ before) (x ∷ xs) zero op v h = cc
-assign_same (Reduced kind ∷ cs) (b ∷ before) (x ∷ xs) zero op v h = ap (λ y. y ∷ combined_words cs before xs) (combine_after kind op b x v h)
+assign_same (Reduced kind ∷ cs) (b ∷ before) (x ∷ xs) zero op v h =
+    ap (λ y. y ∷ combined_words cs before xs) (combine_after kind op b x v h)
 assign_same (Carried ∷ cs) (b ∷ before) (x ∷ xs) zero op v h = refl
-assign_same (c ∷ cs) (b ∷ before) (x ∷ xs) (suc i) op v h = ap (λ l. combined_word c b x ∷ l) (assign_same cs before xs i op v h)
+assign_same (c ∷ cs) (b ∷ before) (x ∷ xs) (suc i) op v h =
+    ap (λ l. combined_word c b x ∷ l) (assign_same cs before xs i op v h)
 
-pub carried_same : (cs : List Class) (before xs : List ℤ) → carried_words cs (combined_words cs before xs) ≡ carried_words cs xs
+pub carried_same : (cs : List Class) (before xs : List ℤ) →
+    carried_words cs (combined_words cs before xs) ≡ carried_words cs xs
 carried_same [] before xs = refl
 carried_same (c ∷ cs) [] xs = refl
 carried_same (c ∷ cs) (b ∷ before) [] = refl
@@ -89,29 +97,17 @@ carried_same (Carried ∷ cs) (b ∷ before) (x ∷ xs) = ap (λ l. x ∷ l) (ca
 
 -- ---- words from which a segment can go on
 
--- a word that a loop left of a let with this value of its own
-abbrev pub IsLeft : Class → ℤ → ℤ → Type 0
-IsLeft Constant own x = x ≡ own
-IsLeft Carried own x = Unit {0}
-IsLeft (Reduced op) own x = combined_of op x (neutral op) ≡ x
-
-abbrev pub AreLeft : List Class → List ℤ → List ℤ → Type 0
-AreLeft [] [] [] = Unit {0}
-AreLeft (c ∷ cs) (o ∷ own) (x ∷ xs) = IsLeft c o x × AreLeft cs own xs
-AreLeft [] (o ∷ own) xs = ⊥
-AreLeft [] [] (x ∷ xs) = ⊥
-AreLeft (c ∷ cs) [] xs = ⊥
-AreLeft (c ∷ cs) (o ∷ own) [] = ⊥
-
 -- one operand more comes behind what changes nothing
-swapped : (op : Combine) (x v : ℤ) → op ≢ combine.First → combined_of op x (neutral op) ≡ x → combined_of op (combined_of op x v) (neutral op) ≡ combined_of op x v
+swapped : (op : Combine) (x v : ℤ) → op ≢ combine.First → combined_of op x (neutral op) ≡ x →
+    combined_of op (combined_of op x v) (neutral op) ≡ combined_of op x v
 swapped op x v other h =
     combined_of-assoc op x v (neutral op)
     ∙ ap (combined_of op x) (combined_of-comm op other v (neutral op))
     ∙ sym (combined_of-assoc op x (neutral op) v)
     ∙ ap (λ y. combined_of op y v) h
 
-neutral_stays : (op : Combine) (other : AssignOp) (x v : ℤ) → is_operator op other ≡ true → combined_of op x (neutral op) ≡ x →
+neutral_stays : (op : Combine) (other : AssignOp) (x v : ℤ) → is_operator op other ≡ true →
+    combined_of op x (neutral op) ≡ x →
     combined_of op (assigned other x v) (neutral op) ≡ assigned other x v
 neutral_stays combine.Sum assign.Add x v e h = swapped combine.Sum x v Sum≢First h
 neutral_stays combine.Min assign.Least x v e h = swapped combine.Min x v Min≢First h
@@ -128,7 +124,8 @@ neutral_stays combine.Max assign.Least x v e h = cc
 neutral_stays combine.First other x v e h = cc
 
 -- an assignment leaves such words
-pub left_after : (cs : List Class) (own xs : List ℤ) (i : ℕ) (op : AssignOp) (v : ℤ) → is_assignable (slice_get cs i) op ≡ true →
+pub left_after : (cs : List Class) (own xs : List ℤ) (i : ℕ) (op : AssignOp) (v : ℤ) →
+    is_assignable (slice_get cs i) op ≡ true →
     AreLeft cs own xs → AreLeft cs own (slice_set xs i (assigned op (word_at xs i) v))
 left_after [] [] [] i op v h p = p
 left_after [] [] (x ∷ xs) i op v h p = absurd p
@@ -149,11 +146,13 @@ own_is_left (Reduced combine.Min) o f = omega (arith, ints, clamps)
 own_is_left (Reduced combine.Max) o f = omega (arith, ints, clamps)
 own_is_left (Reduced combine.First) o f = refl
 
-pub own_are_left : (cs : List Class) (own : List ℤ) → length cs ≡ length own → All (FitsSigned w64) own → AreLeft cs own own
+pub own_are_left : (cs : List Class) (own : List ℤ) → length cs ≡ length own → All (FitsSigned w64) own →
+    AreLeft cs own own
 own_are_left [] [] e all = tt
 own_are_left [] (o ∷ own) e all = absurd (omega arith)
 own_are_left (c ∷ cs) [] e all = absurd (omega arith)
-own_are_left (c ∷ cs) (o ∷ own) e all = (own_is_left c o (all 0 o (omega arith)), own_are_left cs own (omega arith) (All-tail (FitsSigned w64) o own all))
+own_are_left (c ∷ cs) (o ∷ own) e all =
+    (own_is_left c o (all 0 o (omega arith)), own_are_left cs own (omega arith) (All-tail (FitsSigned w64) o own all))
 
 -- what a segment begins with, given what the loop left, over which it is combined
 abbrev pub restarted : List Class → List ℤ → List ℤ → List ℤ
@@ -166,12 +165,9 @@ rejoined [] (o ∷ own) xs p = absurd p
 rejoined (c ∷ cs) [] xs p = absurd p
 rejoined (c ∷ cs) (o ∷ own) [] p = absurd p
 rejoined (Constant ∷ cs) (o ∷ own) (x ∷ xs) p = ap (λ l. o ∷ l) (rejoined cs own xs p.1) ∙ ap (λ y. y ∷ xs) (sym p.0)
-rejoined (Reduced op ∷ cs) (o ∷ own) (x ∷ xs) p = ap (λ l. combined_of op x (neutral op) ∷ l) (rejoined cs own xs p.1) ∙ ap (λ y. y ∷ xs) p.0
+rejoined (Reduced op ∷ cs) (o ∷ own) (x ∷ xs) p =
+    ap (λ l. combined_of op x (neutral op) ∷ l) (rejoined cs own xs p.1) ∙ ap (λ y. y ∷ xs) p.0
 rejoined (Carried ∷ cs) (o ∷ own) (x ∷ xs) p = ap (λ l. x ∷ l) (rejoined cs own xs p.1)
-
--- what a segment begins with holds the words received
-pub given_back : (cs : List Class) (own xs : List ℤ) → AreLeft cs own xs → carried_words cs (restarted cs own xs) ≡ carried_words cs xs
-given_back cs own xs p = sym (carried_same cs xs (restarted cs own xs)) ∙ ap (carried_words cs) (rejoined cs own xs p)
 
 -- words received that are those of the lets change nothing
 pub own_over : (cs : List Class) (own : List ℤ) → received_over cs (carried_words cs own) own ≡ own
@@ -181,7 +177,8 @@ own_over (Constant ∷ cs) (o ∷ own) = ap (λ l. o ∷ l) (own_over cs own)
 own_over (Reduced op ∷ cs) (o ∷ own) = ap (λ l. o ∷ l) (own_over cs own)
 own_over (Carried ∷ cs) (o ∷ own) = ap (λ l. o ∷ l) (own_over cs own)
 
-pub length-carried_words : (cs : List Class) (xs : List ℤ) → length xs ≡ length cs → length (carried_words cs xs) ≡ carried_in cs
+pub length-carried_words : (cs : List Class) (xs : List ℤ) → length xs ≡ length cs →
+    length (carried_words cs xs) ≡ carried_in cs
 length-carried_words [] xs e = refl
 length-carried_words (c ∷ cs) [] e = absurd (omega arith)
 length-carried_words (Constant ∷ cs) (x ∷ xs) e = length-carried_words cs xs (omega arith)

@@ -1,6 +1,6 @@
 -- The law of split loops: segments of a loop, each of which begins with what the one before it gave,
 -- come to what the whole loop comes to.
-use Rattle.std.specs.Prelude.{◌≡◌, ℕ, ℤ, List, [], ◌∷◌, ◌++◌, All, FitsSigned, Option, None, Some, bit_or, flat_map, length, slice_get, true}
+use Rattle.std.specs.Prelude.{◌≡◌, ℕ, ℤ, List, [], ◌∷◌, ◌++◌, All, FitsSigned, Option, None, Some, bit_or, flat_map, length, slice_get, true, ⊤}
 use Rattle.std.specs.Int.{bit_at, w64}
 use Rattle.vert_base.specs.declared.graph.Edge.{Edge}
 use Rattle.vert_base.specs.declared.value.Combine.{Combine}
@@ -33,6 +33,22 @@ combined_words [] before words = words
 combined_words (c ∷ cs) [] words = words
 combined_words (c ∷ cs) (b ∷ before) [] = []
 combined_words (c ∷ cs) (b ∷ before) (x ∷ xs) = combined_word c b x ∷ combined_words cs before xs
+
+-- a word that a loop may leave in a let that has this word of its own: a constant let keeps its own
+-- word, and what a reduced let has doesn't change where the neutral value is combined with it
+abbrev pub IsLeft : Class → ℤ → ℤ → Type 0
+IsLeft Constant own x = x ≡ own
+IsLeft Carried own x = ⊤
+IsLeft (Reduced op) own x = combined_of op x (neutral op) ≡ x
+
+-- let by let, and as many words as lets
+abbrev pub AreLeft : List Class → List ℤ → List ℤ → Type 0
+AreLeft [] [] [] = ⊤
+AreLeft (c ∷ cs) (o ∷ own) (x ∷ xs) = IsLeft c o x × AreLeft cs own xs
+AreLeft [] (o ∷ own) xs = ⊥
+AreLeft [] [] (x ∷ xs) = ⊥
+AreLeft (c ∷ cs) [] xs = ⊥
+AreLeft (c ∷ cs) (o ∷ own) [] = ⊥
 
 -- a run with what a segment adds to it
 abbrev pub with_segment : SplitLoop → Ran → Ran → Ran
@@ -88,23 +104,29 @@ GoesOn s d env =
     (whole s d env first).flow ≡ Going →
     SameOutcome
     (whole s d env (first ++ second))
-    (with_segment (loop_split d) (whole s d env first) (segment s d env (Some (given (loop_split d) (whole s d env first).env)) second))
+    (with_segment (loop_split d) (whole s d env first)
+    (segment s d env (Some (given (loop_split d) (whole s d env first).env)) second))
 
 -- where it broke, the whole loop has come to its end
 abbrev pub Ends : Scene → Dense → Env → Type 0
-Ends s d env = (first second : List Edge) → (whole s d env first).flow ≡ Broke → whole s d env (first ++ second) ≡ whole s d env first
+Ends s d env = (first second : List Edge) → (whole s d env first).flow ≡ Broke →
+    whole s d env (first ++ second) ≡ whole s d env first
 
 -- a segment that received nothing begins as one that received the carried lets' own words
 abbrev pub BeginsWithOwn : Dense → Env → Type 0
-BeginsWithOwn d env = begun (loop_split d) d.lets.items None env ≡ begun (loop_split d) d.lets.items (Some (given (loop_split d) (only_lets d.lets.items env))) env
+BeginsWithOwn d env =
+    let received = Some (given (loop_split d) (only_lets d.lets.items env)) in
+    begun (loop_split d) d.lets.items None env ≡ begun (loop_split d) d.lets.items received env
 
 -- what a segment gives is what the whole loop gives there
 abbrev pub GivesOn : Dense → Type 0
-GivesOn d = (before part : Ran) → given (loop_split d) (with_segment (loop_split d) before part).env ≡ given (loop_split d) part.env
+GivesOn d = (before part : Ran) →
+    given (loop_split d) (with_segment (loop_split d) before part).env ≡ given (loop_split d) part.env
 
 -- a segment gives as many words as the carry has
 abbrev pub GivesEachWord : Dense → Type 0
-GivesEachWord d = (env : Env) → length env.locals.items ≡ length d.lets.items → length (given (loop_split d) env) ≡ carried_in (loop_split d).classes.locals.items
+GivesEachWord d = (env : Env) → length env.locals.items ≡ length d.lets.items →
+    length (given (loop_split d) env) ≡ carried_in (loop_split d).classes.locals.items
 
 -- a segment leaves the neutral value in each reduced let that it doesn't mark
 abbrev pub LeavesNeutral : Scene → Dense → Env → Type 0
@@ -114,11 +136,18 @@ LeavesNeutral s d env =
     bit_at (segment s d env received members).env.touched i ≡ 0 →
     word_at (segment s d env received members).env.locals.items i ≡ neutral op
 
+-- whatever its members, the loop leaves in the lets words that their classes allow
+abbrev pub LetsStay : Scene → Dense → Env → Type 0
+LetsStay s d env =
+    (members : List Edge) →
+    AreLeft (loop_split d).classes.locals.items (own_words d.lets.items env) (whole s d env members).env.locals.items
+
 -- the loop over all parts comes to what the segments add to the lets' own values, one after another
 abbrev pub ComesTogether : Scene → Dense → Env → Type 0
 ComesTogether s d env =
     (parts : List (List Edge)) →
-    SameOutcome (whole s d env (flat_map (λ part. part) parts)) (with_segments (loop_split d) (leaves (only_lets d.lets.items env)) (segments s d env None parts))
+    SameOutcome (whole s d env (flat_map (λ part. part) parts))
+    (with_segments (loop_split d) (leaves (only_lets d.lets.items env)) (segments s d env None parts))
 
 -- the dense block of a typed program at a vertex where the lets' own values are words of 64 bits
 pub record IsSplit (p : Program) (d : Dense) (env : Env) : Type 0 where

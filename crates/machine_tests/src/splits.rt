@@ -1,18 +1,21 @@
 //! How loops are split: the classes of their lets, what is shown of it, and what segments begin with and give.
 
+ghost use Rattle.std.specs.Prelude.{◌≡◌};
+ghost use Rattle.instrument.specs.Segments.{lets_in};
+
 use super::programs::{split, typed};
 use super::steps::are_placed;
 use super::values::words;
 use arrayvec::ArrayVec;
 use carry_analysis::{carry_of, classes_of};
-use instrument::{print_split, segments_are_the_loop};
+use instrument::{Split, print_split, segments_are_the_loop};
 use sample_programs::{Cells, edited, program_named};
 use std::alloc::Global;
 use std::process::Abort;
 use std::test::Fail;
 use vert_base::{Neighbour, Row, VertexId};
 use vert_eval::Env;
-use vert_tree::Typed;
+use vert_tree::{Decl, Program, Typed};
 
 /// A program with places for lets and for a loop body.
 static FRAME: &str = "vertex 1; mode dense; limit 1;
@@ -178,30 +181,54 @@ fn env() -> Result<Env, Fail> {
     })
 }
 
-/// What a segment receives, the locals that it begins with, and what it hands on then.
+/// What a segment receives; the locals that it begins with, their marks, and what it hands on then.
 static SEGMENTS: &str = "\
-| 7 0 9 9223372036854775807 | 9
--4 | 7 0 -4 9223372036854775807 | -4";
+| [7, 0, 9, 9223372036854775807] 0 [9]
+-4 | [7, 0, -4, 9223372036854775807] 0 [-4]";
+
+/// The lets of the loop.
+fn lets_of(program: &Program) -> &[Decl]
+    ensures { result.now ≡ lets_in program.now.dense }
+{
+    match &program.dense {
+        Some(dense) => &dense.lets,
+        None => &[],
+    }
+}
+
+/// What a segment begins with after these words, and what it hands on.
+fn segment_told(
+    rt: &impl Abort,
+    alloc: Global,
+    split: &Split,
+    received: &[i64],
+) -> Result<String, Fail> {
+    let Some(part) = &split.dense else {
+        return Err(Fail::from("no split"));
+    };
+    let mut env = env()?;
+    let mut given = ArrayVec::new();
+    assert!(rt; env.round <= 10_000 && env.id.0 < 1 << 24);
+    assert!(rt; are_placed(lets_of(&split.program.program), &env, 0));
+    let received = if received.is_empty() {
+        None
+    } else {
+        Some(received)
+    };
+    part.begin(&split.program, &mut env, received);
+    part.give(&env, &mut given);
+    let (locals, gives) = (env.locals.as_slice(), given.as_slice());
+    Ok(format!(in alloc; "{locals:?} {} {gives:?}", env.touched)?)
+}
 
 #[test]
 fn segments_begin_and_give(rt: HostRuntime) -> Result<(), Fail> {
     let split = split(rt.alloc(), EVERY_CLASS)?;
-    let part = split.dense.as_ref().ok_or("no split")?;
-    let dense = split.program.program.dense.as_ref().ok_or("no loop")?;
     for line in SEGMENTS.lines() {
         let mut cells = Cells::new(line);
         let received = words::<8>(cells.text())?;
-        let received = (!received.is_empty()).then_some(received.as_slice());
-        let mut env = env()?;
-        let mut given = ArrayVec::new();
-        assert!(rt; env.round <= 10_000 && env.id.0 < 1 << 24 && are_placed(&dense.lets, &env, 0));
-        part.begin(&split.program, &mut env, received);
-        let locals = words::<8>(cells.text())?;
-        assert_eq!(rt; env.locals.as_slice(), locals.as_slice(), "{line}");
-        assert_eq!(rt; env.touched, 0, "{line}");
-        part.give(&env, &mut given);
-        let gives = words::<8>(cells.text())?;
-        assert_eq!(rt; given.as_slice(), gives.as_slice(), "{line}");
+        let found = segment_told(&rt, rt.alloc(), &split, received.as_slice())?;
+        assert_eq!(rt; found.as_str(), cells.text(), "{line}");
     }
     Ok(())
 }

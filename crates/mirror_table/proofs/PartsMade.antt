@@ -8,13 +8,13 @@ use Rattle.std.proofs.lemmas.List.Elements.{All-from_recursion}
 use Rattle.std.specs.declared.alloc.Global.{Global}
 use Rattle.std.specs.declared.vec.Vec.{Vec}
 use Rattle.std.proofs.lemmas.List.{length-map}
-use Rattle.std.proofs.lemmas.List.FromFn.{get_or-map-range_with_len, length-map-range_with_len}
+use Rattle.std.proofs.lemmas.List.FromFn.{length-map-range_with_len}
 use Rattle.vert_base.specs.declared.graph.Edge.{Edge}
 use Rattle.vert_base.specs.declared.graph.VertexId.{VertexId}
 use Rattle.vert_base.specs.Neighbours.{AreBelow, source, target, in_order, ins_of, outs_of}
 use Rattle.chunk_split.specs.Chunks.{AreEnds, vertices_of}
 use Rattle.circulant_plan.specs.Ring.{lies_in, start_of}
-use Rattle.circulant_plan.proofs.SpanLaws.{in_order_rises}
+use Rattle.vert_base.proofs.Orders.{in_order_rises}
 use Rattle.symple_face.specs.declared.degree.Degree.{Degree}
 use Rattle.symple_face.specs.Parts.{PlainPart, chunk_vertices, degree_in, ends_met, for_others, lists_of, push_list, refresh_list}
 use Rattle.symple_face.specs.PartsOf.{known_of, part_of, push_of, scan_of}

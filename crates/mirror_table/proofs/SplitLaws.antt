@@ -8,7 +8,7 @@ use Rattle.std.proofs.lemmas.List.Elements.{All-filter, filter_agree, recursion_
 use Rattle.std.proofs.lemmas.List.FromFn.{map-range_with_len_more}
 use Rattle.std.proofs.lemmas.List.Kept.{IsNonDecreasingBy-filter}
 use Rattle.circulant_plan.specs.Ring.{start_of}
-use Rattle.circulant_plan.proofs.SpanLaws.{Rises}
+use Rattle.vert_base.proofs.Orders.{Rises}
 use Rattle.graph_table.proofs.FilterLaws.{all_true, filter_all, filter_filter, filter_none, map-append}
 
 below_too : (a b k : ℕ) → a ≤ b → nat_lt b k ≡ true → nat_lt a k ≡ true

@@ -20,15 +20,28 @@ pub alike_sym : (a b : Ran) → Alike a b → Alike b a
 alike_sym a b p = record { env = SameButNeighbour-sym a.env b.env p.env; emitted = sym p.emitted; flow = sym p.flow }
 
 pub alike_trans : (a b c : Ran) → Alike a b → Alike b c → Alike a c
-alike_trans a b c p q = record { env = SameButNeighbour-trans a.env b.env c.env p.env q.env; emitted = q.emitted ∙ p.emitted; flow = q.flow ∙ p.flow }
+alike_trans a b c p q =
+    record {
+      env = SameButNeighbour-trans a.env b.env c.env p.env q.env;
+      emitted = q.emitted ∙ p.emitted;
+      flow = q.flow
+          ∙ p.flow;
+    }
 
 -- an act that runs alike
 pub record Blind (f : Act) : Type 0 where
   pub alike : (a b : Env) → SameButNeighbour a b → Alike (f a) (f b)
 
 -- a run that goes on, by how both runs end
-pub next_alike : (v w : Flow) (x y p q : Ran) → w ≡ v → Alike x y → Alike p q → Alike (by_flow v x (after x p)) (by_flow w y (after y q))
-next_alike Going Going x y p q e h k = record { env = k.env; emitted = ap (λ es. es ++ q.emitted) h.emitted ∙ ap (λ es. x.emitted ++ es) k.emitted; flow = k.flow }
+pub next_alike : (v w : Flow) (x y p q : Ran) → w ≡ v → Alike x y → Alike p q →
+    Alike (by_flow v x (after x p)) (by_flow w y (after y q))
+next_alike Going Going x y p q e h k =
+    record {
+      env = k.env;
+      emitted = ap (λ es. es ++ q.emitted) h.emitted
+          ∙ ap (λ es. x.emitted ++ es) k.emitted;
+      flow = k.flow;
+    }
 next_alike Broke Broke x y p q e h k = h
 next_alike Going Broke x y p q e h k = cc
 next_alike Broke Going x y p q e h k = cc
@@ -36,5 +49,6 @@ next_alike Broke Going x y p q e h k = cc
 -- a block that reads no neighbour runs alike wherever the loop is
 pub run_blind : (body : List Stmt) → IsTrue (body_read in_tests body) → Blind (run body)
 run_blind body h = record {
-  alike = λ a b same. let runs = blindness.run_blind body h a b same in record { env = runs.env; emitted = runs.emitted; flow = runs.flow };
+  alike = λ a b same. let runs =
+      blindness.run_blind body h a b same in record { env = runs.env; emitted = runs.emitted; flow = runs.flow };
 }

@@ -25,7 +25,9 @@ pub hits : {X : Type 0} → (X → Bool) → List X → ℕ
 hits p [] = 0
 hits p (x ∷ xs) = if p x then suc (hits p xs) else hits p xs
 
-hits_flip : (b c : Bool) (n : ℕ) → (if b then suc (if c then suc n else n) else (if c then suc n else n)) ≡ (if c then suc (if b then suc n else n) else (if b then suc n else n))
+hits_flip : (b c : Bool) (n : ℕ) →
+    (if b then suc (if c then suc n else n) else (if c then suc n else n)) ≡
+    (if c then suc (if b then suc n else n) else (if b then suc n else n))
 hits_flip true true n = refl
 hits_flip true false n = refl
 hits_flip false true n = refl
@@ -52,11 +54,16 @@ times (suc n) f env = followed_by (f env) (times n f)
 -- a run that emitted nothing and goes on
 silent : (x r y : Ran) → r.emitted ≡ [] → r.flow ≡ Going → Alike x y → Alike x (by_flow r.flow r (after r y))
 silent x r y none goes h =
-    let k : Alike x (after r y) = record { env = h.env; emitted = ap (λ es. es ++ y.emitted) none ∙ h.emitted; flow = h.flow } in
+    let k : Alike x (after r y) =
+    record { env = h.env; emitted = ap (λ es. es ++ y.emitted) none ∙ h.emitted; flow = h.flow } in
     subst (λ v. Alike x (by_flow v r (after r y))) (sym goes) k
 
 agreed : (a b : Ran) → Alike a b → Agree a b
-agreed a b h = record { env = h.env; emitted = subst (IsPermutation a.emitted) (sym h.emitted) (IsPermutation-refl a.emitted) }
+agreed a b h = record {
+  env = h.env;
+  emitted = subst (IsPermutation a.emitted) (sym h.emitted)
+      (IsPermutation-refl a.emitted);
+}
 
 module _ (s : Scene) (body : List Stmt) (test : Node) (f : Act) (held : ℕ → Bool)
     (is : (env : Env) → Alike (if is_set (node_value test env) then f env else leaves env) (run body env))
@@ -84,7 +91,8 @@ module _ (s : Scene) (body : List Stmt) (test : Node) (f : Act) (held : ℕ → 
       let ls = ap (λ x. x.locals) p in
       record {
         from = p ∙ ap (λ (x : Env). record x { other = b.other; other_row = b.other_row; touched = b.touched }) h.from
-            ∙ ap (λ l. record start { other = b.other; other_row = b.other_row; locals = l; touched = b.touched }) (sym ls);
+            ∙ ap (λ l. record start { other = b.other; other_row = b.other_row; locals = l; touched = b.touched })
+            (sym ls);
         lets = record { same = λ i k. ap (λ l. word_at l.items i) ls ∙ h.lets.same i k };
       }
 
@@ -98,42 +106,68 @@ module _ (s : Scene) (body : List Stmt) (test : Node) (f : Act) (held : ℕ → 
     lets = record { same = λ i k. (words a).same i k ∙ h.lets.same i k };
   }
     where
-      other_is : record start { other = a.other; other_row = a.other_row; locals = (f a).env.locals; touched = (f a).env.touched } ≡ record start { other = (f a).env.other; other_row = (f a).env.other_row; locals = (f a).env.locals; touched = (f a).env.touched }
-      other_is = ap (λ (x : Env). record start { other = x.other; other_row = x.other_row; locals = (f a).env.locals; touched = (f a).env.touched }) (sym (rest a))
+      other_is : record start {
+        other = a.other;
+        other_row = a.other_row;
+        locals = (f a).env.locals;
+        touched =
+            (f a).env.touched;
+      } ≡ record
+          start {
+            other = (f a).env.other;
+            other_row = (f a).env.other_row;
+            locals = (f a).env.locals;
+            touched =
+                (f a).env.touched;
+          }
+      other_is = ap (λ (x : Env). record
+          start { other = x.other; other_row = x.other_row; locals = (f a).env.locals; touched = (f a).env.touched })
+          (sym (rest a))
 
   -- what the loop over some members does is what a count of them does
   abbrev CountsOver : List Edge → Type 0
   CountsOver ms = (e b : Env) → SameButNeighbour b e → Reached e → Alike (times (hits passes ms) f b) (loop s body ms e)
 
-  module _ (m : Edge) (ms : List Edge) (more : CountsOver ms) (e b : Env) (p : SameButNeighbour b e) (h : Reached e) where
+  module _ (m : Edge) (ms : List Edge) (more : CountsOver ms) (e b : Env) (p : SameButNeighbour b e)
+      (h : Reached e) where
     abbrev here : Env
     here = at_member s m e
 
     abbrev one : Ran
     one = member_act s body m e
 
-    step : (t : Bool) → is_set (node_value test here) ≡ t → Alike (times (if t then suc (hits passes ms) else hits passes ms) f b) (followed_by one (loop s body ms))
+    step : (t : Bool) → is_set (node_value test here) ≡ t →
+        Alike (times (if t then suc (hits passes ms) else hits passes ms) f b) (followed_by one (loop s body ms))
     step true is_true =
-        let first : Alike (f here) (run body here) = subst (λ t. Alike (if t then f here else leaves here) (run body here)) is_true (is here) in
-        let both : Alike (f b) (run body here) = alike_trans (f b) (f here) (run body here) (blind.alike b here (SameButNeighbour-trans b e here p refl)) first in
+        let first : Alike (f here) (run body here) =
+        subst (λ t. Alike (if t then f here else leaves here) (run body here)) is_true (is here) in
+        let both : Alike (f b) (run body here) =
+        alike_trans (f b) (f here) (run body here)
+        (blind.alike b here (SameButNeighbour-trans b e here p refl)) first in
         let now : Alike (f b) one = record { env = both.env; emitted = both.emitted; flow = both.flow } in
-        next_alike (f b).flow one.flow (f b) one (times (hits passes ms) f (f b).env) (loop s body ms one.env) now.flow now
-        (more one.env (f b).env now.env (reached_beside (f here).env one.env first.env (reached_by here (reached_at m e h))))
+        next_alike (f b).flow one.flow (f b) one (times (hits passes ms) f (f b).env)
+        (loop s body ms one.env) now.flow now
+        (more one.env (f b).env now.env
+        (reached_beside (f here).env one.env first.env (reached_by here (reached_at m e h))))
     step false is_false =
-        let first : Alike (leaves here) (run body here) = subst (λ t. Alike (if t then f here else leaves here) (run body here)) is_false (is here) in
+        let first : Alike (leaves here) (run body here) =
+        subst (λ t. Alike (if t then f here else leaves here) (run body here)) is_false (is here) in
         silent (times (hits passes ms) f b) one (loop s body ms one.env) first.emitted first.flow
-        (more one.env b (SameButNeighbour-trans b here one.env (SameButNeighbour-trans b e here p refl) first.env) (reached_beside here one.env first.env (reached_at m e h)))
+        (more one.env b (SameButNeighbour-trans b here one.env (SameButNeighbour-trans b e here p refl) first.env)
+        (reached_beside here one.env first.env (reached_at m e h)))
 
   counts : (ms : List Edge) → CountsOver ms
   unfolding hits
   counts [] e b p h = record { env = p; emitted = refl; flow = refl }
   counts (m ∷ ms) e b p h = step m ms (counts ms) e b p h (passes m) (test_same m e h)
 
-  pub counted : (members others : List Edge) → IsPermutation members others → Agree (loop s body members start) (loop s body others start)
+  pub counted : (members others : List Edge) → IsPermutation members others →
+      Agree (loop s body members start) (loop s body others start)
   counted members others h =
       let fresh : Reached start = record { from = refl; lets = record { same = λ i k. refl } } in
       let one = counts members start start refl fresh in
       let two = counts others start start refl fresh in
       agreed (loop s body members start) (loop s body others start)
-      (alike_trans (loop s body members start) (times (hits passes members) f start) (loop s body others start) (alike_sym (times (hits passes members) f start) (loop s body members start) one)
+      (alike_trans (loop s body members start) (times (hits passes members) f start) (loop s body others start)
+      (alike_sym (times (hits passes members) f start) (loop s body members start) one)
       (subst (λ n. Alike (times n f start) (loop s body others start)) (same_hits passes members others h) two))

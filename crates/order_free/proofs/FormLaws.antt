@@ -4,6 +4,7 @@ use Rattle.std.specs.Prelude.{if◌then◌else◌}
 use Rattle.std.specs.List.{list_all}
 use Rattle.std.specs.Global.{Vec}
 use Rattle.std.proofs.lemmas.List.{append-nil}
+use Rattle.std.proofs.lemmas.Bool.{and_from, and_parts}
 use Rattle.vert_base.specs.declared.text.Span.{Span}
 use Rattle.vert_tree.specs.declared.name.What.{What}
 use Rattle.vert_tree.specs.declared.name.What.TheVariants as what
@@ -35,9 +36,8 @@ use Rattle.order_free.proofs.ClassLaws.{unassigned_idle}
 use Rattle.order_free.proofs.Counted.{counted}
 use Rattle.order_free.proofs.Keeps.{run_keeps}
 use Rattle.order_free.proofs.Uses.{Idle, idle_left, idle_right}
-use Rattle.order_free.proofs.Statements.{marks-if, shut}
-use Rattle.order_laws.proofs.Blindness.{left_true, right_true}
-use Rattle.order_free.proofs.Values.{both_true}
+use Rattle.carry_analysis.proofs.StatementMarks.{marks-if}
+use Rattle.order_free.proofs.Statements.{shut}
 
 -- ---- what reads no neighbour
 abbrev reads_alone : Stmt-F Stmt → Bool
@@ -60,22 +60,27 @@ break_reads (level.Break at) h = refl
 module _ (classes : List Class) where
   step_reads : (counter : Option ℕ) (z : Stmt-F Stmt) → IsTrue (is_last_step classes counter z) → IsTrue (reads_alone z)
   step_reads counter (level.Assign t assign.Set e) h =
-      left_true (node_read in_tests e.node) (reads_known classes counter e.node) (right_true (not (names_counter counter t.what)) (is_fixed classes counter e.node) h)
+      (and_parts (node_read in_tests e.node) (reads_known classes counter e.node)
+      (and_parts (not (names_counter counter t.what)) (is_fixed classes counter e.node) h).1).0
   step_reads counter (level.Assign t assign.Add e) h = cc
   step_reads counter (level.Assign t assign.Least e) h = cc
   step_reads counter (level.Assign t assign.Greatest e) h = cc
   step_reads counter (level.SetActive at e) h = cc
   step_reads counter (level.If at test held otherwise) h = cc
-  step_reads counter (level.Emit at slot e) h = left_true (node_read in_tests e.node) (reads_known classes counter e.node) h
+  step_reads counter (level.Emit at slot e) h =
+      (and_parts (node_read in_tests e.node) (reads_known classes counter e.node) h).0
   step_reads counter (level.Break at) h = cc
 
-  end_reads : (counter : Option ℕ) (body : List Stmt) → IsTrue (ends_loop classes counter body) → IsTrue (body_read in_tests body)
+  end_reads : (counter : Option ℕ) (body : List Stmt) → IsTrue (ends_loop classes counter body) →
+      IsTrue (body_read in_tests body)
   end_reads counter [] h = cc
-  end_reads counter (s ∷ []) h = both_true (stmt_read in_tests s) true (opened s (break_reads (out-Stmt s) h)) refl
+  end_reads counter (s ∷ []) h = and_from (stmt_read in_tests s) true (opened s (break_reads (out-Stmt s) h)) refl
   end_reads counter (s ∷ t ∷ more) h =
-      both_true (stmt_read in_tests s) (body_read in_tests (t ∷ more))
-      (opened s (step_reads counter (out-Stmt s) (left_true (is_last_step classes counter (out-Stmt s)) (ends_loop classes counter (t ∷ more)) h)))
-      (end_reads counter (t ∷ more) (right_true (is_last_step classes counter (out-Stmt s)) (ends_loop classes counter (t ∷ more)) h))
+      and_from (stmt_read in_tests s) (body_read in_tests (t ∷ more))
+      (opened s (step_reads counter (out-Stmt s)
+      (and_parts (is_last_step classes counter (out-Stmt s)) (ends_loop classes counter (t ∷ more)) h).0))
+      (end_reads counter (t ∷ more)
+      (and_parts (is_last_step classes counter (out-Stmt s)) (ends_loop classes counter (t ∷ more)) h).1)
 
   let_reads : (c : ℕ) (e : Node) → IsTrue (is_let c e) → IsTrue (node_read in_tests e)
   let_reads c (nodes.Int x) h = cc
@@ -118,8 +123,10 @@ module _ (classes : List Class) where
   bound_reads c (nodes.Binary' op.Le _ _ a _ _ b) h = cc
   bound_reads c (nodes.Binary' op.Gt _ _ a _ _ b) h = cc
   bound_reads c (nodes.Binary' op.Ge _ _ a _ _ b) h =
-      both_true (node_read in_tests a) (node_read in_tests b) (let_reads c a (left_true (is_let c a) (is_fixed classes None b) h))
-      (left_true (node_read in_tests b) (reads_known classes None b) (right_true (is_let c a) (is_fixed classes None b) h))
+      and_from (node_read in_tests a) (node_read in_tests b)
+      (let_reads c a (and_parts (is_let c a) (is_fixed classes None b) h).0)
+      (and_parts (node_read in_tests b) (reads_known classes None b)
+      (and_parts (is_let c a) (is_fixed classes None b) h).1).0
   bound_reads c (nodes.Binary' op.And _ _ a _ _ b) h = cc
   bound_reads c (nodes.Binary' op.Or _ _ a _ _ b) h = cc
   bound_reads c (nodes.Cond' _ _ test _ _ a _ _ b) h = cc
@@ -131,9 +138,12 @@ module _ (classes : List Class) where
   stop_reads c (level.Assign t o e) h = cc
   stop_reads c (level.SetActive at e) h = cc
   stop_reads c (level.If at test held None) h =
-      let ends = right_true (is_bound classes c test.node) (ends_loop classes (Some c) held.items) h in
-      both_true (expr_read in_tests test) _ (bound_reads c test.node (left_true (is_bound classes c test.node) (ends_loop classes (Some c) held.items) h))
-      (both_true (all_true (map (stmt_read in_tests) held.items)) true (all_mapped (stmt_read in_tests) held.items ∙ end_reads (Some c) held.items ends) refl)
+      let ends = (and_parts (is_bound classes c test.node) (ends_loop classes (Some c) held.items) h).1 in
+      and_from (expr_read in_tests test) _
+      (bound_reads c test.node
+      (and_parts (is_bound classes c test.node) (ends_loop classes (Some c) held.items) h).0)
+      (and_from (all_true (map (stmt_read in_tests) held.items)) true
+      (all_mapped (stmt_read in_tests) held.items ∙ end_reads (Some c) held.items ends) refl)
   stop_reads c (level.If at test held (Some body)) h = cc
   stop_reads c (level.Emit at slot e) h = cc
   stop_reads c (level.Break at) h = cc
@@ -142,8 +152,9 @@ module _ (classes : List Class) where
   count_reads : (z : Stmt-F Stmt) (c : ℕ) → counter_of classes z ≡ Some c → IsTrue (reads_alone z)
   count_reads (level.Assign t assign.Add e) c h = by_target t.what h
     where
-      by_fixed : (b : Bool) (i : ℕ) → is_fixed classes None e.node ≡ b → (if b then Some i else None) ≡ Some c → IsTrue (node_read in_tests e.node)
-      by_fixed true i fixed k = left_true (node_read in_tests e.node) (reads_known classes None e.node) fixed
+      by_fixed : (b : Bool) (i : ℕ) → is_fixed classes None e.node ≡ b → (if b then Some i else None) ≡ Some c →
+          IsTrue (node_read in_tests e.node)
+      by_fixed true i fixed k = (and_parts (node_read in_tests e.node) (reads_known classes None e.node) fixed).0
       by_fixed false i fixed k = cc
 
       by_target : (w : What) → counts_in classes w e.node ≡ Some c → IsTrue (node_read in_tests e.node)
@@ -166,11 +177,12 @@ module _ (classes : List Class) where
   count_up_reads (s ∷ []) h = cc
   count_up_reads (s ∷ t ∷ []) h = by_counter (counter_of classes (out-Stmt s)) refl h
     where
-      by_counter : (o : Option ℕ) → counter_of classes (out-Stmt s) ≡ o → IsTrue (stops_counter classes o (out-Stmt t)) → IsTrue (body_read in_tests (s ∷ t ∷ []))
+      by_counter : (o : Option ℕ) → counter_of classes (out-Stmt s) ≡ o →
+          IsTrue (stops_counter classes o (out-Stmt t)) → IsTrue (body_read in_tests (s ∷ t ∷ []))
       by_counter None e k = cc
       by_counter (Some c) e k =
-          both_true (stmt_read in_tests s) (body_read in_tests (t ∷ [])) (opened s (count_reads (out-Stmt s) c e))
-          (both_true (stmt_read in_tests t) true (opened t (stop_reads c (out-Stmt t) k)) refl)
+          and_from (stmt_read in_tests s) (body_read in_tests (t ∷ [])) (opened s (count_reads (out-Stmt s) c e))
+          (and_from (stmt_read in_tests t) true (opened t (stop_reads c (out-Stmt t) k)) refl)
   count_up_reads (s ∷ t ∷ u ∷ more) h = cc
 
 -- ---- the loop of an `if`
@@ -178,7 +190,8 @@ ended : (v : Flow) (r : Ran) → r.flow ≡ v → Alike r (by_flow v r (after r 
 ended Going r e = record { env = refl; emitted = append-nil r.emitted; flow = sym e }
 ended Broke r e = record { env = refl; emitted = refl; flow = refl }
 
-module _ (ds : List Decl) (c : Counts) (s : Stmt) (at : Span) (test : Expr) (held : Vec Stmt) (is : out-Stmt s ≡ level.If at test held None) where
+module _ (ds : List Decl) (c : Counts) (s : Stmt) (at : Span) (test : Expr) (held : Vec Stmt)
+    (is : out-Stmt s ≡ level.If at test held None) where
   abbrev classes : List Class
   classes = let_classes 0 ds (body_marks (s ∷ []))
 
@@ -189,58 +202,75 @@ module _ (ds : List Decl) (c : Counts) (s : Stmt) (at : Span) (test : Expr) (hel
   act_is env = ap (λ f. f env) (fold_out-Stmt Act act_step s) ∙ ap (λ z. act_step (map-Stmt Stmt Act act_of z) env) is
 
   body_is : (env : Env) → Alike (choice env) (run (s ∷ []) env)
-  body_is env = subst (λ r. Alike (choice env) (followed_by r (in_turn []))) (sym (act_is env)) (ended (choice env).flow (choice env) refl)
+  body_is env = subst (λ r. Alike (choice env) (followed_by r (in_turn []))) (sym (act_is env))
+      (ended (choice env).flow (choice env) refl)
 
   held_placed : IsTrue (body_placed loop_rights c (s ∷ [])) → IsTrue (body_placed loop_rights c held.items)
   held_placed h =
-      let here = left_true (stmt_placed loop_rights c s) true h in
-      let open_here : IsTrue (level_placed loop_rights c (map-Stmt Stmt Bool (stmt_placed loop_rights c) (level.If at test held None))) =
-      sym (fold_out-Stmt Bool (level_placed loop_rights c) s ∙ ap (λ z. level_placed loop_rights c (map-Stmt Stmt Bool (stmt_placed loop_rights c) z)) is) ∙ here in
+      let here = (and_parts (stmt_placed loop_rights c s) true h).0 in
+      let open_here : IsTrue
+      (level_placed loop_rights c (map-Stmt Stmt Bool (stmt_placed loop_rights c) (level.If at test held None))) =
+      sym (fold_out-Stmt Bool (level_placed loop_rights c) s
+      ∙ ap (λ z. level_placed loop_rights c (map-Stmt Stmt Bool (stmt_placed loop_rights c) z)) is) ∙ here in
       let all = all_true (map (stmt_placed loop_rights c) held.items) in
-      sym (all_mapped (stmt_placed loop_rights c) held.items) ∙ left_true all true (right_true (expr_placed c test) (all && true) open_here)
+      sym (all_mapped (stmt_placed loop_rights c) held.items)
+      ∙ (and_parts all true (and_parts (expr_placed c test) (all && true) open_here).1).0
 
   held_idle : (i : ℕ) → IsTrue (is_known classes None i) → Idle i (body_marks held.items)
   held_idle i h =
       let whole : Idle i (statement_marks s ++ []) = unassigned_idle ds (body_marks (s ∷ [])) i h in
-      let marks : statement_marks s ≡ expr_marks test ++ (body_marks held.items ++ []) = ap statement_marks (shut s at test held None is) ∙ marks-if at test held in
-      idle_left i (body_marks held.items) [] (idle_right i (expr_marks test) (body_marks held.items ++ []) (subst (Idle i) marks (idle_left i (statement_marks s) [] whole)))
+      let marks : statement_marks s ≡ expr_marks test ++ (body_marks held.items ++ []) =
+      ap statement_marks (shut s at test held None is) ∙ marks-if at test held in
+      idle_left i (body_marks held.items) []
+      (idle_right i (expr_marks test) (body_marks held.items ++ [])
+      (subst (Idle i) marks (idle_left i (statement_marks s) [] whole)))
 
-  pub if_agrees : IsTrue (body_placed loop_rights c (s ∷ [])) → IsTrue (reads_known classes None test.node) → IsTrue (body_read in_tests held.items) → LoopAgrees (s ∷ [])
+  pub if_agrees : IsTrue (body_placed loop_rights c (s ∷ [])) → IsTrue (reads_known classes None test.node) →
+      IsTrue (body_read in_tests held.items) → LoopAgrees (s ∷ [])
   if_agrees placed reads blind scene members others env same =
       let kept = run_keeps c held.items in
-      counted scene (s ∷ []) test.node (run held.items) (is_known classes None) body_is (run_blind held.items blind) reads (kept.rest (held_placed placed))
+      counted scene (s ∷ []) test.node (run held.items) (is_known classes None) body_is
+      (run_blind held.items blind) reads (kept.rest (held_placed placed))
       (λ a. record { same = λ i h. kept.words i (held_idle i h) a }) env members others same
 
 -- ---- the two forms
 module _ (ds : List Decl) (c : Counts) where
-  found_at : (s : Stmt) (z : Stmt-F Stmt) → out-Stmt s ≡ z → IsTrue (body_placed loop_rights c (s ∷ [])) → IsTrue (finds_one (let_classes 0 ds (body_marks (s ∷ []))) z) → LoopAgrees (s ∷ [])
+  found_at : (s : Stmt) (z : Stmt-F Stmt) → out-Stmt s ≡ z → IsTrue (body_placed loop_rights c (s ∷ [])) →
+      IsTrue (finds_one (let_classes 0 ds (body_marks (s ∷ []))) z) → LoopAgrees (s ∷ [])
   found_at s (level.If at test held None) is placed h =
       let classes = let_classes 0 ds (body_marks (s ∷ [])) in
-      if_agrees ds c s at test held is placed (left_true (reads_known classes None test.node) (ends_loop classes None held.items) h)
-      (end_reads classes None held.items (right_true (reads_known classes None test.node) (ends_loop classes None held.items) h))
+      if_agrees ds c s at test held is placed
+      (and_parts (reads_known classes None test.node) (ends_loop classes None held.items) h).0
+      (end_reads classes None held.items
+      (and_parts (reads_known classes None test.node) (ends_loop classes None held.items) h).1)
   found_at s (level.If at test held (Some body)) is placed h = cc
   found_at s (level.Assign t o e) is placed h = cc
   found_at s (level.SetActive at e) is placed h = cc
   found_at s (level.Emit at slot e) is placed h = cc
   found_at s (level.Break at) is placed h = cc
 
-  pub found_agrees : (body : List Stmt) → IsTrue (body_placed loop_rights c body) → IsTrue (is_found_one (let_classes 0 ds (body_marks body)) body) → LoopAgrees body
+  pub found_agrees : (body : List Stmt) → IsTrue (body_placed loop_rights c body) →
+      IsTrue (is_found_one (let_classes 0 ds (body_marks body)) body) → LoopAgrees body
   found_agrees [] placed h = cc
   found_agrees (s ∷ []) placed h = found_at s (out-Stmt s) refl placed h
   found_agrees (s ∷ t ∷ more) placed h = cc
 
-  count_at : (s : Stmt) (z : Stmt-F Stmt) → out-Stmt s ≡ z → IsTrue (body_placed loop_rights c (s ∷ [])) → IsTrue (counts_members (let_classes 0 ds (body_marks (s ∷ []))) z) → LoopAgrees (s ∷ [])
+  count_at : (s : Stmt) (z : Stmt-F Stmt) → out-Stmt s ≡ z → IsTrue (body_placed loop_rights c (s ∷ [])) →
+      IsTrue (counts_members (let_classes 0 ds (body_marks (s ∷ []))) z) → LoopAgrees (s ∷ [])
   count_at s (level.If at test held None) is placed h =
       let classes = let_classes 0 ds (body_marks (s ∷ [])) in
-      if_agrees ds c s at test held is placed (left_true (reads_known classes None test.node) (counts_up classes held.items) h)
-      (count_up_reads classes held.items (right_true (reads_known classes None test.node) (counts_up classes held.items) h))
+      if_agrees ds c s at test held is placed
+      (and_parts (reads_known classes None test.node) (counts_up classes held.items) h).0
+      (count_up_reads classes held.items
+      (and_parts (reads_known classes None test.node) (counts_up classes held.items) h).1)
   count_at s (level.If at test held (Some body)) is placed h = cc
   count_at s (level.Assign t o e) is placed h = cc
   count_at s (level.SetActive at e) is placed h = cc
   count_at s (level.Emit at slot e) is placed h = cc
   count_at s (level.Break at) is placed h = cc
 
-  pub count_agrees : (body : List Stmt) → IsTrue (body_placed loop_rights c body) → IsTrue (is_reach_a_count (let_classes 0 ds (body_marks body)) body) → LoopAgrees body
+  pub count_agrees : (body : List Stmt) → IsTrue (body_placed loop_rights c body) →
+      IsTrue (is_reach_a_count (let_classes 0 ds (body_marks body)) body) → LoopAgrees body
   count_agrees [] placed h = cc
   count_agrees (s ∷ []) placed h = count_at s (out-Stmt s) refl placed h
   count_agrees (s ∷ t ∷ more) placed h = cc

@@ -34,10 +34,13 @@ module _ (p : Program) (typed : is_typed p ≡ true) where
     reduction_agrees h s members others env same =
         let kind = class_in (body_marks d.body.items) in
         reduced kind s d.body.items
-        (run_reduces kind (inside p typed d) d.body.items placed (body_fits d.lets.items (inside p typed d) d.body.items refl placed h)) members others env same
+        (run_reduces kind (inside p typed d) d.body.items placed
+        (body_fits d.lets.items (inside p typed d) d.body.items refl placed h)) members others env same
 
-    by_form : (x y z : Bool) → is_none (carry_in breaks classes) ≡ x → is_found_one classes d.body.items ≡ y → is_reach_a_count classes d.body.items ≡ z →
-        IsTrue (is_free (if x then Reductions else if y then FoundOne else if z then ReachACount else OtherLoop)) → LoopAgrees d.body.items
+    by_form : (x y z : Bool) → is_none (carry_in breaks classes) ≡ x → is_found_one classes d.body.items ≡ y →
+        is_reach_a_count classes d.body.items ≡ z →
+        IsTrue (is_free (if x then Reductions else if y then FoundOne else if z then ReachACount else OtherLoop)) →
+        LoopAgrees d.body.items
     by_form true y z e f g h = reduction_agrees e
     by_form false true z e f g h = found_agrees d.lets.items (inside p typed d) d.body.items placed f
     by_form false false true e f g h = count_agrees d.lets.items (inside p typed d) d.body.items placed g
@@ -45,7 +48,9 @@ module _ (p : Program) (typed : is_typed p ≡ true) where
 
   loop_agrees : (o : Option Dense) → p.dense ≡ o → IsTrue (is_free (loop_form o)) → AnyLoopAgrees o
   loop_agrees None is h = tt
-  loop_agrees (Some d) is h = by_form d is (is_none (carry_in (breaks d is) (classes d is))) (is_found_one (classes d is) d.body.items) (is_reach_a_count (classes d is) d.body.items) refl refl refl h
+  loop_agrees (Some d) is h =
+      by_form d is (is_none (carry_in (breaks d is) (classes d is))) (is_found_one (classes d is) d.body.items)
+      (is_reach_a_count (classes d is) d.body.items) refl refl refl h
 
   by_slot : (o : Option ℕ) → first_slot p ≡ o → IsTrue (is_free (unless_first o (loop_form p.dense))) → IsOrderFree p
   by_slot None e h = record { typed = typed; slots = program_spares p e; loop = loop_agrees p.dense refl h }

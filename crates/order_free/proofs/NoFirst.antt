@@ -1,7 +1,7 @@
 -- Where no slot of kind `first` is told, no block emits to one.
-use Rattle.std.proofs.Common.{◌≡◌, ℕ, zero, suc, ◌+◌, Bool, true, false, not, ◌&&◌, ◌||◌, IsTrue, List, [], ◌∷◌, map, slice_get, refl, sym, ap, subst, ◌∙◌, arith, Option, Some, None}
+use Rattle.std.proofs.Common.{◌≡◌, ℕ, zero, suc, ◌+◌, Bool, true, false, not, ◌&&◌, IsTrue, List, [], ◌∷◌, map, slice_get, refl, sym, ap, subst, ◌∙◌, arith, Option, Some, None}
 use Rattle.std.specs.Prelude.{if◌then◌else◌}
-use Rattle.std.proofs.lemmas.Bool.{eq-eqb}
+use Rattle.std.proofs.lemmas.Bool.{and_from, eq-eqb, or_parts}
 use Rattle.vert_base.specs.declared.value.Combine.{Combine}
 use Rattle.vert_base.specs.declared.value.Combine.TheVariants.{Min, Max, Sum, First}
 use Rattle.vert_tree.specs.declared.name.What.{What}
@@ -19,18 +19,10 @@ use Rattle.vert_eval.specs.Rounds.{slot_ops}
 use Rattle.order_laws.specs.OrderFree.{is_first as is_first_op, level_no_first, names_first, no_first, program_no_first, stmt_no_first}
 use Rattle.instrument.specs.Loops.{any_true, body_emits, is_slot_at, level_emits, stmt_emits}
 use Rattle.order_free.specs.Emits.{dense_emits, first_slot, is_first, least_first, neighbour_emits, sparse_emits}
-use Rattle.order_free.proofs.Values.{both_true}
-
-or_left : (a b : Bool) → a || b ≡ false → a ≡ false
-or_left true b h = cc
-or_left false b h = refl
-
-or_right : (a b : Bool) → a || b ≡ false → b ≡ false
-or_right true b h = cc
-or_right false b h = h
 
 module _ (test : ℕ → Bool) where
-  here_fails : (op : Combine) (b : Bool) (at : ℕ) (rest : Option ℕ) → (if is_first op && b then Some at else rest) ≡ None → IsTrue (is_first_op (Some op)) → b ≡ false
+  here_fails : (op : Combine) (b : Bool) (at : ℕ) (rest : Option ℕ) →
+      (if is_first op && b then Some at else rest) ≡ None → IsTrue (is_first_op (Some op)) → b ≡ false
   here_fails First true at rest h k = cc
   here_fails First false at rest h k = refl
   here_fails Min b at rest h k = cc
@@ -41,14 +33,16 @@ module _ (test : ℕ → Bool) where
   rest_none true at rest h = cc
   rest_none false at rest h = h
 
-  none_told : (ds : List SlotDecl) (at i : ℕ) → least_first test at ds ≡ None → IsTrue (is_first_op (slice_get (map (λ d. d.op) ds) i)) → test (at + i) ≡ false
+  none_told : (ds : List SlotDecl) (at i : ℕ) → least_first test at ds ≡ None →
+      IsTrue (is_first_op (slice_get (map (λ d. d.op) ds) i)) → test (at + i) ≡ false
   none_told [] at i h k = cc
   none_told (d ∷ ds) at zero h k =
       let same : at ≡ at + zero = omega arith in
       subst (λ n. test n ≡ false) same (here_fails d.op (test at) at (least_first test (at + 1) ds) h k)
   none_told (d ∷ ds) at (suc i) h k =
       let same : (at + 1) + i ≡ at + suc i = omega arith in
-      subst (λ n. test n ≡ false) same (none_told ds (at + 1) i (rest_none (is_first d.op && test at) at (least_first test (at + 1) ds) h) k)
+      subst (λ n. test n ≡ false) same
+      (none_told ds (at + 1) i (rest_none (is_first d.op && test at) at (least_first test (at + 1) ds) h) k)
 
 module _ (ops : List Combine) where
   -- whether the slot of a place is of kind `first`
@@ -68,12 +62,13 @@ module _ (ops : List Combine) where
   abbrev below : Stmt-F Held → Stmt-F Stmt
   below y = map-Stmt Held Stmt (λ s. s.0) y
 
-  all_spare : (ss : List Held) → Spares (λ i. any_true (map (stmt_emits i) (stmts ss))) → IsTrue (all_true (map (stmt_no_first ops) (stmts ss)))
+  all_spare : (ss : List Held) → Spares (λ i. any_true (map (stmt_emits i) (stmts ss))) →
+      IsTrue (all_true (map (stmt_no_first ops) (stmts ss)))
   all_spare [] h = refl
   all_spare (s ∷ ss) h =
-      both_true (stmt_no_first ops s.0) (all_true (map (stmt_no_first ops) (stmts ss)))
-      (s.1 (λ i k. or_left (stmt_emits i s.0) (any_true (map (stmt_emits i) (stmts ss))) (h i k)))
-      (all_spare ss (λ i k. or_right (stmt_emits i s.0) (any_true (map (stmt_emits i) (stmts ss))) (h i k)))
+      and_from (stmt_no_first ops s.0) (all_true (map (stmt_no_first ops) (stmts ss)))
+      (s.1 (λ i k. (or_parts (stmt_emits i s.0) (any_true (map (stmt_emits i) (stmts ss))) (h i k)).0))
+      (all_spare ss (λ i k. (or_parts (stmt_emits i s.0) (any_true (map (stmt_emits i) (stmts ss))) (h i k)).1))
 
   emit_spares : (w : What) → Spares (λ i. is_slot_at i w) → IsTrue (not (names_first ops w))
   emit_spares (what.Slot j) h = by (first_at j) refl
@@ -87,15 +82,23 @@ module _ (ops : List Combine) where
   emit_spares (what.Total j) h = refl
   emit_spares what.Unread h = refl
 
-  level_spares : (y : Stmt-F Held) → Spares (λ i. level_emits i (map-Stmt Stmt Bool (stmt_emits i) (below y))) → IsTrue (level_no_first ops (map-Stmt Stmt Bool (stmt_no_first ops) (below y)))
+  level_spares : (y : Stmt-F Held) → Spares (λ i. level_emits i (map-Stmt Stmt Bool (stmt_emits i) (below y))) →
+      IsTrue (level_no_first ops (map-Stmt Stmt Bool (stmt_no_first ops) (below y)))
   level_spares (level.Assign t op e) h = refl
   level_spares (level.SetActive at e) h = refl
   level_spares (level.If at test held None) h =
-      both_true (all_true (map (stmt_no_first ops) (stmts held.items))) true (all_spare held.items (λ i k. or_left (any_true (map (stmt_emits i) (stmts held.items))) false (h i k))) refl
+      and_from (all_true (map (stmt_no_first ops) (stmts held.items))) true
+      (all_spare held.items (λ i k. (or_parts (any_true (map (stmt_emits i) (stmts held.items))) false (h i k)).0))
+      refl
   level_spares (level.If at test held (Some body)) h =
-      both_true (all_true (map (stmt_no_first ops) (stmts held.items))) (all_true (map (stmt_no_first ops) (stmts body.items)))
-      (all_spare held.items (λ i k. or_left (any_true (map (stmt_emits i) (stmts held.items))) (any_true (map (stmt_emits i) (stmts body.items))) (h i k)))
-      (all_spare body.items (λ i k. or_right (any_true (map (stmt_emits i) (stmts held.items))) (any_true (map (stmt_emits i) (stmts body.items))) (h i k)))
+      and_from (all_true (map (stmt_no_first ops) (stmts held.items)))
+      (all_true (map (stmt_no_first ops) (stmts body.items)))
+      (all_spare held.items
+      (λ i k. (or_parts (any_true (map (stmt_emits i) (stmts held.items)))
+      (any_true (map (stmt_emits i) (stmts body.items))) (h i k)).0))
+      (all_spare body.items
+      (λ i k. (or_parts (any_true (map (stmt_emits i) (stmts held.items)))
+      (any_true (map (stmt_emits i) (stmts body.items))) (h i k)).1))
   level_spares (level.Emit at slot e) h = emit_spares slot.what h
   level_spares (level.Break at) h = refl
 
@@ -108,14 +111,17 @@ module _ (ops : List Combine) where
   body_spares : (body : List Stmt) → Spares (λ i. body_emits i body) → IsTrue (no_first ops body)
   body_spares [] h = refl
   body_spares (s ∷ ss) h =
-      both_true (stmt_no_first ops s) (no_first ops ss) (stmt_spares s (λ i k. or_left (stmt_emits i s) (body_emits i ss) (h i k)))
-      (body_spares ss (λ i k. or_right (stmt_emits i s) (body_emits i ss) (h i k)))
+      and_from (stmt_no_first ops s) (no_first ops ss)
+      (stmt_spares s (λ i k. (or_parts (stmt_emits i s) (body_emits i ss) (h i k)).0))
+      (body_spares ss (λ i k. (or_parts (stmt_emits i s) (body_emits i ss) (h i k)).1))
 
-  dense_spares : (o : Option Dense) → Spares (λ i. dense_emits i o) → IsTrue (option_all (λ d. no_first ops d.body.items) o)
+  dense_spares : (o : Option Dense) → Spares (λ i. dense_emits i o) →
+      IsTrue (option_all (λ d. no_first ops d.body.items) o)
   dense_spares None h = refl
   dense_spares (Some d) h = body_spares d.body.items h
 
-  sparse_spares : (o : Option Sparse) → Spares (λ i. sparse_emits i o) → IsTrue (option_all (λ d. no_first ops d.body.items) o)
+  sparse_spares : (o : Option Sparse) → Spares (λ i. sparse_emits i o) →
+      IsTrue (option_all (λ d. no_first ops d.body.items) o)
   sparse_spares None h = refl
   sparse_spares (Some d) h = body_spares d.body.items h
 
@@ -126,5 +132,6 @@ program_spares p h =
     let spares : Spares ops (neighbour_emits p) = λ i k.
     let same : 0 + i ≡ i = omega arith in
     subst (λ n. neighbour_emits p n ≡ false) same (none_told (neighbour_emits p) p.slots.items 0 i h k) in
-    both_true _ _ (dense_spares ops p.dense (λ i k. or_left (dense_emits i p.dense) (sparse_emits i p.sparse) (spares i k)))
-    (sparse_spares ops p.sparse (λ i k. or_right (dense_emits i p.dense) (sparse_emits i p.sparse) (spares i k)))
+    and_from _ _ (dense_spares ops p.dense
+    (λ i k. (or_parts (dense_emits i p.dense) (sparse_emits i p.sparse) (spares i k)).0))
+    (sparse_spares ops p.sparse (λ i k. (or_parts (dense_emits i p.dense) (sparse_emits i p.sparse) (spares i k)).1))

@@ -1,8 +1,9 @@
 -- Values that don't depend on the lets that an expression doesn't read.
-use Rattle.std.proofs.Common.{◌≡◌, ℕ, ℤ, pos, Bool, true, false, not, ◌&&◌, IsTrue, List, [], ◌∷◌, ◌++◌, refl, ap, ◌∙◌}
+use Rattle.std.proofs.Common.{◌≡◌, ℕ, ℤ, pos, Bool, true, not, IsTrue, List, [], ◌∷◌, ◌++◌, refl, ap, ◌∙◌}
 use Rattle.std.specs.Prelude.{if◌then◌else◌, is_some, unwrap_or, neg_ℤ}
 use Rattle.std.specs.Int.{int_min, int_max}
 use Rattle.std.specs.List.{list_all}
+use Rattle.std.proofs.lemmas.Bool.{and_from, and_parts}
 use Rattle.arrayvec.specs.ArrayVec.{ArrayVec}
 use Rattle.vert_base.specs.declared.text.Span.{Span}
 use Rattle.vert_tree.specs.declared.name.Ident.{Ident}
@@ -13,28 +14,27 @@ use Rattle.vert_tree.specs.declared.expression.Builtin.TheVariants as word
 use Rattle.vert_tree.specs.declared.expression.Node.{Node}
 use Rattle.vert_tree.specs.declared.expression.Node.TheVariants as nodes
 use Rattle.carry_analysis.specs.Classes.{node_marks}
-use Rattle.order_laws.proofs.Blindness.{left_true, right_true}
 use Rattle.order_free.specs.Fixed.{uses_held}
 use Rattle.vert_eval.specs.declared.environment.Env.{Env}
 use Rattle.vert_eval.specs.Words.{binary, is_set, word_of, wrapped}
 use Rattle.vert_eval.specs.Values.{builtin, named, node_value, other_field, slot_value, word_at}
 
-pub both_true : (t u : Bool) → IsTrue t → IsTrue u → IsTrue (t && u)
-both_true true u h k = k
-both_true false u h k = h
-
 module _ {X : Type 0} (p : X → Bool) where
   pub all_left : (a b : List X) → IsTrue (list_all p (a ++ b)) → IsTrue (list_all p a)
   all_left [] b h = refl
-  all_left (x ∷ a) b h = both_true (p x) (list_all p a) (left_true (p x) (list_all p (a ++ b)) h) (all_left a b (right_true (p x) (list_all p (a ++ b)) h))
+  all_left (x ∷ a) b h =
+      and_from (p x) (list_all p a) (and_parts (p x) (list_all p (a ++ b)) h).0
+      (all_left a b (and_parts (p x) (list_all p (a ++ b)) h).1)
 
   pub all_right : (a b : List X) → IsTrue (list_all p (a ++ b)) → IsTrue (list_all p b)
   all_right [] b h = h
-  all_right (x ∷ a) b h = all_right a b (right_true (p x) (list_all p (a ++ b)) h)
+  all_right (x ∷ a) b h = all_right a b (and_parts (p x) (list_all p (a ++ b)) h).1
 
   pub all_both : (a b : List X) → IsTrue (list_all p a) → IsTrue (list_all p b) → IsTrue (list_all p (a ++ b))
   all_both [] b h k = k
-  all_both (x ∷ a) b h k = both_true (p x) (list_all p (a ++ b)) (left_true (p x) (list_all p a) h) (all_both a b (right_true (p x) (list_all p a) h) k)
+  all_both (x ∷ a) b h k =
+      and_from (p x) (list_all p (a ++ b)) (and_parts (p x) (list_all p a) h).0
+      (all_both a b (and_parts (p x) (list_all p a) h).1 k)
 
 -- ---- an expression that reads some lets alone
 -- the lets that pass the test have these words
@@ -52,7 +52,7 @@ module _ (held : ℕ → Bool) (ls : ArrayVec ℤ) (t : ℕ) (env : Env) (same :
   name_relet at n what.Unread h = refl
   name_relet at n (what.Field i) h = refl
   name_relet at n (what.Slot i) h = refl
-  name_relet at n (what.Local i) h = same.same i (left_true (held i) true h)
+  name_relet at n (what.Local i) h = same.same i (and_parts (held i) true h).0
   name_relet at n (what.Send i) h = refl
   name_relet at n (what.Total i) h = refl
 
@@ -65,7 +65,8 @@ module _ (held : ℕ → Bool) (ls : ArrayVec ℤ) (t : ℕ) (env : Env) (same :
   word_relet word.Active = refl
   word_relet word.Weight = refl
 
-  other_word_relet : (w : Builtin) → node_value (nodes.OtherWord w) (relet ls t env) ≡ node_value (nodes.OtherWord w) env
+  other_word_relet : (w : Builtin) →
+      node_value (nodes.OtherWord w) (relet ls t env) ≡ node_value (nodes.OtherWord w) env
   other_word_relet word.Id = refl
   other_word_relet word.Count = refl
   other_word_relet word.Round = refl

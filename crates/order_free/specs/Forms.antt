@@ -20,7 +20,8 @@ names_counter counter _ = false
 
 -- `emit SLOT F;` or `NAME = F;`, F fixed and NAME not the counter
 abbrev pub is_last_step : List Class → Option ℕ → Stmt-F Stmt → Bool
-is_last_step classes counter (Assign target assign.Set e) = not (names_counter counter target.what) && is_fixed classes counter e.node
+is_last_step classes counter (Assign target assign.Set e) =
+    not (names_counter counter target.what) && is_fixed classes counter e.node
 is_last_step classes counter (Emit _ slot e) = is_fixed classes counter e.node
 is_last_step classes counter _ = false
 

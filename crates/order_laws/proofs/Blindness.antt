@@ -3,6 +3,7 @@ use Rattle.std.proofs.Common.{◌≡◌, ℕ, ℤ, pos, Bool, true, false, ◌&&
 use Rattle.std.specs.Prelude.{if◌then◌else◌, is_some, unwrap_or, neg_ℤ, not}
 use Rattle.std.specs.Int.{int_min, int_max}
 use Rattle.std.specs.List.{list_all}
+use Rattle.std.proofs.lemmas.Bool.{and_parts}
 use Rattle.vert_base.specs.declared.graph.Neighbour.{Neighbour}
 use Rattle.vert_base.specs.declared.text.Span.{Span}
 use Rattle.vert_base.specs.declared.value.Row.{Row}
@@ -43,9 +44,10 @@ pub record SameLeaves (H : Bool → Type 0) (r : Readable) (a b : Env) : Type 0 
   pub slots : H r.slots → (w : What) → slot_value w b ≡ slot_value w a
   pub fields : H r.others → (w : What) → other_field w b ≡ other_field w a
   pub others : (w : Builtin) → H (r.others && is_other_word w) → other_builtin w b ≡ other_builtin w a
-  pub draws : (at : Span) (tag : ℕ) → node_value (Draw at tag) b ≡ node_value (Draw at tag) a
+  pub draws : H r.own → (at : Span) (tag : ℕ) → node_value (Draw at tag) b ≡ node_value (Draw at tag) a
 
-module _ (H : Bool → Type 0) (r : Readable) (left : (t u : Bool) → H (t && u) → H t) (right : (t u : Bool) → H (t && u) → H u) (a b : Env) (same : SameLeaves H r a b) where
+module _ (H : Bool → Type 0) (r : Readable) (left : (t u : Bool) → H (t && u) → H t)
+    (right : (t u : Bool) → H (t && u) → H u) (a b : Env) (same : SameLeaves H r a b) where
   -- an expression has the same value in both
   pub node_same : (n : Node) → H (node_read r n) → node_value n b ≡ node_value n a
   node_same (Int x) h = refl
@@ -56,7 +58,7 @@ module _ (H : Bool → Type 0) (r : Readable) (left : (t u : Bool) → H (t && u
   node_same (Value name) h = ap (λ o. unwrap_or o (pos 0)) (same.slots h name.what)
   node_same (OtherField name) h = same.fields h name.what
   node_same (OtherWord w) h = same.others w h
-  node_same (Draw at tag) h = same.draws at tag
+  node_same (Draw at tag) h = same.draws h at tag
   node_same (Neg' _ _ x) h = ap (λ v. wrapped (neg_ℤ v)) (node_same x h)
   node_same (Not' _ _ x) h = ap (λ v. word_of (not (is_set v))) (node_same x h)
   node_same (Binary' op _ _ x _ _ y) h =
@@ -64,9 +66,12 @@ module _ (H : Bool → Type 0) (r : Readable) (left : (t u : Bool) → H (t && u
       ∙ ap (binary op (node_value x a)) (node_same y (right (node_read r x) (node_read r y) h))
   node_same (Cond' _ _ test _ _ x _ _ y) h =
       let both = right (node_read r test) (node_read r x && node_read r y) h in
-      ap (λ v. if is_set v then node_value x b else node_value y b) (node_same test (left (node_read r test) (node_read r x && node_read r y) h))
-      ∙ ap (λ v. if is_set (node_value test a) then v else node_value y b) (node_same x (left (node_read r x) (node_read r y) both))
-      ∙ ap (λ v. if is_set (node_value test a) then node_value x a else v) (node_same y (right (node_read r x) (node_read r y) both))
+      ap (λ v. if is_set v then node_value x b else node_value y b)
+      (node_same test (left (node_read r test) (node_read r x && node_read r y) h))
+      ∙ ap (λ v. if is_set (node_value test a) then v else node_value y b)
+      (node_same x (left (node_read r x) (node_read r y) both))
+      ∙ ap (λ v. if is_set (node_value test a) then node_value x a else v)
+      (node_same y (right (node_read r x) (node_read r y) both))
   node_same (Least' _ _ x _ _ y) h =
       ap (λ v. int_min v (node_value y b)) (node_same x (left (node_read r x) (node_read r y) h))
       ∙ ap (int_min (node_value x a)) (node_same y (right (node_read r x) (node_read r y) h))
@@ -83,7 +88,8 @@ names_moved o row t env (what.Local i) = refl
 names_moved o row t env (what.Send i) = refl
 names_moved o row t env (what.Total i) = refl
 
-pub slots_moved : (o : Neighbour) (row : Row) (t : ℕ) (env : Env) (w : What) → slot_value w (moved o row t env) ≡ slot_value w env
+pub slots_moved : (o : Neighbour) (row : Row) (t : ℕ) (env : Env) (w : What) →
+    slot_value w (moved o row t env) ≡ slot_value w env
 slots_moved o row t env what.Unread = refl
 slots_moved o row t env (what.Field i) = refl
 slots_moved o row t env (what.Slot i) = refl
@@ -91,7 +97,8 @@ slots_moved o row t env (what.Local i) = refl
 slots_moved o row t env (what.Send i) = refl
 slots_moved o row t env (what.Total i) = refl
 
-words_moved : (o : Neighbour) (row : Row) (t : ℕ) (env : Env) (w : Builtin) → IsTrue (word_read in_tests w) → builtin w (moved o row t env) ≡ builtin w env
+words_moved : (o : Neighbour) (row : Row) (t : ℕ) (env : Env) (w : Builtin) → IsTrue (word_read in_tests w) →
+    builtin w (moved o row t env) ≡ builtin w env
 words_moved o row t env word.Id h = refl
 words_moved o row t env word.Count h = refl
 words_moved o row t env word.Round h = refl
@@ -117,7 +124,8 @@ fields_marked t env (what.Local i) = refl
 fields_marked t env (what.Send i) = refl
 fields_marked t env (what.Total i) = refl
 
-others_marked : (t : ℕ) (env : Env) (w : Builtin) → other_builtin w (moved env.other env.other_row t env) ≡ other_builtin w env
+others_marked : (t : ℕ) (env : Env) (w : Builtin) →
+    other_builtin w (moved env.other env.other_row t env) ≡ other_builtin w env
 others_marked t env word.Id = refl
 others_marked t env word.Count = refl
 others_marked t env word.Round = refl
@@ -133,7 +141,7 @@ leaves_moved o row t env = record {
   slots = λ h. absurd (false_holds h);
   fields = λ h. absurd (false_holds h);
   others = λ w h. absurd (false_holds h);
-  draws = λ at tag. refl;
+  draws = λ h at tag. refl;
 }
   where
     false_holds : IsTrue false → ⊥
@@ -149,16 +157,8 @@ leaves_marked r t env = record {
   slots = λ h. slots_moved env.other env.other_row t env;
   fields = λ h. fields_marked t env;
   others = λ w h. others_marked t env w;
-  draws = λ at tag. refl;
+  draws = λ h at tag. refl;
 }
-
-pub left_true : (t u : Bool) → IsTrue (t && u) → IsTrue t
-left_true true u h = refl
-left_true false u h = h
-
-pub right_true : (t u : Bool) → IsTrue (t && u) → IsTrue u
-right_true true u h = h
-right_true false u h = cc
 
 -- ---- runs
 -- runs that leave environments so related, and do the same
@@ -170,12 +170,12 @@ pub record SameRun (R : Env → Env → Type 0) (x y : Ran) : Type 0 where
 
 -- a relation of environments in which the same expressions have the same values, and which
 -- assignments keep
-record IsBlind (R : Env → Env → Type 0) (H : Bool → Type 0) (r : Readable) : Type 0 where
-  left : (t u : Bool) → H (t && u) → H t
-  right : (t u : Bool) → H (t && u) → H u
-  values : (e : Expr) → H (expr_read r e) → (a b : Env) → R a b → value_of e b ≡ value_of e a
-  targets : (w : What) (op : AssignOp) (x : ℤ) (a b : Env) → R a b → R (with_target w op x a) (with_target w op x b)
-  flags : (x : Bool) (a b : Env) → R a b → R (record a { next_active = x }) (record b { next_active = x })
+pub record IsBlind (R : Env → Env → Type 0) (H : Bool → Type 0) (r : Readable) : Type 0 where
+  pub left : (t u : Bool) → H (t && u) → H t
+  pub right : (t u : Bool) → H (t && u) → H u
+  pub values : (e : Expr) → H (expr_read r e) → (a b : Env) → R a b → value_of e b ≡ value_of e a
+  pub targets : (w : What) (op : AssignOp) (x : ℤ) (a b : Env) → R a b → R (with_target w op x a) (with_target w op x b)
+  pub flags : (x : Bool) (a b : Env) → R a b → R (record a { next_active = x }) (record b { next_active = x })
 
 module _ (R : Env → Env → Type 0) (H : Bool → Type 0) (r : Readable) (blind : IsBlind R H r) where
   abbrev Same : Act → Type 0
@@ -192,7 +192,8 @@ module _ (R : Env → Env → Type 0) (H : Bool → Type 0) (r : Readable) (blin
     flow = q.flow;
   }
 
-  same_by_flow : (flow : Flow) (x y z w : Ran) → SameRun R x y → SameRun R z w → SameRun R (by_flow flow x (after x z)) (by_flow flow y (after y w))
+  same_by_flow : (flow : Flow) (x y z w : Ran) → SameRun R x y → SameRun R z w →
+      SameRun R (by_flow flow x (after x z)) (by_flow flow y (after y w))
   same_by_flow Broke x y z w p q = p
   same_by_flow Going x y z w p q = same_after x y z w p q
 
@@ -204,13 +205,16 @@ module _ (R : Env → Env → Type 0) (H : Bool → Type 0) (r : Readable) (blin
   same_next : (f g : Act) → Same f → Same g → Same (λ env. followed_by (f env) g)
   same_next f g p q a b k = same_followed (f a) (f b) g q (p a b k)
 
-  same_choice : (t : Bool) (f g : Act) → Same f → Same g → (a b : Env) → R a b → SameRun R (if t then f a else g a) (if t then f b else g b)
+  same_choice : (t : Bool) (f g : Act) → Same f → Same g → (a b : Env) → R a b →
+      SameRun R (if t then f a else g a) (if t then f b else g b)
   same_choice true f g p q = p
   same_choice false f g p q = q
 
-  same_if : (e : Expr) (f g : Act) → H (expr_read r e) → Same f → Same g → Same (λ env. if is_set (value_of e env) then f env else g env)
+  same_if : (e : Expr) (f g : Act) → H (expr_read r e) → Same f → Same g →
+      Same (λ env. if is_set (value_of e env) then f env else g env)
   same_if e f g h p q a b k =
-      subst (λ v. SameRun R (if is_set (value_of e a) then f a else g a) (if is_set v then f b else g b)) (sym (blind.values e h a b k))
+      subst (λ v. SameRun R (if is_set (value_of e a) then f a else g a) (if is_set v then f b else g b))
+      (sym (blind.values e h a b k))
       (same_choice (is_set (value_of e a)) f g p q a b k)
 
   abbrev Held : Type 0
@@ -222,22 +226,26 @@ module _ (R : Env → Env → Type 0) (H : Bool → Type 0) (r : Readable) (blin
   abbrev below : Stmt-F Held → Stmt-F Stmt
   below y = map-Stmt Held Stmt (λ s. s.0) y
 
-  all_same : (ss : List Held) → H (list_all (λ b. b) (map (stmt_read r) (stmts ss))) → Same (in_turn (map act_of (stmts ss)))
+  all_same : (ss : List Held) → H (list_all (λ b. b) (map (stmt_read r) (stmts ss))) →
+      Same (in_turn (map act_of (stmts ss)))
   all_same [] h = same_leaves
   all_same (s ∷ ss) h =
       let first = blind.left (stmt_read r s.0) (list_all (λ b. b) (map (stmt_read r) (stmts ss))) h in
       let others = blind.right (stmt_read r s.0) (list_all (λ b. b) (map (stmt_read r) (stmts ss))) h in
       same_next (act_of s.0) (in_turn (map act_of (stmts ss))) (s.1 first) (all_same ss others)
 
-  level_same : (y : Stmt-F Held) → H (level_read r (map-Stmt Stmt Bool (stmt_read r) (below y))) → Same (act_step (map-Stmt Stmt Act act_of (below y)))
+  level_same : (y : Stmt-F Held) → H (level_read r (map-Stmt Stmt Bool (stmt_read r) (below y))) →
+      Same (act_step (map-Stmt Stmt Act act_of (below y)))
   level_same (level.Assign t op e) h = λ a b k. record {
-    env = subst (λ v. R (with_target t.what op (value_of e a) a) (with_target t.what op v b)) (sym (blind.values e h a b k)) (blind.targets t.what op (value_of e a) a b k);
+    env = subst (λ v. R (with_target t.what op (value_of e a) a) (with_target t.what op v b))
+        (sym (blind.values e h a b k)) (blind.targets t.what op (value_of e a) a b k);
     emitted = refl;
     reads = refl;
     flow = refl;
   }
   level_same (level.SetActive at e) h = λ a b k. record {
-    env = subst (λ v. R (record a { next_active = is_set (value_of e a) }) (record b { next_active = is_set v })) (sym (blind.values e h a b k)) (blind.flags (is_set (value_of e a)) a b k);
+    env = subst (λ v. R (record a { next_active = is_set (value_of e a) }) (record b { next_active = is_set v }))
+        (sym (blind.values e h a b k)) (blind.flags (is_set (value_of e a)) a b k);
     emitted = refl;
     reads = refl;
     flow = refl;
@@ -245,14 +253,21 @@ module _ (R : Env → Env → Type 0) (H : Bool → Type 0) (r : Readable) (blin
   level_same (level.If at test held None) h =
       same_if test (in_turn (map act_of (stmts held.items))) leaves
       (blind.left (expr_read r test) _ h)
-      (all_same held.items (blind.left (list_all (λ b. b) (map (stmt_read r) (stmts held.items))) true (blind.right (expr_read r test) _ h)))
+      (all_same held.items (blind.left (list_all (λ b. b) (map (stmt_read r) (stmts held.items))) true
+      (blind.right (expr_read r test) _ h)))
       same_leaves
   level_same (level.If at test held (Some body)) h =
-      let both = blind.right (expr_read r test) (list_all (λ b. b) (map (stmt_read r) (stmts held.items)) && list_all (λ b. b) (map (stmt_read r) (stmts body.items))) h in
+      let both = blind.right (expr_read r test)
+      (list_all (λ b. b) (map (stmt_read r) (stmts held.items))
+      && list_all (λ b. b) (map (stmt_read r) (stmts body.items))) h in
       same_if test (in_turn (map act_of (stmts held.items))) (in_turn (map act_of (stmts body.items)))
-      (blind.left (expr_read r test) (list_all (λ b. b) (map (stmt_read r) (stmts held.items)) && list_all (λ b. b) (map (stmt_read r) (stmts body.items))) h)
-      (all_same held.items (blind.left (list_all (λ b. b) (map (stmt_read r) (stmts held.items))) (list_all (λ b. b) (map (stmt_read r) (stmts body.items))) both))
-      (all_same body.items (blind.right (list_all (λ b. b) (map (stmt_read r) (stmts held.items))) (list_all (λ b. b) (map (stmt_read r) (stmts body.items))) both))
+      (blind.left (expr_read r test)
+      (list_all (λ b. b) (map (stmt_read r) (stmts held.items))
+      && list_all (λ b. b) (map (stmt_read r) (stmts body.items))) h)
+      (all_same held.items (blind.left (list_all (λ b. b) (map (stmt_read r) (stmts held.items)))
+      (list_all (λ b. b) (map (stmt_read r) (stmts body.items))) both))
+      (all_same body.items (blind.right (list_all (λ b. b) (map (stmt_read r) (stmts held.items)))
+      (list_all (λ b. b) (map (stmt_read r) (stmts body.items))) both))
   level_same (level.Emit at slot e) h = λ a b k. record {
     env = k;
     emitted = ap (emission slot.what) (blind.values e h a b k);
@@ -265,13 +280,15 @@ module _ (R : Env → Env → Type 0) (H : Bool → Type 0) (r : Readable) (blin
   act_same = ind-Stmt (λ s. H (stmt_read r s) → Same (act_of s)) (λ x y is.
       subst (λ z. H (stmt_read r (roll-Stmt z)) → Same (act_of (roll-Stmt z))) is
       (subst (λ t. H t → Same (act_of (roll-Stmt (below y)))) (sym (fold-roll-Stmt Bool (level_read r) (below y)))
-      (subst (λ act. H (level_read r (map-Stmt Stmt Bool (stmt_read r) (below y))) → Same act) (sym (fold-roll-Stmt Act act_step (below y)))
+      (subst (λ act. H (level_read r (map-Stmt Stmt Bool (stmt_read r) (below y))) → Same act)
+      (sym (fold-roll-Stmt Act act_step (below y)))
       (level_same y))))
 
-  run_same : (body : List Stmt) → H (body_read r body) → Same (run body)
+  pub run_same : (body : List Stmt) → H (body_read r body) → Same (run body)
   run_same [] h = same_leaves
   run_same (s ∷ ss) h =
-      same_next (act_of s) (run ss) (act_same s (blind.left (stmt_read r s) (body_read r ss) h)) (run_same ss (blind.right (stmt_read r s) (body_read r ss) h))
+      same_next (act_of s) (run ss) (act_same s (blind.left (stmt_read r s) (body_read r ss) h))
+      (run_same ss (blind.right (stmt_read r s) (body_read r ss) h))
 
 -- ---- at another neighbour
 target_moved : (w : What) (op : AssignOp) (x : ℤ) (a : Env) (o : Neighbour) (row : Row) (t : ℕ) →
@@ -283,21 +300,26 @@ target_moved (what.Local i) op x a o row t = refl
 target_moved (what.Send i) op x a o row t = refl
 target_moved (what.Total i) op x a o row t = refl
 
-tests_blind : IsBlind SameButNeighbour IsTrue in_tests
+pub tests_blind : IsBlind SameButNeighbour IsTrue in_tests
 tests_blind = record {
-  left = left_true;
-  right = right_true;
-  values = λ e h a b k. ap (value_of e) k ∙ node_same IsTrue in_tests left_true right_true a (moved b.other b.other_row b.touched a) (leaves_moved b.other b.other_row b.touched a) e.node h;
-  targets = λ w op x a b k. subst (λ c. SameButNeighbour (with_target w op x a) (with_target w op x c)) (sym k) (target_moved w op x a b.other b.other_row b.touched);
+  left = λ t u h. (and_parts t u h).0;
+  right = λ t u h. (and_parts t u h).1;
+  values = λ e h a b k. ap (value_of e) k
+      ∙ node_same IsTrue in_tests (λ t u r. (and_parts t u r).0) (λ t u r. (and_parts t u r).1) a
+      (moved b.other b.other_row b.touched a) (leaves_moved b.other b.other_row b.touched a) e.node h;
+  targets = λ w op x a b k. subst (λ c. SameButNeighbour (with_target w op x a) (with_target w op x c)) (sym k)
+      (target_moved w op x a b.other b.other_row b.touched);
   flags = λ x a b k. ap (λ c. let left : Env = record c { next_active = x } in left) k;
 }
 
 -- statements that read no neighbour do the same at any other one
-pub run_blind : (body : List Stmt) → IsTrue (body_read in_tests body) → (a b : Env) → SameButNeighbour a b → SameRun SameButNeighbour (run body a) (run body b)
+pub run_blind : (body : List Stmt) → IsTrue (body_read in_tests body) → (a b : Env) → SameButNeighbour a b →
+    SameRun SameButNeighbour (run body a) (run body b)
 run_blind = run_same SameButNeighbour IsTrue in_tests tests_blind
 
 -- ---- with other marks
-target_marked : (w : What) (op : AssignOp) (x : ℤ) (a : Env) (t : ℕ) → SameButMarks (with_target w op x a) (with_target w op x (moved a.other a.other_row t a))
+target_marked : (w : What) (op : AssignOp) (x : ℤ) (a : Env) (t : ℕ) →
+    SameButMarks (with_target w op x a) (with_target w op x (moved a.other a.other_row t a))
 target_marked what.Unread op x a t = refl
 target_marked (what.Field i) op x a t = refl
 target_marked (what.Slot i) op x a t = refl
@@ -309,8 +331,11 @@ marks_blind : IsBlind SameButMarks Always in_tests
 marks_blind = record {
   left = λ t u h. tt;
   right = λ t u h. tt;
-  values = λ e h a b k. ap (value_of e) k ∙ node_same Always in_tests (λ t u h. tt) (λ t u h. tt) a (moved a.other a.other_row b.touched a) (leaves_marked in_tests b.touched a) e.node tt;
-  targets = λ w op x a b k. subst (λ c. SameButMarks (with_target w op x a) (with_target w op x c)) (sym k) (target_marked w op x a b.touched);
+  values = λ e h a b k. ap (value_of e) k
+      ∙ node_same Always in_tests (λ t u h. tt) (λ t u h. tt) a (moved a.other a.other_row b.touched a)
+      (leaves_marked in_tests b.touched a) e.node tt;
+  targets = λ w op x a b k. subst (λ c. SameButMarks (with_target w op x a) (with_target w op x c)) (sym k)
+      (target_marked w op x a b.touched);
   flags = λ x a b k. ap (λ c. let left : Env = record c { next_active = x } in left) k;
 }
 

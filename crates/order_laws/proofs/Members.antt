@@ -12,7 +12,8 @@ below_or_above n t = grind (arith, nat_tests)
 
 pub turned-permutation : (t : ℕ) (members : List Edge) → IsPermutation members (turned t members)
 turned-permutation t members =
-    IsPermutation-filter_both (λ e. nat_le t (source e)) (λ e. nat_lt (source e) t) (λ e. below_or_above (source e) t) members
+    IsPermutation-filter_both (λ e. nat_le t (source e)) (λ e. nat_lt (source e) t)
+    (λ e. below_or_above (source e) t) members
 
 -- the neighbours in the orders of two lists of ends
 pub neighbours_of-permutation : (n : ℕ) (first second : List ℕ) (edges : List Edge) (v : ℕ) →
@@ -29,8 +30,10 @@ flip_parts a b c =
     (subst (λ l. IsPermutation ((a ++ b) ++ c) l) (append_assoc b a c)
     (IsPermutation-append_left c (a ++ b) (b ++ a) (IsPermutation-append_comm a b)))
 
-pub flat_map-permutation : {X Y : Type 0} (f : X → List Y) (xs ys : List X) → IsPermutation xs ys → IsPermutation (flat_map f xs) (flat_map f ys)
-flat_map-permutation f xs ys moved = permutation-kept (λ l k. IsPermutation (flat_map f l) (flat_map f k)) kept xs ys moved
+pub flat_map-permutation : {X Y : Type 0} (f : X → List Y) (xs ys : List X) → IsPermutation xs ys →
+    IsPermutation (flat_map f xs) (flat_map f ys)
+flat_map-permutation f xs ys moved =
+    permutation-kept (λ l k. IsPermutation (flat_map f l) (flat_map f k)) kept xs ys moved
   where
     kept : IsKept (λ l k. IsPermutation (flat_map f l) (flat_map f k))
     kept = record {

@@ -3,6 +3,7 @@ use Rattle.std.proofs.Common.{◌≡◌, ℕ, ℤ, zero, suc, ◌+◌, ◌-◌, 
 use Rattle.std.specs.Prelude.{if◌then◌else◌, is_some}
 use Rattle.std.specs.List.{AllByRecursion, flat_map, list_all}
 use Rattle.std.proofs.lemmas.List.{append-nil}
+use Rattle.std.proofs.lemmas.Bool.{and_parts}
 use Rattle.vert_base.specs.declared.graph.Edge.{Edge}
 use Rattle.vert_base.specs.declared.value.Combine.{Combine}
 use Rattle.vert_base.specs.declared.value.Ruling.{Ruling}
@@ -14,7 +15,7 @@ use Rattle.vert_tree.specs.declared.program.Sparse.{Sparse}
 use Rattle.vert_tree.specs.Kinds.{is_kinded}
 use Rattle.vert_tree.specs.Limits.{is_limited, is_shallow, mode_stands, names_stand, version_stands}
 use Rattle.vert_tree.specs.Places.{is_placed, option_all}
-use Rattle.vert_tree.specs.Readable.{body_read, declares_once, decls_read, dense_read, expr_read, in_fields, in_loop, in_tests, in_stop, in_update, is_readable, sparse_read, totals_combine}
+use Rattle.vert_tree.specs.Readable.{body_read, decls_read, dense_read, expr_read, in_fields, in_loop, in_tests, is_readable}
 use Rattle.vert_tree.specs.Typed.{is_typed}
 use Rattle.slot_merge.specs.Combine.{Emission, slot_values}
 use Rattle.vert_eval.specs.declared.environment.Env.{Env}
@@ -25,7 +26,7 @@ use Rattle.vert_eval.specs.Values.{value_of}
 use Rattle.vert_eval.specs.Words.{is_set}
 use Rattle.order_laws.specs.Agreement.{LoopAgrees}
 use Rattle.order_laws.specs.OrderFree.{AnyLoopAgrees, IsOrderFree, ResumesAlike, RunsAlike, Told, no_first, told, with_ends}
-use Rattle.order_laws.proofs.Blindness.{left_true, right_true, run_blind}
+use Rattle.order_laws.proofs.Blindness.{run_blind}
 use Rattle.order_laws.proofs.Emissions.{Combines, all-flat_map, loop_fine, run_fine, slot_values-alike}
 use Rattle.order_laws.proofs.Members.{flat_map-permutation, neighbours_of-permutation}
 
@@ -38,8 +39,10 @@ abbrev values : List Combine → Ran → List (Option ℤ)
 values ops ran = slot_values 0 ops ran.emitted
 
 -- ---- a dense round at a vertex
-module _ (ops : List Combine) (d : Dense) (s : Scene) (first second : List ℕ) (ms ns : List Edge) (moved : IsPermutation ms ns)
-    (agrees : LoopAgrees d.body.items) (none : IsTrue (no_first ops d.body.items)) (tests : IsTrue (body_read in_tests d.tail.items)) (env : Env) where
+module _ (ops : List Combine) (d : Dense) (s : Scene) (first second : List ℕ) (ms ns : List Edge)
+    (moved : IsPermutation ms ns)
+    (agrees : LoopAgrees d.body.items) (none : IsTrue (no_first ops d.body.items))
+    (tests : IsTrue (body_read in_tests d.tail.items)) (env : Env) where
   block_alike : values ops (dense_block (over first s) d ms env) ≡ values ops (dense_block (over second s) d ns env)
   block_alike =
       let start = with_lets d.lets.items env in
@@ -52,7 +55,8 @@ module _ (ops : List Combine) (d : Dense) (s : Scene) (first second : List ℕ) 
       ∙ ap (λ es. slot_values 0 ops (b.emitted ++ es)) (sym tails.emitted)
 
   choice_alike : (t : Bool) →
-      values ops (if t then dense_block (over first s) d ms env else leaves env) ≡ values ops (if t then dense_block (over second s) d ns env else leaves env)
+      values ops (if t then dense_block (over first s) d ms env else leaves env) ≡ values ops
+      (if t then dense_block (over second s) d ns env else leaves env)
   choice_alike true = block_alike
   choice_alike false = refl
 
@@ -61,18 +65,23 @@ tail_tests d h =
     let lets = decls_read in_tests d.lets.items in
     let body = body_read in_loop d.body.items in
     let tail = body_read in_tests d.tail.items in
-    right_true body tail (right_true lets (body && tail) (right_true (expr_read in_tests d.when_test) (lets && (body && tail)) h))
+    (and_parts body tail (and_parts lets (body && tail)
+    (and_parts (expr_read in_tests d.when_test) (lets && (body && tail)) h).1).1).1
 
-dense_part_alike : (ops : List Combine) (o : Option Dense) (s : Scene) (first second : List ℕ) (ms ns : List Edge) → IsPermutation ms ns →
+dense_part_alike : (ops : List Combine) (o : Option Dense) (s : Scene) (first second : List ℕ) (ms ns : List Edge) →
+    IsPermutation ms ns →
     AnyLoopAgrees o → IsTrue (option_all (λ d. no_first ops d.body.items) o) → IsTrue (option_all dense_read o) →
     (env : Env) → values ops (dense_part (over first s) o ms env) ≡ values ops (dense_part (over second s) o ns env)
 dense_part_alike ops None s first second ms ns moved agrees none reads env = refl
 dense_part_alike ops (Some d) s first second ms ns moved agrees none reads env =
-    choice_alike ops d s first second ms ns moved agrees none (tail_tests d reads) env (is_set (value_of d.when_test env))
+    choice_alike ops d s first second ms ns moved agrees none (tail_tests d reads) env
+    (is_set (value_of d.when_test env))
 
 -- ---- a sparse round at a vertex
-module _ (ops : List Combine) (sparse : Sparse) (s : Scene) (none : IsTrue (no_first ops sparse.body.items)) (env : Env) where
-  choice_fine : (t : Bool) (es : List Emission) → AllByRecursion (Combines 0 ops) es → AllByRecursion (Combines 0 ops) (if t then es else [])
+module _ (ops : List Combine) (sparse : Sparse) (s : Scene) (none : IsTrue (no_first ops sparse.body.items))
+    (env : Env) where
+  choice_fine : (t : Bool) (es : List Emission) → AllByRecursion (Combines 0 ops) es →
+      AllByRecursion (Combines 0 ops) (if t then es else [])
   choice_fine true es h = h
   choice_fine false es h = tt
 
@@ -83,10 +92,12 @@ module _ (ops : List Combine) (sparse : Sparse) (s : Scene) (none : IsTrue (no_f
   over_fine e =
       let sender = sender_at s ops (source e) in
       let receiver : Env = record (at_member s e env) { sends = record { items = sent_by sparse sender } } in
-      choice_fine (sender.row.active && is_set (value_of sparse.when_test sender)) (received_from e).emitted (run_fine ops sparse.body.items none receiver)
+      choice_fine (sender.row.active && is_set (value_of sparse.when_test sender)) (received_from e).emitted
+      (run_fine ops sparse.body.items none receiver)
 
   sent_alike : (ms ns : List Edge) → IsPermutation ms ns →
-      slot_values 0 ops (flat_map (emitted_over s ops sparse env) ms) ≡ slot_values 0 ops (flat_map (emitted_over s ops sparse env) ns)
+      slot_values 0 ops (flat_map (emitted_over s ops sparse env) ms) ≡ slot_values 0 ops
+      (flat_map (emitted_over s ops sparse env) ns)
   sent_alike ms ns moved =
       let a = flat_map (emitted_over s ops sparse env) ms in
       let b = flat_map (emitted_over s ops sparse env) ns in
@@ -97,58 +108,59 @@ module _ (ops : List Combine) (sparse : Sparse) (s : Scene) (none : IsTrue (no_f
       (flat_map-permutation (emitted_over s ops sparse env) ms ns moved)
       ∙ ap (slot_values 0 ops) (append-nil b)
 
-sparse_part_alike : (ops : List Combine) (o : Option Sparse) (s : Scene) (first second : List ℕ) (ms ns : List Edge) → IsPermutation ms ns →
+sparse_part_alike : (ops : List Combine) (o : Option Sparse) (s : Scene) (first second : List ℕ) (ms ns : List Edge) →
+    IsPermutation ms ns →
     IsTrue (option_all (λ d. no_first ops d.body.items) o) →
-    (env : Env) → values ops (sparse_part (over first s) ops o ms env) ≡ values ops (sparse_part (over second s) ops o ns env)
+    (env : Env) → values ops (sparse_part (over first s) ops o ms env) ≡ values ops
+    (sparse_part (over second s) ops o ns env)
 sparse_part_alike ops None s first second ms ns moved none env = refl
 sparse_part_alike ops (Some sparse) s first second ms ns moved none env = sent_alike ops sparse s none env ms ns moved
 
 -- ---- a round
 readable_of : (p : Program) → IsTrue (is_typed p) → IsTrue (is_readable p)
 readable_of p h =
-    let last = declares_once p && totals_combine p in
-    let modes = mode_stands p.mode (is_some p.dense) (is_some p.sparse) in
-    let a = is_readable p && last in
-    let b = modes && a in
-    let c = version_stands p && b in
-    let d = names_stand p && c in
-    let e = is_shallow p && d in
-    let f = is_limited p && e in
-    let g = is_kinded p && f in
-    left_true (is_readable p) last (right_true modes a (right_true (version_stands p) b (right_true (names_stand p) c (right_true (is_shallow p) d (right_true (is_limited p) e
-    (right_true (is_kinded p) f (right_true (is_placed p) g h)))))))
+    let kinded = and_parts (is_placed p) _ h in
+    let limited = and_parts (is_kinded p) _ kinded.1 in
+    let shallow = and_parts (is_limited p) _ limited.1 in
+    let names = and_parts (is_shallow p) _ shallow.1 in
+    let version = and_parts (names_stand p) _ names.1 in
+    let modes = and_parts (version_stands p) _ version.1 in
+    let readable = and_parts (mode_stands p.mode (is_some p.dense) (is_some p.sparse)) _ modes.1 in
+    (and_parts (is_readable p) _ readable.1).0
 
 dense_tests : (p : Program) → IsTrue (is_readable p) → IsTrue (option_all dense_read p.dense)
 dense_tests p h =
-    let stop = option_all (expr_read in_stop) p.stop in
-    let a = body_read in_update p.update.items && stop in
-    let b = option_all sparse_read p.sparse && a in
-    let c = option_all dense_read p.dense && b in
-    let d = expr_read in_fields p.start && c in
-    let e = list_all (λ t. expr_read in_tests t.value) p.totals.items && d in
-    left_true (option_all dense_read p.dense) b (right_true (expr_read in_fields p.start) c (right_true (list_all (λ t. expr_read in_tests t.value) p.totals.items) d
-    (right_true (decls_read in_fields p.fields.items) e h)))
+    let totals = and_parts (decls_read in_fields p.fields.items) _ h in
+    let start = and_parts (list_all (λ t. expr_read in_tests t.value) p.totals.items) _ totals.1 in
+    let dense = and_parts (expr_read in_fields p.start) _ start.1 in
+    (and_parts (option_all dense_read p.dense) _ dense.1).0
 
 module _ (p : Program) (free : IsOrderFree p) (s : Scene) (first second : List ℕ) where
   members_moved : (v : ℕ) → IsPermutation (members_of (over first s).graph v) (members_of (over second s).graph v)
   members_moved v = neighbours_of-permutation s.graph.vertices first second s.graph.edges v
 
   none_dense : IsTrue (option_all (λ d. no_first (slot_ops p) d.body.items) p.dense)
-  none_dense = left_true (option_all (λ d. no_first (slot_ops p) d.body.items) p.dense) (option_all (λ d. no_first (slot_ops p) d.body.items) p.sparse) free.slots
+  none_dense = (and_parts (option_all (λ d. no_first (slot_ops p) d.body.items) p.dense)
+      (option_all (λ d. no_first (slot_ops p) d.body.items) p.sparse) free.slots).0
 
   none_sparse : IsTrue (option_all (λ d. no_first (slot_ops p) d.body.items) p.sparse)
-  none_sparse = right_true (option_all (λ d. no_first (slot_ops p) d.body.items) p.dense) (option_all (λ d. no_first (slot_ops p) d.body.items) p.sparse) free.slots
+  none_sparse = (and_parts (option_all (λ d. no_first (slot_ops p) d.body.items) p.dense)
+      (option_all (λ d. no_first (slot_ops p) d.body.items) p.sparse) free.slots).1
 
-  gathered_alike : (r : Ruling) (v : ℕ) → values (slot_ops p) (gathered p r (over first s) v) ≡ values (slot_ops p) (gathered p r (over second s) v)
+  gathered_alike : (r : Ruling) (v : ℕ) →
+      values (slot_ops p) (gathered p r (over first s) v) ≡ values (slot_ops p) (gathered p r (over second s) v)
   gathered_alike ruling.Stop v = refl
   gathered_alike ruling.Dense v =
-      dense_part_alike (slot_ops p) p.dense s first second (members_of (over first s).graph v) (members_of (over second s).graph v) (members_moved v)
+      dense_part_alike (slot_ops p) p.dense s first second (members_of (over first s).graph v)
+      (members_of (over second s).graph v) (members_moved v)
       free.loop none_dense (dense_tests p (readable_of p free.typed)) (env_at s v (no_values (slot_ops p)))
   gathered_alike ruling.Sparse v =
-      sparse_part_alike (slot_ops p) p.sparse s first second (members_of (over first s).graph v) (members_of (over second s).graph v) (members_moved v)
+      sparse_part_alike (slot_ops p) p.sparse s first second (members_of (over first s).graph v)
+      (members_of (over second s).graph v) (members_moved v)
       none_sparse (env_at s v (no_values (slot_ops p)))
 
-  each_row_alike : (r : Ruling) (vs : List ℕ) → map (row_after p r (over first s)) vs ≡ map (row_after p r (over second s)) vs
+  each_row_alike : (r : Ruling) (vs : List ℕ) →
+      map (row_after p r (over first s)) vs ≡ map (row_after p r (over second s)) vs
   each_row_alike r [] = refl
   each_row_alike r (v ∷ vs) =
       ap (λ xs. updated p.update.items (env_at s v xs) ∷ map (row_after p r (over first s)) vs) (gathered_alike r v)
@@ -158,7 +170,8 @@ module _ (p : Program) (free : IsOrderFree p) (s : Scene) (first second : List �
   rows_alike r = each_row_alike r (vertices_of s.graph)
 
 -- ---- runs
-told_by_ruling : (r : Ruling) (ended a b : Run) → told a ≡ told b → told (by_ruling r ended a) ≡ told (by_ruling r ended b)
+told_by_ruling : (r : Ruling) (ended a b : Run) → told a ≡ told b →
+    told (by_ruling r ended a) ≡ told (by_ruling r ended b)
 told_by_ruling ruling.Stop ended a b h = refl
 told_by_ruling ruling.Dense ended a b h = h
 told_by_ruling ruling.Sparse ended a b h = h
@@ -175,9 +188,11 @@ module _ (job : Job) (free : IsOrderFree job.program) (first second : List ℕ) 
   two = with_ends second job
 
   next_alike : (round : ℕ) (s : Standing) → next_standing one round s ≡ next_standing two round s
-  next_alike round s = ap (standing_after one round) (rows_alike job.program free (scene_before job round s) first second s.ruling)
+  next_alike round s = ap (standing_after one round)
+      (rows_alike job.program free (scene_before job round s) first second s.ruling)
 
-  rounds_alike : (more round : ℕ) (s : Standing) → told (rounds_from more one round s) ≡ told (rounds_from more two round s)
+  rounds_alike : (more round : ℕ) (s : Standing) →
+      told (rounds_from more one round s) ≡ told (rounds_from more two round s)
   rounds_alike zero round s = refl
   rounds_alike (suc more) round s =
       told_by_ruling s.ruling (record { rounds = []; last = s })

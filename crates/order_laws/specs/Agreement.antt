@@ -18,11 +18,13 @@ pub record Agree (a b : Ran) : Type 0 where
 
 -- a loop body whose loop agrees over every order of its members
 abbrev pub LoopAgrees : List Stmt → Type 0
-LoopAgrees body = (s : Scene) (members others : List Edge) (env : Env) → IsPermutation members others → Agree (loop s body members env) (loop s body others env)
+LoopAgrees body = (s : Scene) (members others : List Edge) (env : Env) → IsPermutation members others →
+    Agree (loop s body members env) (loop s body others env)
 
 -- a loop body whose first two members may change places
 abbrev pub FlipsTwo : List Stmt → Type 0
-FlipsTwo body = (s : Scene) (e f : Edge) (members : List Edge) (env : Env) → Agree (loop s body (e ∷ f ∷ members) env) (loop s body (f ∷ e ∷ members) env)
+FlipsTwo body = (s : Scene) (e f : Edge) (members : List Edge) (env : Env) →
+    Agree (loop s body (e ∷ f ∷ members) env) (loop s body (f ∷ e ∷ members) env)
 
 -- runs that agree and end in the same way
 pub record AgreeToEnd (a b : Ran) : Type 0 where
@@ -31,4 +33,5 @@ pub record AgreeToEnd (a b : Ran) : Type 0 where
 
 -- a loop body that does the same on two members, whichever comes first
 abbrev pub FlipsPairs : List Stmt → Type 0
-FlipsPairs body = (s : Scene) (e f : Edge) (env : Env) → AgreeToEnd (loop s body (e ∷ f ∷ []) env) (loop s body (f ∷ e ∷ []) env)
+FlipsPairs body = (s : Scene) (e f : Edge) (env : Env) →
+    AgreeToEnd (loop s body (e ∷ f ∷ []) env) (loop s body (f ∷ e ∷ []) env)

@@ -44,7 +44,8 @@ no_first ops body = list_all (stmt_no_first ops) body
 -- neither in the loop body nor in the sparse body
 abbrev pub program_no_first : Program → Bool
 program_no_first p =
-    option_all (λ d. no_first (slot_ops p) d.body.items) p.dense && option_all (λ s. no_first (slot_ops p) s.body.items) p.sparse
+    option_all (λ d. no_first (slot_ops p) d.body.items) p.dense
+    && option_all (λ s. no_first (slot_ops p) s.body.items) p.sparse
 
 -- ---- programs
 -- there is no loop, or it agrees over every order
@@ -73,7 +74,8 @@ told run = record { rounds = map (λ p. (p.round, p.before)) run.rounds; last = 
 
 -- the runs over every two lists of ends are alike
 abbrev pub RunsAlike : Job → Type 0
-RunsAlike job = (first second : List ℕ) → told (source_run (with_ends first job)) ≡ told (source_run (with_ends second job))
+RunsAlike job = (first second : List ℕ) →
+    told (source_run (with_ends first job)) ≡ told (source_run (with_ends second job))
 
 -- and so are the runs that go on at a round before which the same stands
 abbrev pub ResumesAlike : Job → Type 0

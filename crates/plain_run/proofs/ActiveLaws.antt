@@ -8,7 +8,7 @@ use Rattle.std.proofs.lemmas.List.FromFn.{map-range_with_len_more}
 use Rattle.vert_base.specs.declared.value.Row.{Row}
 use Rattle.vert_base.specs.Neighbours.{in_order, source}
 use Rattle.vert_eval.specs.Rounds.{Graph, outdegree, row_at}
-use Rattle.plain_run.proofs.OrderLaws.{bucket}
+use Rattle.vert_base.specs.Neighbours.{bucket}
 
 -- the sum of a list made by the number, with one more
 pub sum_more : (f : ℕ → ℕ) (m : ℕ) → sum (map f (range_with_len 0 (m + 1))) ≡ sum (map f (range_with_len 0 m)) + f m

@@ -1,4 +1,5 @@
 pub mod CombineLaws
+pub mod FillLaws
 pub mod MergeLaws
 pub mod MergeOrders
 pub mod OrderLaws

@@ -38,11 +38,14 @@ words-append (w ∷ ws) more p = words-append ws more (with_word w.0 w.1 p)
 
 -- a word that a partial has got is merged as if it came itself
 
-none-First : (w v : Keyed) (k : ℕ) (b : Bool) → with_partial (cond b (hold v) (hold w)) (partial First k None) ≡ cond b (hold v) (hold w)
+none-First : (w v : Keyed) (k : ℕ) (b : Bool) →
+    with_partial (cond b (hold v) (hold w)) (partial First k None) ≡ cond b (hold v) (hold w)
 none-First w v k true = refl
 none-First w v k false = refl
 
-word-merged : (op : Combine) (j : ℕ) (held : Option ℤ) (k : ℕ) (value : Option ℤ) (w : Keyed) → with_partial (with_word w.0 w.1 (partial op j held)) (partial op k value) ≡ with_word w.0 w.1 (with_partial (partial op j held) (partial op k value))
+word-merged : (op : Combine) (j : ℕ) (held : Option ℤ) (k : ℕ) (value : Option ℤ) (w : Keyed) →
+    with_partial (with_word w.0 w.1 (partial op j held)) (partial op k value) ≡ with_word w.0 w.1
+    (with_partial (partial op j held) (partial op k value))
 word-merged First j None k value w = refl
 word-merged Min j None k None w = refl
 word-merged Max j None k None w = refl
@@ -66,18 +69,22 @@ word-merged First j (Some y) k (Some x) w =
     ∙ sym (word-First (nearer u v) w)
     ∙ sym (ap (with_word w.0 w.1) (word-First u v))
 
-word-merged_alike : (q p : Partial) (w : Keyed) → q.op ≡ p.op → with_partial (with_word w.0 w.1 q) p ≡ with_word w.0 w.1 (with_partial q p)
+word-merged_alike : (q p : Partial) (w : Keyed) → q.op ≡ p.op →
+    with_partial (with_word w.0 w.1 q) p ≡ with_word w.0 w.1 (with_partial q p)
 word-merged_alike q p w e =
-    subst (λ op. with_partial (with_word w.0 w.1 q) (record p { op = op }) ≡ with_word w.0 w.1 (with_partial q (record p { op = op }))) e
+    subst (λ op. with_partial (with_word w.0 w.1 q) (record p { op = op }) ≡ with_word w.0 w.1
+    (with_partial q (record p { op = op }))) e
     (word-merged q.op q.key q.value p.key p.value w)
 
-words-merged : (ws : List Keyed) (q p : Partial) → q.op ≡ p.op → with_partial (with_words ws q) p ≡ with_words ws (with_partial q p)
+words-merged : (ws : List Keyed) (q p : Partial) → q.op ≡ p.op →
+    with_partial (with_words ws q) p ≡ with_words ws (with_partial q p)
 words-merged [] q p e = refl
 words-merged (w ∷ ws) q p e =
     words-merged ws (with_word w.0 w.1 q) p (word-op q.op q.key q.value w ∙ e)
     ∙ ap (with_words ws) (word-merged_alike q p w e)
 
-pub merged_is_joined : (op : Combine) (ws more : List Keyed) → with_partial (partial_of op more) (partial_of op ws) ≡ partial_of op (ws ++ more)
+pub merged_is_joined : (op : Combine) (ws more : List Keyed) →
+    with_partial (partial_of op more) (partial_of op ws) ≡ partial_of op (ws ++ more)
 merged_is_joined op ws more =
     words-merged more (empty_partial op) (partial_of op ws) (sym (words-op ws (empty_partial op)))
     ∙ sym (words-append ws more (empty_partial op))
@@ -87,11 +94,14 @@ abbrev Plain : Combine → ℕ → Option ℤ → Type 0
 Plain First key (Some x) = ⊤
 Plain op key value = key ≡ 0
 
-plain-First : (w v : Keyed) (b : Bool) → Plain (cond b (hold v) (hold w)).op (cond b (hold v) (hold w)).key (cond b (hold v) (hold w)).value
+plain-First : (w v : Keyed) (b : Bool) →
+    Plain (cond b (hold v) (hold w)).op (cond b (hold v) (hold w)).key (cond b (hold v) (hold w)).value
 plain-First w v true = tt
 plain-First w v false = tt
 
-plain-word : (op : Combine) (key : ℕ) (value : Option ℤ) (w : Keyed) → Plain op key value → Plain (with_word w.0 w.1 (partial op key value)).op (with_word w.0 w.1 (partial op key value)).key (with_word w.0 w.1 (partial op key value)).value
+plain-word : (op : Combine) (key : ℕ) (value : Option ℤ) (w : Keyed) → Plain op key value →
+    Plain (with_word w.0 w.1 (partial op key value)).op (with_word w.0 w.1 (partial op key value)).key
+    (with_word w.0 w.1 (partial op key value)).value
 plain-word First key None w h = tt
 plain-word Min key None w h = h
 plain-word Max key None w h = h
@@ -101,7 +111,8 @@ plain-word Max key (Some x) w h = h
 plain-word Sum key (Some x) w h = h
 plain-word First key (Some x) w h = plain-First (key, x) w (nat_lt w.0 key)
 
-plain-words : (ws : List Keyed) (p : Partial) → Plain p.op p.key p.value → Plain (with_words ws p).op (with_words ws p).key (with_words ws p).value
+plain-words : (ws : List Keyed) (p : Partial) → Plain p.op p.key p.value →
+    Plain (with_words ws p).op (with_words ws p).key (with_words ws p).value
 plain-words [] p h = h
 plain-words (w ∷ ws) p h = plain-words ws (with_word w.0 w.1 p) (plain-word p.op p.key p.value w h)
 
@@ -111,12 +122,15 @@ plain-empty Max = refl
 plain-empty Sum = refl
 plain-empty First = refl
 
-either : (op : Combine) (k : ℕ) (value : Option ℤ) (j : ℕ) (held : Option ℤ) → Plain op k value → Plain op j held → (op ≡ First → IsSome value → IsSome held → k ≢ j) → with_partial (partial op j held) (partial op k value) ≡ with_partial (partial op k value) (partial op j held)
+either : (op : Combine) (k : ℕ) (value : Option ℤ) (j : ℕ) (held : Option ℤ) → Plain op k value → Plain op j held →
+    (op ≡ First → IsSome value → IsSome held → k ≢ j) →
+    with_partial (partial op j held) (partial op k value) ≡ with_partial (partial op k value) (partial op j held)
 either First k None j None p q other = ap (λ n. partial First n None) (p ∙ sym q)
 either First k (Some x) j None p q other = refl
 either First k None j (Some y) p q other = refl
 either First k (Some x) j (Some y) p q other =
-    word-First (k, x) (j, y) ∙ ap hold (nearer-comm (k, x) (j, y) (other refl refl refl)) ∙ sym (word-First (j, y) (k, x))
+    word-First (k, x) (j, y) ∙ ap hold (nearer-comm (k, x) (j, y) (other refl refl refl))
+    ∙ sym (word-First (j, y) (k, x))
 either Min k None j None p q other = ap (λ n. partial Min n None) (p ∙ sym q)
 either Max k None j None p q other = ap (λ n. partial Max n None) (p ∙ sym q)
 either Sum k None j None p q other = ap (λ n. partial Sum n None) (p ∙ sym q)
@@ -126,25 +140,37 @@ either Sum k (Some x) j None p q other = ap (λ n. holding Sum n x) (p ∙ sym q
 either Min k None j (Some y) p q other = ap (λ n. holding Min n y) (p ∙ sym q)
 either Max k None j (Some y) p q other = ap (λ n. holding Max n y) (p ∙ sym q)
 either Sum k None j (Some y) p q other = ap (λ n. holding Sum n y) (p ∙ sym q)
-either Min k (Some x) j (Some y) p q other = ap (λ n. holding Min n (combined_of Min x y)) (p ∙ sym q) ∙ ap (holding Min j) (combined_of-comm Min Min≢First x y)
-either Max k (Some x) j (Some y) p q other = ap (λ n. holding Max n (combined_of Max x y)) (p ∙ sym q) ∙ ap (holding Max j) (combined_of-comm Max Max≢First x y)
-either Sum k (Some x) j (Some y) p q other = ap (λ n. holding Sum n (combined_of Sum x y)) (p ∙ sym q) ∙ ap (holding Sum j) (combined_of-comm Sum Sum≢First x y)
+either Min k (Some x) j (Some y) p q other =
+    ap (λ n. holding Min n (combined_of Min x y)) (p ∙ sym q) ∙ ap (holding Min j) (combined_of-comm Min Min≢First x y)
+either Max k (Some x) j (Some y) p q other =
+    ap (λ n. holding Max n (combined_of Max x y)) (p ∙ sym q) ∙ ap (holding Max j) (combined_of-comm Max Max≢First x y)
+either Sum k (Some x) j (Some y) p q other =
+    ap (λ n. holding Sum n (combined_of Sum x y)) (p ∙ sym q) ∙ ap (holding Sum j) (combined_of-comm Sum Sum≢First x y)
 
-either_alike : (p q : Partial) → Plain p.op p.key p.value → Plain q.op q.key q.value → CanMerge p q → with_partial q p ≡ with_partial p q
+either_alike : (p q : Partial) → Plain p.op p.key p.value → Plain q.op q.key q.value → CanMerge p q →
+    with_partial q p ≡ with_partial p q
 either_alike p q hp hq can =
-    subst (λ op. Plain op q.key q.value → with_partial (record q { op = op }) p ≡ with_partial p (record q { op = op })) (sym can.op)
+    subst (λ op. Plain op q.key q.value → with_partial (record q { op = op }) p ≡ with_partial p (record q { op = op }))
+    (sym can.op)
     (λ h. either p.op p.key p.value q.key q.value hp h can.keys) hq
 
-pub merged_either_way : (op : Combine) (ws more : List Keyed) → CanMerge (partial_of op ws) (partial_of op more) → with_partial (partial_of op more) (partial_of op ws) ≡ with_partial (partial_of op ws) (partial_of op more)
+pub merged_either_way : (op : Combine) (ws more : List Keyed) → CanMerge (partial_of op ws) (partial_of op more) →
+    with_partial (partial_of op more) (partial_of op ws) ≡ with_partial (partial_of op ws) (partial_of op more)
 merged_either_way op ws more can =
-    either_alike (partial_of op ws) (partial_of op more) (plain-words ws (empty_partial op) (plain-empty op)) (plain-words more (empty_partial op) (plain-empty op)) can
+    either_alike (partial_of op ws) (partial_of op more) (plain-words ws (empty_partial op) (plain-empty op))
+    (plain-words more (empty_partial op) (plain-empty op)) can
 
 -- two words, either one first
 
-turned : (op : Combine) → op ≢ First → (x y z : ℤ) → combined_of op (combined_of op x y) z ≡ combined_of op (combined_of op x z) y
-turned op other x y z = combined_of-assoc op x y z ∙ ap (combined_of op x) (combined_of-comm op other y z) ∙ sym (combined_of-assoc op x z y)
+turned : (op : Combine) → op ≢ First → (x y z : ℤ) →
+    combined_of op (combined_of op x y) z ≡ combined_of op (combined_of op x z) y
+turned op other x y z =
+    combined_of-assoc op x y z ∙ ap (combined_of op x) (combined_of-comm op other y z)
+    ∙ sym (combined_of-assoc op x z y)
 
-word-word : (op : Combine) (k : ℕ) (value : Option ℤ) (w v : Keyed) → (op ≡ First → w.0 ≢ v.0) → with_word v.0 v.1 (with_word w.0 w.1 (partial op k value)) ≡ with_word w.0 w.1 (with_word v.0 v.1 (partial op k value))
+word-word : (op : Combine) (k : ℕ) (value : Option ℤ) (w v : Keyed) → (op ≡ First → w.0 ≢ v.0) →
+    with_word v.0 v.1 (with_word w.0 w.1 (partial op k value)) ≡ with_word w.0 w.1
+    (with_word v.0 v.1 (partial op k value))
 word-word Min k None w v other = ap (holding Min k) (combined_of-comm Min Min≢First w.1 v.1)
 word-word Max k None w v other = ap (holding Max k) (combined_of-comm Max Max≢First w.1 v.1)
 word-word Sum k None w v other = ap (holding Sum k) (combined_of-comm Sum Sum≢First w.1 v.1)
@@ -160,10 +186,13 @@ word-word First k (Some x) w v other =
     ∙ sym (word-First (nearer u v) w)
     ∙ sym (ap (with_word w.0 w.1) (word-First u v))
 
-pub partial-partial : (p q r : Partial) → (p.op ≡ First → IsSome q.value → IsSome r.value → q.key ≢ r.key) → with_partial r (with_partial q p) ≡ with_partial q (with_partial r p)
+pub partial-partial : (p q r : Partial) → (p.op ≡ First → IsSome q.value → IsSome r.value → q.key ≢ r.key) →
+    with_partial r (with_partial q p) ≡ with_partial q (with_partial r p)
 partial-partial p q r other = from q.value r.value other
   where
-    from : (a b : Option ℤ) → (p.op ≡ First → IsSome a → IsSome b → q.key ≢ r.key) → with_partial (record r { value = b }) (with_partial (record q { value = a }) p) ≡ with_partial (record q { value = a }) (with_partial (record r { value = b }) p)
+    from : (a b : Option ℤ) → (p.op ≡ First → IsSome a → IsSome b → q.key ≢ r.key) →
+        with_partial (record r { value = b }) (with_partial (record q { value = a }) p) ≡ with_partial
+        (record q { value = a }) (with_partial (record r { value = b }) p)
     from None b h = refl
     from (Some x) None h = refl
     from (Some x) (Some y) h = word-word p.op p.key p.value (q.key, x) (r.key, y) (λ e. h e refl refl)

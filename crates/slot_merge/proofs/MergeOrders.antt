@@ -53,7 +53,8 @@ alike-flip x y ps = record {
   each = λ p h. (h.1.0, (h.0, h.1.1));
   kind = λ op h. (h.1.0, (h.0, h.1.1));
   all = λ h. ((turned x y h.0.0, h.1.0), (h.0.1, h.1.1));
-  merged = λ h p k. ap (with_partials ps) (partial-partial p y x (λ e hy hx same. h.0.0.keys (k.0 ∙ e) hx hy (sym same)));
+  merged = λ h p k. ap (with_partials ps)
+      (partial-partial p y x (λ e hy hx same. h.0.0.keys (k.0 ∙ e) hx hy (sym same)));
 }
 
 kept : IsKept Alike
@@ -68,5 +69,6 @@ kinds : (p : Partial) (qs : List Partial) → AllByRecursion (CanMerge p) qs →
 kinds p [] h = h
 kinds p (q ∷ qs) h = (h.0.op, kinds p qs h.1)
 
-pub merged_in_any_order : (p : Partial) (ps qs : List Partial) → CanAllMerge (p ∷ ps) → IsPermutation ps qs → with_partials qs p ≡ with_partials ps p
+pub merged_in_any_order : (p : Partial) (ps qs : List Partial) → CanAllMerge (p ∷ ps) → IsPermutation ps qs →
+    with_partials qs p ≡ with_partials ps p
 merged_in_any_order p ps qs can moved = (permutation-kept Alike kept ps qs moved).merged can.1 p (kinds p ps can.0)

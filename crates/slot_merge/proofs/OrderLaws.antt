@@ -33,18 +33,22 @@ pub placed-before : (w v : Keyed) (vs : List Keyed) → w.0 ≤ v.0 → placed w
 placed-before w v vs h = ap (λ b. cond b (w ∷ v ∷ vs) (v ∷ placed w vs)) (le-leb w.0 v.0 h)
 
 pub placed-behind : (w v : Keyed) (vs : List Keyed) → v.0 < w.0 → placed w (v ∷ vs) ≡ v ∷ placed w vs
-placed-behind w v vs h = ap (λ b. cond b (w ∷ v ∷ vs) (v ∷ placed w vs)) (false_from_ne_true (nat_le w.0 v.0) (λ e. omega (arith, leb-true w.0 v.0 e)))
+placed-behind w v vs h =
+    ap (λ b. cond b (w ∷ v ∷ vs) (v ∷ placed w vs))
+    (false_from_ne_true (nat_le w.0 v.0) (λ e. omega (arith, leb-true w.0 v.0 e)))
 
 -- it goes in front of the words under a key at or above its own
 placed-under : (m : ℕ) (w : Keyed) (ws : List Keyed) → w.0 ≤ m → placed w (under m ws) ≡ w ∷ under m ws
 placed-under m w [] h = refl
 placed-under m w (v ∷ vs) h = ⊎_elim
-    (λ e. ap (placed w) (under-here m v vs e) ∙ placed-before w v (under m vs) (omega arith) ∙ ap (λ l. w ∷ l) (sym (under-here m v vs e)))
+    (λ e. ap (placed w) (under-here m v vs e) ∙ placed-before w v (under m vs) (omega arith)
+    ∙ ap (λ l. w ∷ l) (sym (under-here m v vs e)))
     (λ n. ap (placed w) (under-other m v vs n) ∙ placed-under m w vs h ∙ ap (λ l. w ∷ l) (sym (under-other m v vs n)))
     (cases_eq v.0 m)
 
 -- it goes behind the words under a lesser key
-placed-past_under : (m : ℕ) (w : Keyed) (ws more : List Keyed) → m < w.0 → placed w (under m ws ++ more) ≡ under m ws ++ placed w more
+placed-past_under : (m : ℕ) (w : Keyed) (ws more : List Keyed) → m < w.0 →
+    placed w (under m ws ++ more) ≡ under m ws ++ placed w more
 placed-past_under m w [] more h = refl
 placed-past_under m w (v ∷ vs) more h = ⊎_elim
     (λ e.
@@ -52,10 +56,12 @@ placed-past_under m w (v ∷ vs) more h = ⊎_elim
     ∙ placed-behind w v (under m vs ++ more) (omega arith)
     ∙ ap (λ l. v ∷ l) (placed-past_under m w vs more h)
     ∙ ap (λ l. l ++ placed w more) (sym (under-here m v vs e)))
-    (λ n. ap (λ l. placed w (l ++ more)) (under-other m v vs n) ∙ placed-past_under m w vs more h ∙ ap (λ l. l ++ placed w more) (sym (under-other m v vs n)))
+    (λ n. ap (λ l. placed w (l ++ more)) (under-other m v vs n) ∙ placed-past_under m w vs more h
+    ∙ ap (λ l. l ++ placed w more) (sym (under-other m v vs n)))
     (cases_eq v.0 m)
 
-placed-past : (m : ℕ) (w : Keyed) (ws more : List Keyed) → m ≤ w.0 → placed w (in_order key_of m ws ++ more) ≡ in_order key_of m ws ++ placed w more
+placed-past : (m : ℕ) (w : Keyed) (ws more : List Keyed) → m ≤ w.0 →
+    placed w (in_order key_of m ws ++ more) ≡ in_order key_of m ws ++ placed w more
 placed-past zero w ws more h = refl
 placed-past (suc m) w ws more h =
     ap (placed w) (append_assoc (in_order key_of m ws) (under m ws) more)
@@ -64,7 +70,8 @@ placed-past (suc m) w ws more h =
     ∙ sym (append_assoc (in_order key_of m ws) (under m ws) (placed w more))
 
 -- further words under a key at or above its own stay behind it
-placed-more : (m : ℕ) (w : Keyed) (ls ws : List Keyed) → w.0 ≤ m → placed w ls ++ under m ws ≡ placed w (ls ++ under m ws)
+placed-more : (m : ℕ) (w : Keyed) (ls ws : List Keyed) → w.0 ≤ m →
+    placed w ls ++ under m ws ≡ placed w (ls ++ under m ws)
 placed-more m w [] ws h = sym (placed-under m w ws h)
 placed-more m w (v ∷ vs) ws h = ⊎_elim
     (λ lt.
@@ -80,7 +87,8 @@ in_order-skip (suc m) w ws h =
     ap (λ l. l ++ under m (w ∷ ws)) (in_order-skip m w ws (omega arith))
     ∙ ap (λ l. in_order key_of m ws ++ l) (under-other m w ws (λ e. omega arith))
 
-in_order-placed : (n : ℕ) (w : Keyed) (ws : List Keyed) → w.0 < n → in_order key_of n (w ∷ ws) ≡ placed w (in_order key_of n ws)
+in_order-placed : (n : ℕ) (w : Keyed) (ws : List Keyed) → w.0 < n →
+    in_order key_of n (w ∷ ws) ≡ placed w (in_order key_of n ws)
 in_order-placed zero w ws h = absurd (omega arith)
 in_order-placed (suc m) w ws h = ⊎_elim
     (λ e.

@@ -31,7 +31,9 @@ hold w = holding First w.0 w.1
 
 -- kinds without keys: the words are combined in any order
 
-placed-cases : (op : Combine) → op ≢ First → (w v : Keyed) (vs : List Keyed) (b : Bool) → combined op (words (placed w vs)) ≡ combined op (w.1 ∷ words vs) → combined op (words (cond b (w ∷ v ∷ vs) (v ∷ placed w vs))) ≡ combined op (w.1 ∷ v.1 ∷ words vs)
+placed-cases : (op : Combine) → op ≢ First → (w v : Keyed) (vs : List Keyed) (b : Bool) →
+    combined op (words (placed w vs)) ≡ combined op (w.1 ∷ words vs) →
+    combined op (words (cond b (w ∷ v ∷ vs) (v ∷ placed w vs))) ≡ combined op (w.1 ∷ v.1 ∷ words vs)
 placed-cases op other w v vs true h = refl
 placed-cases op other w v vs false h =
     combined-cons op v.1 (words (placed w vs))
@@ -40,11 +42,13 @@ placed-cases op other w v vs false h =
     ∙ ap (joined op w.1) (sym (combined-cons op v.1 (words vs)))
     ∙ sym (combined-cons op w.1 (v.1 ∷ words vs))
 
-combined-placed : (op : Combine) → op ≢ First → (w : Keyed) (ws : List Keyed) → combined op (words (placed w ws)) ≡ combined op (w.1 ∷ words ws)
+combined-placed : (op : Combine) → op ≢ First → (w : Keyed) (ws : List Keyed) →
+    combined op (words (placed w ws)) ≡ combined op (w.1 ∷ words ws)
 combined-placed op other w [] = refl
 combined-placed op other w (v ∷ vs) = placed-cases op other w v vs (nat_le w.0 v.0) (combined-placed op other w vs)
 
-combined-by_key : (op : Combine) → op ≢ First → (ws : List Keyed) → combined op (words (by_key ws)) ≡ combined op (words ws)
+combined-by_key : (op : Combine) → op ≢ First → (ws : List Keyed) →
+    combined op (words (by_key ws)) ≡ combined op (words ws)
 combined-by_key op other [] = refl
 combined-by_key op other (w ∷ ws) =
     combined-placed op other w (by_key ws)
@@ -52,7 +56,8 @@ combined-by_key op other (w ∷ ws) =
     ∙ ap (joined op w.1) (combined-by_key op other ws)
     ∙ sym (combined-cons op w.1 (words ws))
 
-value_after : (op : Combine) → op ≢ First → (key : ℕ) (y : ℤ) (ws : List Keyed) → (with_words ws (holding op key y)).value ≡ Some (fold (combined_of op) y (words ws))
+value_after : (op : Combine) → op ≢ First → (key : ℕ) (y : ℤ) (ws : List Keyed) →
+    (with_words ws (holding op key y)).value ≡ Some (fold (combined_of op) y (words ws))
 value_after op other key y [] = refl
 value_after Min other key y (w ∷ ws) = value_after Min other key (combined_of Min y w.1) ws
 value_after Max other key y (w ∷ ws) = value_after Max other key (combined_of Max y w.1) ws
@@ -109,7 +114,8 @@ front-before : (w v : Keyed) (vs : List Keyed) → w.0 ≤ v.0 → front w (v �
 front-before w v vs h = ap (λ b. cond b w v) (le-leb w.0 v.0 h)
 
 front-behind : (w v : Keyed) (vs : List Keyed) → v.0 < w.0 → front w (v ∷ vs) ≡ v
-front-behind w v vs h = ap (λ b. cond b w v) (false_from_ne_true (nat_le w.0 v.0) (λ e. omega (arith, leb-true w.0 v.0 e)))
+front-behind w v vs h =
+    ap (λ b. cond b w v) (false_from_ne_true (nat_le w.0 v.0) (λ e. omega (arith, leb-true w.0 v.0 e)))
 
 front-nearer : (w v : Keyed) (ws : List Keyed) → front (nearer w v) ws ≡ front w (placed v ws)
 front-nearer w v [] = ⊎_elim
@@ -119,14 +125,16 @@ front-nearer w v [] = ⊎_elim
 front-nearer w v (u ∷ us) = ⊎_elim
     (λ up.
     ⊎_elim
-    (λ h. ap (λ x. front x (u ∷ us)) (nearer-next w v h) ∙ front-behind v u us up ∙ sym (front-behind w u (placed v us) (omega arith)))
+    (λ h. ap (λ x. front x (u ∷ us)) (nearer-next w v h) ∙ front-behind v u us up
+    ∙ sym (front-behind w u (placed v us) (omega arith)))
     (λ h. ap (λ x. front x (u ∷ us)) (nearer-same w v h))
     (cases_lt v.0 w.0)
     ∙ ap (front w) (sym (placed-behind v u us up)))
     (λ down.
     ⊎_elim
     (λ h. ap (λ x. front x (u ∷ us)) (nearer-next w v h) ∙ front-before v u us down ∙ sym (front-behind w v (u ∷ us) h))
-    (λ h. ap (λ x. front x (u ∷ us)) (nearer-same w v h) ∙ front-before w u us (omega arith) ∙ sym (front-before w v (u ∷ us) h))
+    (λ h. ap (λ x. front x (u ∷ us)) (nearer-same w v h) ∙ front-before w u us (omega arith)
+    ∙ sym (front-before w v (u ∷ us) h))
     (cases_lt v.0 w.0)
     ∙ ap (front w) (sym (placed-before v u us down)))
     (cases_lt u.0 v.0)
@@ -139,7 +147,8 @@ fold-First : (x : ℤ) (xs : List ℤ) → fold (combined_of First) x xs ≡ x
 fold-First x [] = refl
 fold-First x (y ∷ ys) = fold-First x ys
 
-front-cases : (w v : Keyed) (vs : List Keyed) (b : Bool) → combined First (words (cond b (w ∷ v ∷ vs) (v ∷ placed w vs))) ≡ Some (cond b w v).1
+front-cases : (w v : Keyed) (vs : List Keyed) (b : Bool) →
+    combined First (words (cond b (w ∷ v ∷ vs) (v ∷ placed w vs))) ≡ Some (cond b w v).1
 front-cases w v vs true = ap (λ x. Some x) (fold-First w.1 (words (v ∷ vs)))
 front-cases w v vs false = ap (λ x. Some x) (fold-First v.1 (words (placed w vs)))
 
@@ -149,7 +158,8 @@ combined-front w (v ∷ vs) = front-cases w v vs (nat_le w.0 v.0)
 
 -- a partial has the value of its words by key and then by turn
 
-added_without_keys : (op : Combine) → op ≢ First → (key : ℕ) (w : Keyed) (ws : List Keyed) → (with_words ws (holding op key w.1)).value ≡ combined op (ordered (w ∷ ws))
+added_without_keys : (op : Combine) → op ≢ First → (key : ℕ) (w : Keyed) (ws : List Keyed) →
+    (with_words ws (holding op key w.1)).value ≡ combined op (ordered (w ∷ ws))
 added_without_keys op other key w ws =
     value_after op other key w.1 ws
     ∙ sym (combined-by_key op other (w ∷ ws))

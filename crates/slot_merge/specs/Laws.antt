@@ -17,7 +17,8 @@ AddedInAnyOrder = (op : Combine) (ws : List (ℕ × ℤ)) → (partial_of op ws)
 
 -- a partial merged into another has the words of both
 abbrev pub MergedIsJoined : Type 0
-MergedIsJoined = (op : Combine) (ws more : List (ℕ × ℤ)) → with_partial (partial_of op more) (partial_of op ws) ≡ partial_of op (ws ++ more)
+MergedIsJoined = (op : Combine) (ws more : List (ℕ × ℤ)) →
+    with_partial (partial_of op more) (partial_of op ws) ≡ partial_of op (ws ++ more)
 
 -- of two partials either one may be merged into the other
 abbrev pub MergedEitherWay : Type 0
@@ -28,4 +29,5 @@ MergedEitherWay =
 
 -- merging a list of partials gives one result for each order of the list
 abbrev pub MergedInAnyOrder : Type 0
-MergedInAnyOrder = (p : Partial) (ps qs : List Partial) → CanAllMerge (p ∷ ps) → IsPermutation ps qs → with_partials qs p ≡ with_partials ps p
+MergedInAnyOrder = (p : Partial) (ps qs : List Partial) → CanAllMerge (p ∷ ps) → IsPermutation ps qs →
+    with_partials qs p ≡ with_partials ps p

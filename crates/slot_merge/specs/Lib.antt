@@ -1,4 +1,5 @@
 pub mod Combine
+pub mod Filled
 pub mod Laws
 pub mod Mergeable
 pub mod Partials

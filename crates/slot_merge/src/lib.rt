@@ -4,5 +4,5 @@
 mod laws;
 mod partial;
 
-pub use laws::merging;
+pub use laws::{filling, merging};
 pub use partial::{Emits, Partial};

@@ -16,11 +16,11 @@ row_view names n end_of-Stmt = refl
 row_view names n (more_of-Stmt s rest) = ap (More (view_statement names s)) (row_view names _ rest)
 
 -- the rows of an `if`
-abbrev held_of : Stmt → (n : Count) × Row_of-Stmt n
+abbrev pub held_of : Stmt → (n : Count) × Row_of-Stmt n
 held_of (If' s test m held otherwise) = (_, held)
 held_of _ = (_, end_of-Stmt)
 
-abbrev otherwise_of : Stmt → (n : Count) × Row_of-Stmt n
+abbrev pub otherwise_of : Stmt → (n : Count) × Row_of-Stmt n
 otherwise_of (If' s test m held (Some' k row)) = (_, row)
 otherwise_of _ = (_, end_of-Stmt)
 

@@ -9,7 +9,9 @@ use Rattle.carry_analysis.proofs.classes.classes_of.Goals as goal
 
 pub loop-i-preserved : goal.loop-i-preserved
 loop-i-preserved c =
-    let wide : length c.walk_body.new.walk.lets ≡ 8 = ap (λ s. length s.lets) c.walk_body.ensures ∙ after-length (sight (replicate 8 Nowhere) false) (body_marks c.deref.result.now) in
+    let wide : length c.walk_body.new.walk.lets ≡ 8 =
+    ap (λ s. length s.lets) c.walk_body.ensures
+    ∙ after-length (sight (replicate 8 Nowhere) false) (body_marks c.deref.result.now) in
     c.push.ensures.items
     ∙ ap (λ x. c.loop-i.locals.items ++ x ∷ []) c.class_seen.ensures
     ∙ ap (λ l. l ++ class_seen (get_or c.walk_body.new.walk.lets c.loop-i.i Nowhere) ∷ []) c.loop-i.invariant
@@ -22,7 +24,8 @@ returns-clause-locals c =
     c.loop-i.invariant
     ∙ ap (λ n. map class_seen (take n c.walk_body.new.walk.lets)) count
     ∙ ap (λ s. map class_seen (take (length ds) s.lets)) c.walk_body.ensures
-    ∙ ap (λ l. map class_seen (take (length ds) (walk_after (sight (replicate 8 Nowhere) false) (body_marks l)).lets)) c.deref.ensures.value
+    ∙ ap (λ l. map class_seen (take (length ds) (walk_after (sight (replicate 8 Nowhere) false) (body_marks l)).lets))
+    c.deref.ensures.value
     ∙ classes_are ds (body_marks c.args.dense.now.body.items) c.requires.few
 
 pub returns-clause-breaks : goal.returns-clause-breaks

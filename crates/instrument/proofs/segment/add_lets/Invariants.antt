@@ -12,6 +12,7 @@ invariant-loop-decl l = record {
   lets : with_lets (drop l.decl-index l.lets) l.env ≡ with_lets l.lets l.initial.env;
   names : lets_placed (counts_of l.env) (drop l.decl-index l.lets) ≡ true;
   draws : CanDraw l.env;
-  counts : counts_of l.env ≡ record (counts_of l.initial.env) { locals = length l.initial.env.locals.items + l.decl-index };
+  counts : counts_of l.env ≡ record
+      (counts_of l.initial.env) { locals = length l.initial.env.locals.items + l.decl-index };
   words : All (FitsSigned w64) l.env.locals.items;
 }

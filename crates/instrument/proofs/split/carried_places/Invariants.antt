@@ -6,6 +6,7 @@ use Rattle.instrument.proofs.split.carried_places.Given as goal
 -- the places so far and those of what is left are those of all
 abbrev pub invariant-loop-i : goal.invariant-loop-i
 invariant-loop-i l = record {
-  all : l.places.items ++ places_where is_carried l.i (drop l.i l.class-items) ≡ places_where is_carried 0 l.class-items;
+  all : l.places.items ++ places_where is_carried l.i
+      (drop l.i l.class-items) ≡ places_where is_carried 0 l.class-items;
   few : length l.places.items ≤ l.i;
 }

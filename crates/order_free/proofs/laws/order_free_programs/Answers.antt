@@ -12,4 +12,5 @@ pub returns-clause-runs : goal.returns-clause-runs
 returns-clause-runs c = λ job typed free. c.order_free_runs.ensures.runs job (free_is_order_free job.program typed free)
 
 pub returns-clause-resumes : goal.returns-clause-resumes
-returns-clause-resumes c = λ job typed free. c.order_free_runs.ensures.resumes job (free_is_order_free job.program typed free)
+returns-clause-resumes c =
+    λ job typed free. c.order_free_runs.ensures.resumes job (free_is_order_free job.program typed free)

@@ -18,7 +18,8 @@ returns-clause-counts c =
     let lets_env = c.begin_lets.new.env in
     let classes = c.args.self.now.classes.locals.items in
     let many : length c.begin_words-env.result.items ≡ length classes =
-    c.begin_words-env.ensures.count ∙ ap length c.as_slice-2.ensures.value ∙ ap (λ k. k.locals) c.begin_lets.ensures.counts
+    c.begin_words-env.ensures.count ∙ ap length c.as_slice-2.ensures.value
+    ∙ ap (λ k. k.locals) c.begin_lets.ensures.counts
     ∙ sym (each_class c.args.self.now c.args.program.now.program.dense c.requires.split) in
     ap (λ n. let k : Counts = record (counts_of lets_env) { locals = n } in k) many
     ∙ ap (λ k. let l : Counts = record k { locals = length classes } in l) c.begin_lets.ensures.counts
