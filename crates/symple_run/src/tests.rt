@@ -83,7 +83,13 @@ fn graph(alloc: Global, name: &str) -> Result<Vec<u8>, AllocError> {
 }
 
 /// A shelf with a program under `p` whose call 1 stores a graph under `g`, and that fails at these calls.
-fn shelf(rt: &impl Abort, alloc: Global, text: &str, graph: &[u8], fails: Vec<u64>) -> Result<MemShelf, Fail> {
+fn shelf(
+    rt: &impl Abort,
+    alloc: Global,
+    text: &str,
+    graph: &[u8],
+    fails: Vec<u64>,
+) -> Result<MemShelf, Fail> {
     let bytes = Vec::from_slice(alloc, text.as_bytes())?;
     let file = (String::from_str(alloc, "p")?, bytes);
     let mut shelf = MemShelf::new(alloc, vec![in alloc; file]?, fails);
@@ -240,7 +246,9 @@ fn check_puts(rt: &impl Abort, alloc: Global, line: &str) -> Result<(), Fail> {
     let mut input = MemSource::new(Vec::new(alloc), Vec::new(alloc));
     let mut whole = DripSink::new(alloc, 4000)?;
     let mut notes = FirmSink::new(alloc, 100)?;
-    let status = symple(alloc, &words, &mut shelf, &mut input, &mut whole, &mut notes);
+    let status = symple(
+        alloc, &words, &mut shelf, &mut input, &mut whole, &mut notes,
+    );
     assert_eq!(rt; status, Status::Done);
     for put in 1..1000 {
         let fails = vec![in alloc; put]?;
@@ -251,7 +259,7 @@ fn check_puts(rt: &impl Abort, alloc: Global, line: &str) -> Result<(), Fail> {
         }
         assert_eq!(rt; outcome.status, Status::WriteFault);
         assert!(rt; whole.bytes().starts_with(outcome.printed.bytes()));
-        assert_eq!(rt; outcome.noted.bytes(), b"symple: cannot write\n");
+        assert_eq!(rt; outcome.noted.bytes(), b"symple: cannot write\n".as_slice());
     }
     assert!(rt; false, "{line}");
     Ok(())
@@ -260,7 +268,13 @@ fn check_puts(rt: &impl Abort, alloc: Global, line: &str) -> Result<(), Fail> {
 /// A note that fails leaves the status as it is.
 fn check_note(rt: &impl Abort, alloc: Global) -> Result<(), Fail> {
     let mut shelf = shelf(rt, alloc, "", b"", Vec::new(alloc))?;
-    let outcome = performed(alloc, "fly", &mut shelf, Vec::new(alloc), vec![in alloc; 1]?)?;
+    let outcome = performed(
+        alloc,
+        "fly",
+        &mut shelf,
+        Vec::new(alloc),
+        vec![in alloc; 1]?,
+    )?;
     assert_eq!(rt; outcome.status, Status::Usage);
     assert_eq!(rt; outcome.noted.bytes().len(), 0);
     Ok(())

@@ -26,7 +26,7 @@ returns-in-Err-Failed-clause-graph g c =
     let old = shelf_state g.H.Shelf.files g.H.Shelf.loads g.H.Shelf.stores c.args.shelf.now in
     let new = shelf_state g.H.Shelf.files g.H.Shelf.loads g.H.Shelf.stores c.load.new.self in
     NoFile (has_failed old new c.load.ensures.same_files c.load.ensures.same_stores c.args.name.now 268435456 too_long_graph _ c.in_ok-unread.ensures.ok
-      (c.load.ensures.failed (c.in-Err-Failed.is ∙ ap Err c.in-Err-Failed.field-0-is)))
+    (c.load.ensures.failed (c.in-Err-Failed.is ∙ ap Err c.in-Err-Failed.field-0-is)))
 
 pub returns-in-Err-Missing-clause-graph : goal.returns-in-Err-Missing-clause-graph
 returns-in-Err-Missing-clause-graph g c =
@@ -34,7 +34,7 @@ returns-in-Err-Missing-clause-graph g c =
     let new = shelf_state g.H.Shelf.files g.H.Shelf.loads g.H.Shelf.stores c.load.new.self in
     let is = c.in-Err-Missing.is ∙ ap Err c.in-Err-Missing.field-0-is in
     NoFile (is_missing old new c.load.ensures.same_files c.load.ensures.same_stores c.args.name.now 268435456 too_long_graph _ c.in_ok-unread.ensures.ok
-      (c.load.ensures.missing is) (c.load.ensures.untold_missing is))
+    (c.load.ensures.missing is) (c.load.ensures.untold_missing is))
 
 pub returns-in-Ok-read_graph-clause-graph : goal.returns-in-Ok-read_graph-clause-graph
 returns-in-Ok-read_graph-clause-graph g c =

@@ -20,4 +20,4 @@ returns-clause-order g c =
     let new = sink_state g.O.Sink.held g.O.Sink.faults g.O.Sink.spare c.put_shown.new.out in
     let P : Typed → Type 0 = λ typed. Plays (shown typed.program) old new c.put_shown.result in
     λ input. program_goes IsSourceRun _ _ c.args.name.now c.in_ok-typed.typed c.in_ok-typed.ensures.program (λ program. Puts (shown program) Ends) old input _ _
-      (put_ends IsSourceRun (shown c.in_ok-typed.typed.program) old new c.put_shown.result (subst P c.split_of.ensures c.put_shown.ensures) _ input)
+    (put_ends IsSourceRun (shown c.in_ok-typed.typed.program) old new c.put_shown.result (subst P c.split_of.ensures c.put_shown.ensures) _ input)

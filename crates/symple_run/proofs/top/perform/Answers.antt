@@ -13,7 +13,7 @@ pub returns-in-PlanLine-clause-order : goal.returns-in-PlanLine-clause-order
 returns-in-PlanLine-clause-order g c =
     let here = c.in-PlanLine in
     λ input. as_order IsSourceRun _ _ _ _ _
-      (ap (λ (name : List ℕ). plan_order name here.form here.machines) c.deref.ensures ∙ ap (λ (line : Line). asked (line_view line)) (sym here.is)) (c.plan.ensures.order input)
+    (ap (λ (name : List ℕ). plan_order name here.form here.machines) c.deref.ensures ∙ ap (λ (line : Line). asked (line_view line)) (sym here.is)) (c.plan.ensures.order input)
 
 pub returns-in-ShowLine-clause-order : goal.returns-in-ShowLine-clause-order
 returns-in-ShowLine-clause-order g c =

@@ -18,4 +18,4 @@ returns-clause-order g c =
     let after = sink_state g.O.Sink.held g.O.Sink.faults g.O.Sink.spare c.lay_out.new.out in
     let graph = graph_of_edges c.in_ok-edges.edges in
     λ input. graph_goes IsSourceRun _ _ c.args.form.now c.args.name.now graph c.in_ok-edges.ensures.graph (λ graph. Puts (plan_text c.args.machines graph) Ends) out input _ _
-      (put_ends IsSourceRun (plan_text c.args.machines graph) out after c.lay_out.result c.lay_out.ensures _ input)
+    (put_ends IsSourceRun (plan_text c.args.machines graph) out after c.lay_out.result c.lay_out.ensures _ input)
