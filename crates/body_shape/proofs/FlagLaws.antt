@@ -156,7 +156,7 @@ flags_again (suc n) flags room =
 
 -- ---- falses behind flags change no byte
 
-zero_mask : (m k : ℕ) → mask_l (take m (replicate k false)) ≡ 0
+pub zero_mask : (m k : ℕ) → mask_l (take m (replicate k false)) ≡ 0
 zero_mask zero k = refl
 zero_mask (suc m) zero = refl
 zero_mask (suc m) (suc k) = omega (arith, zero_mask m k)
@@ -166,7 +166,7 @@ same_mask zero k flags = refl
 same_mask (suc m) k [] = zero_mask (suc m) k
 same_mask (suc m) k (flag ∷ flags) = ap (λ n. cond flag 1 0 + 2 * n) (same_mask m k flags)
 
-drop_falses : (m k : ℕ) → (j : ℕ) × (drop m (replicate k false) ≡ replicate j false)
+pub drop_falses : (m k : ℕ) → (j : ℕ) × (drop m (replicate k false) ≡ replicate j false)
 drop_falses zero k = (k, refl)
 drop_falses (suc m) zero = (0, refl)
 drop_falses (suc m) (suc k) = drop_falses m k

@@ -72,7 +72,7 @@ refresh_missing count width bools =
 
 -- ---- update
 
-no_values : (n : ℕ) → values_in n 0 [] ≡ replicate n None
+pub no_values : (n : ℕ) → values_in n 0 [] ≡ replicate n None
 no_values zero = refl
 no_values (suc n) = ap (λ xs. None ∷ xs) (no_values n)
 
@@ -80,7 +80,7 @@ no_mask : (n : ℕ) → mask_of {X = ℤ} (replicate n None) ≡ 0
 no_mask zero = refl
 no_mask (suc n) = omega (arith, no_mask n)
 
-none_there : {X : Type 0} (n : ℕ) → there {X = X} (replicate n None) ≡ []
+pub none_there : {X : Type 0} (n : ℕ) → there {X = X} (replicate n None) ≡ []
 none_there zero = refl
 none_there (suc n) = none_there n
 

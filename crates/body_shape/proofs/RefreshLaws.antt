@@ -4,7 +4,8 @@ use Rattle.std.specs.Int.{w64}
 use Rattle.std.specs.Int.RustNames.{FitsSigned}
 use Rattle.std.specs.List.{AllByRecursion, list_all}
 use Rattle.std.proofs.lemmas.Bool.{and_parts, and_from, eqb-true, eq-eqb, ltb-true}
-use Rattle.std.proofs.lemmas.List.{length-append, length-map}
+use Rattle.std.proofs.lemmas.List.{length-append, length-map, map-append}
+use Rattle.std.proofs.lemmas.List.Concat.{flat_map-append}
 use Rattle.dep_layout.specs.Spelling.{is_bool, suits, are_typed}
 use Rattle.dep_layout.specs.Judgement.{words_in, rows_in}
 use Rattle.dep_layout.proofs.StateLaws.{past_row}
@@ -12,7 +13,7 @@ use borrow.Author.Rules.{sfits_of}
 use Rattle.vert_base.specs.declared.value.ValueType.TheVariants as kind
 use Rattle.dep_layout.proofs.SpellingLaws.{below_from_All}
 use Rattle.body_shape.specs.Shapes.{bool_bits}
-use Rattle.body_shape.specs.Refresh.{IsWords, HasFields, rows_bytes, PlainRow, word_of_bool, bool_of_word, row_words, refresh_body, flag_at, row_of, IsRow, is_flagged, RefreshReadsBack, RefreshInPlace, FormIsFlagged, RefreshFits, RefreshSuits, RefreshIsSpelled}
+use Rattle.body_shape.specs.Refresh.{IsWords, HasFields, words_bytes, rows_bytes, PlainRow, word_of_bool, bool_of_word, row_words, refresh_body, flag_at, row_of, IsRow, is_flagged, RefreshReadsBack, RefreshInPlace, RefreshGrows, FormIsFlagged, RefreshFits, RefreshSuits, RefreshIsSpelled}
 use Rattle.body_shape.proofs.RowLaws.{rows_whole, length-rows_bytes, bytes_whole, length-rows_in, each-rows_in}
 
 bool_again : (b : Bool) → bool_of_word (word_of_bool b) ≡ b
@@ -140,6 +141,10 @@ refresh_in_place (suc count) width zero body d within =
 refresh_in_place (suc count) width (suc i) body d within =
     refresh_in_place count width i (drop (8 * suc width) body) d (omega arith)
     ∙ ap (λ bytes. row_of width (words_in (suc width) bytes)) (sym (past_row (suc width) i body))
+
+pub refresh_grows : RefreshGrows
+refresh_grows rows more =
+    ap rows_bytes (map-append row_words rows more) ∙ flat_map-append words_bytes (map row_words rows) (map row_words more)
 
 pub refresh_fits : RefreshFits
 refresh_fits count width bools rows suit =

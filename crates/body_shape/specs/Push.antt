@@ -1,9 +1,9 @@
 -- Pushes, as bytes and back.
-use Rattle.std.specs.Prelude.{◌≡◌, ℕ, zero, suc, ℤ, Bool, true, false, Option, List, [], ◌∷◌, ◌++◌, length, take, drop}
+use Rattle.std.specs.Prelude.{◌≡◌, ℕ, zero, suc, ◌*◌, ◌<◌, ℤ, Bool, true, false, Option, Some, None, if◌then◌else◌, List, [], ◌∷◌, ◌++◌, length, get_or, slice_set, take, drop}
 use Rattle.std.specs.List.{AllByRecursion, flat_map, list_all}
 use Rattle.std.specs.Simd.Lanes.{mask_l}
 use Rattle.dep_layout.specs.Spelling.{are_typed}
-use Rattle.dep_layout.specs.Judgement.{rows_in}
+use Rattle.dep_layout.specs.Judgement.{rows_in, words_in}
 use Rattle.dep_layout.specs.Laws.{AreBytes}
 use Rattle.body_shape.specs.declared.shape.BodyShape.TheVariants.{Push}
 use Rattle.body_shape.specs.Fit.{bit_len, is_fit}
@@ -40,6 +40,10 @@ senders count body = padded count (flags_in (take (bit_len count) body))
 abbrev pub sends_read : ℕ → ℕ → List ℕ → List (Option (List ℤ))
 sends_read words count body = placed (senders count body) (rows_in words (set_count (senders count body)) (drop (bit_len count) body))
 
+-- the words of the sender behind so many senders
+abbrev pub send_at : ℕ → ℕ → ℕ → List ℕ → List ℤ
+send_at words count earlier body = words_in words (drop (8 * words * earlier) (drop (bit_len count) body))
+
 -- a place for each vertex, and so many words where it sends, of which these are Bools
 pub record SuitsPush (vertices width bools : ℕ) (sends : List (Option (List ℤ))) : Type 0 where
   pub count : length sends ≡ vertices
@@ -49,6 +53,17 @@ pub record SuitsPush (vertices width bools : ℕ) (sends : List (Option (List �
 -- sends are read from what is spelled of them
 abbrev pub PushReadsBack : Type 0
 PushReadsBack = (count words : ℕ) (sends : List (Option (List ℤ))) → length sends ≡ count → AllByRecursion (IsWords words) (there sends) → sends_read words count (push_body sends) ≡ sends
+
+-- by these bytes neither a vertex nor a later one sends, and by those the vertex sends these words
+abbrev pub AddsSend : List ℕ → ℕ → List ℤ → List ℕ → Type 0
+AddsSend old vertex words new = (sends : List (Option (List ℤ))) → old ≡ push_body sends → vertex < length sends → there (drop vertex sends) ≡ [] →
+    new ≡ push_body (slice_set sends vertex (Some words))
+
+-- a vertex in its place: what it sends stands behind what the earlier senders send
+abbrev pub PushInPlace : Type 0
+PushInPlace = (count words i : ℕ) (body : List ℕ) → i < count →
+    get_or (sends_read words count body) i None
+    ≡ (if get_or (senders count body) i false then Some (send_at words count (set_count (take i (senders count body))) body) else None)
 
 -- what is spelled of sends that suit a shape fits it
 abbrev pub PushFits : Type 0

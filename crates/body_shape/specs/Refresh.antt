@@ -7,6 +7,7 @@ use Rattle.dep_layout.specs.Spelling.{word_bytes, are_typed}
 use Rattle.dep_layout.specs.Judgement.{words_in, rows_in}
 use Rattle.dep_layout.specs.Laws.{AreBytes}
 use Rattle.body_shape.specs.declared.shape.BodyShape.TheVariants.{Refresh}
+use Rattle.vert_base.specs.declared.value.Row.{Row}
 use Rattle.vert_base.specs.declared.value.ValueType.{ValueType}
 use Rattle.vert_base.specs.declared.value.ValueType.TheVariants as kind
 use Rattle.body_shape.specs.Shapes.{bool_bits}
@@ -40,6 +41,9 @@ bool_of_word (negsuc n) = true
 abbrev pub row_words : PlainRow → List ℤ
 row_words row = row.fields ++ word_of_bool row.active ∷ []
 
+abbrev pub row_bytes : PlainRow → List ℕ
+row_bytes row = words_bytes (row_words row)
+
 abbrev pub refresh_body : List PlainRow → List ℕ
 refresh_body rows = rows_bytes (map row_words rows)
 
@@ -51,6 +55,14 @@ flag_at (suc width) (word ∷ words) = flag_at width words
 
 abbrev pub row_of : ℕ → List ℤ → PlainRow
 row_of width words = record { fields = take width words; active = flag_at width words }
+
+-- the row at a place
+abbrev pub row_at : ℕ → ℕ → List ℕ → PlainRow
+row_at width place body = row_of width (words_in (suc width) (drop (8 * suc width * place) body))
+
+-- a row of a program as plain data
+abbrev pub plain_row : Row → PlainRow
+plain_row row = record { fields = row.words.items; active = row.active }
 
 -- so many rows, each of so many fields and the flag
 abbrev pub rows_read : ℕ → ℕ → List ℕ → List PlainRow
@@ -79,7 +91,11 @@ RefreshReadsBack = (count width : ℕ) (rows : List PlainRow) → length rows �
 -- a row in its place
 abbrev pub RefreshInPlace : Type 0
 RefreshInPlace = (count width i : ℕ) (body : List ℕ) (d : PlainRow) → i < count →
-    get_or (rows_read width count body) i d ≡ row_of width (words_in (suc width) (drop (8 * suc width * i) body))
+    get_or (rows_read width count body) i d ≡ row_at width i body
+
+-- rows behind others are spelled behind them
+abbrev pub RefreshGrows : Type 0
+RefreshGrows = (rows more : List PlainRow) → refresh_body (rows ++ more) ≡ refresh_body rows ++ refresh_body more
 
 -- what is spelled of rows that suit a shape fits it
 abbrev pub RefreshFits : Type 0

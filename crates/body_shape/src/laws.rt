@@ -1,7 +1,7 @@
 ghost use Rattle.body_shape.specs.Bytes.{FewPlaces, PushExample, PushIsBytes, RefreshIsBytes, TallyIsBytes, UpdateExample, UpdateIsBytes, VerdictIsBytes};
 ghost use Rattle.body_shape.specs.Missing.{PushMissing, RefreshMissing, TallyMissing, UpdateMissing, VerdictMissing};
-ghost use Rattle.body_shape.specs.Push.{PushFits, PushIsSpelled, PushReadsBack, PushSuits};
-ghost use Rattle.body_shape.specs.Refresh.{FormIsFlagged, RefreshFits, RefreshInPlace, RefreshIsSpelled, RefreshReadsBack, RefreshSuits};
+ghost use Rattle.body_shape.specs.Push.{PushFits, PushInPlace, PushIsSpelled, PushReadsBack, PushSuits};
+ghost use Rattle.body_shape.specs.Refresh.{FormIsFlagged, RefreshFits, RefreshGrows, RefreshInPlace, RefreshIsSpelled, RefreshReadsBack, RefreshSuits};
 ghost use Rattle.body_shape.specs.Tally.{TallyFits, TallyIsSpelled, TallyReadsBack, TallySuits};
 ghost use Rattle.body_shape.specs.Update.{UpdateFits, UpdateIsSpelled, UpdateReadsBack, UpdateSuits};
 ghost use Rattle.body_shape.specs.Verdict.{VerdictFits, VerdictIsSpelled, VerdictReadsBack, VerdictSuits};
@@ -10,6 +10,7 @@ ghost use Rattle.body_shape.specs.Verdict.{VerdictFits, VerdictIsSpelled, Verdic
 pub fn refresh_reads_back()
     ensures back { RefreshReadsBack }
     ensures placed { RefreshInPlace }
+    ensures grows { RefreshGrows }
     ensures flagged { FormIsFlagged }
     ensures fits { RefreshFits }
     ensures suits { RefreshSuits }
@@ -27,6 +28,7 @@ pub fn update_reads_back()
 /// The laws of pushes, which its clauses say. It does nothing.
 pub fn push_reads_back()
     ensures back { PushReadsBack }
+    ensures placed { PushInPlace }
     ensures fits { PushFits }
     ensures suits { PushSuits }
     ensures spelled { PushIsSpelled }

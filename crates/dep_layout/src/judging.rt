@@ -33,7 +33,7 @@ pub(crate) fn fault_of(body: &[u8], vertices: u32, width: usize, bools: u8) -> O
     if words.len() != 8 * width * vertices {
         return Some(DepFault::Length);
     }
-    if !are_typed(words, vertices, width, bools) {
+    if !are_typed(words, vertices, width, u32::from(bools)) {
         return Some(DepFault::NotBool);
     }
     None

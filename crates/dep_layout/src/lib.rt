@@ -18,3 +18,4 @@ pub use laws::one_spelling;
 pub use packing::pack;
 pub use reading::unpack;
 pub use state::{DepState, Mark, Words};
+pub use words::are_typed;

@@ -1,9 +1,9 @@
-/// Writes the words of a state at the end of bytes, eight bytes each and the low ones first, whatever their number.
+/// Writes words at the end of bytes, eight bytes each and the low ones first, whatever their number.
 /// Stands in the body of a function that passes want of memory on.
 #[macro_export]
 macro_rules! lay_words {
     ($bytes:expr, $words:expr) => {
-        for word in &$words.at {
+        for word in $words {
             $bytes.extend_from_slice(&word.to_le_bytes())?;
         }
     };

@@ -5,20 +5,11 @@ ghost use Rattle.dep_layout.specs.States.{state_of, states_of};
 use crate::marks::{mark_byte, mark_len};
 use crate::state::{DepState, Mark};
 use crate::words::push_words;
-use std::alloc::{AllocError, Global};
+use std::alloc::Global;
 use vert_base::Want;
 
 /// The spelling of ring states.
 pub fn pack<const W: usize>(alloc: Global, states: &[DepState<W>]) -> Result<Vec<u8>, Want>
-    ensures { IfOk result (λ bytes. bytes.items ≡ spelled (states_of states.now)) }
-{
-    match spelling(alloc, states) {
-        Ok(bytes) => Ok(bytes),
-        Err(_) => Err(Want),
-    }
-}
-
-fn spelling<const W: usize>(alloc: Global, states: &[DepState<W>]) -> Result<Vec<u8>, AllocError>
     ensures { IfOk result (λ bytes. bytes.items ≡ spelled (states_of states.now)) }
 {
     let mut bytes = marks_of(alloc, states)?;
@@ -29,7 +20,7 @@ fn spelling<const W: usize>(alloc: Global, states: &[DepState<W>]) -> Result<Vec
 }
 
 // Writes what is sent of a vertex at the end of bytes: its words, where it is started.
-fn push_sent<const W: usize>(bytes: &mut Vec<u8>, state: &DepState<W>) -> Result<(), AllocError>
+fn push_sent<const W: usize>(bytes: &mut Vec<u8>, state: &DepState<W>) -> Result<(), Want>
     ensures { OnOk result (bytes.new.items ≡ bytes.old.items ++ sent_bytes (state_of state.now)) }
 {
     match state.mark {
@@ -39,7 +30,7 @@ fn push_sent<const W: usize>(bytes: &mut Vec<u8>, state: &DepState<W>) -> Result
 }
 
 // The bytes of the marks.
-fn marks_of<const W: usize>(alloc: Global, states: &[DepState<W>]) -> Result<Vec<u8>, AllocError>
+fn marks_of<const W: usize>(alloc: Global, states: &[DepState<W>]) -> Result<Vec<u8>, Want>
     ensures { IfOk result (λ bytes. bytes.items ≡ mark_bytes (map mark_of (states_of states.now))) }
 {
     let mut bytes = Vec::new(alloc);

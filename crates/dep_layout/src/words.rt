@@ -5,7 +5,7 @@ ghost use Rattle.dep_layout.specs.Judgement.{rows_in, word_of, words_in};
 
 use crate::lay_words;
 use crate::state::Words;
-use std::alloc::AllocError;
+use vert_base::Want;
 
 // The word that eight bytes spell.
 #[tactic(auto, unfolding(crate::specs::Judgement::word_of))]
@@ -19,14 +19,14 @@ fn word_of(bytes: &[u8]) -> i64
 }
 
 // Whether a word is a Bool, where the lowest bit says that it must be.
-fn suits(bools: u8, word: i64) -> bool
+fn suits(bools: u32, word: i64) -> bool
     ensures { result ≡ suits bools word }
 {
     bools % 2 == 0 || word == 0 || word == 1
 }
 
-// Whether the words of a vertex, at the front of bytes, are Bools where they must be.
-fn is_typed(bytes: &[u8], width: usize, bools: u8) -> bool
+// Whether the words of a row, at the front of bytes, are Bools where they must be.
+fn is_typed(bytes: &[u8], width: usize, bools: u32) -> bool
     requires { 8 * width ≤ length bytes.now }
     ensures { result ≡ are_typed bools (words_in width bytes.now) }
 {
@@ -43,13 +43,13 @@ fn is_typed(bytes: &[u8], width: usize, bools: u8) -> bool
     true
 }
 
-/// Whether the words of so many started vertices are Bools where they must be.
-pub(crate) fn are_typed(words: &[u8], vertices: usize, width: usize, bools: u8) -> bool
-    requires { 8 * width * vertices ≤ length words.now }
-    ensures { result ≡ list_all (are_typed bools) (rows_in width vertices words.now) }
+/// Whether the words of so many rows are Bools where they must be. It takes no memory.
+pub fn are_typed(words: &[u8], rows: usize, width: usize, bools: u32) -> bool
+    requires { 8 * width * rows ≤ length words.now }
+    ensures { result ≡ list_all (are_typed bools) (rows_in width rows words.now) }
 {
     let mut rest = words;
-    'vertices: for _ in 0..vertices {
+    'rows: for _ in 0..rows {
         if !is_typed(rest, width, bools) {
             return false;
         }
@@ -76,12 +76,9 @@ pub(crate) fn read_words<const W: usize>(bytes: &[u8]) -> Words<W>
 
 /// Writes the words of a state at the end of bytes.
 #[tactic(auto, unfolding(crate::specs::Spelling::word_bytes))]
-pub(crate) fn push_words<const W: usize>(
-    bytes: &mut Vec<u8>,
-    words: &Words<W>,
-) -> Result<(), AllocError>
+pub(crate) fn push_words<const W: usize>(bytes: &mut Vec<u8>, words: &Words<W>) -> Result<(), Want>
     ensures { OnOk result (bytes.new.items ≡ bytes.old.items ++ flat_map word_bytes words.now.at) }
 {
-    lay_words!(bytes, words);
+    lay_words!(bytes, &words.at);
     Ok(())
 }

@@ -7,22 +7,12 @@ ghost use Rattle.dep_message.specs.Messages.{forms_of, header_in, refusal_of, re
 use crate::fault::MessageFault;
 use crate::fitting::fits;
 use crate::header::{HEADER, Header, push_header};
-use std::alloc::{AllocError, Global};
+use std::alloc::Global;
 use symple_face::Part;
 use vert_base::{Message, Name, NameKind, Want};
 
 /// The spelling of a message: its header and its body.
 pub fn encode(alloc: Global, msg: &Message) -> Result<Vec<u8>, Want>
-    requires { length msg.now.body.items < 2 ^ 32 }
-    ensures { IfOk result (λ bytes. bytes.items ≡ spelled_message msg.now.name msg.now.body.items) }
-{
-    match spelling(alloc, msg) {
-        Ok(bytes) => Ok(bytes),
-        Err(_) => Err(Want),
-    }
-}
-
-fn spelling(alloc: Global, msg: &Message) -> Result<Vec<u8>, AllocError>
     requires { length msg.now.body.items < 2 ^ 32 }
     ensures { IfOk result (λ bytes. bytes.items ≡ spelled_message msg.now.name msg.now.body.items) }
 {

@@ -115,8 +115,8 @@ Ends s d env = (first second : List Edge) → (whole s d env first).flow ≡ Bro
 -- a segment that received nothing begins as one that received the carried lets' own words
 abbrev pub BeginsWithOwn : Dense → Env → Type 0
 BeginsWithOwn d env =
-    begun (loop_split d) d.lets.items None env ≡ begun (loop_split d) d.lets.items
-    (Some (given (loop_split d) (only_lets d.lets.items env))) env
+    let received = Some (given (loop_split d) (only_lets d.lets.items env)) in
+    begun (loop_split d) d.lets.items None env ≡ begun (loop_split d) d.lets.items received env
 
 -- what a segment gives is what the whole loop gives there
 abbrev pub GivesOn : Dense → Type 0

@@ -10,7 +10,7 @@ ghost use Rattle.instrument.specs.Shown.{begin_block, give_block, ring_line, sho
 use crate::split::{Split, SplitLoop};
 use carry_analysis::{Carry, Class};
 use lets::{Line, combine_word, name_text, print_lets};
-use std::alloc::{AllocError, Global};
+use std::alloc::Global;
 use vert_base::Want;
 use vert_tree::{Decl, Dense, SlotDecl, Stmt, print_block, print_declarations, print_program};
 
@@ -20,20 +20,18 @@ pub fn print_split(alloc: Global, split: &Split) -> Result<String, Want>
     ensures { IfOk result (λ text. string_bytes text ≡ shown split.now.program.program) }
 {
     let mut out = print_program(alloc, &split.program.program)?;
-    match print_dense(&mut out, split) {
-        Ok(()) => Ok(out),
-        Err(_) => Err(Want),
-    }
+    print_dense(&mut out, split)?;
+    Ok(out)
 }
 
-fn print_dense(out: &mut String, split: &Split) -> Result<(), AllocError>
+fn print_dense(out: &mut String, split: &Split) -> Result<(), Want>
     ensures { OnOk result (string_bytes out.new ≡ string_bytes out.old
         ++ shown_dense split.now.program.program.names.items split.now.program.program.slots.items split.now.program.program.dense) }
 {
     let program = &split.program.program;
     match (&program.dense, &split.dense) {
         (Some(dense), Some(part)) => print_loop(out, &program.names, &program.slots, dense, part),
-        _ => out.push_str("no dense\n"),
+        _ => Ok(out.push_str("no dense\n")?),
     }
 }
 
@@ -43,7 +41,7 @@ fn print_loop(
     slots: &[SlotDecl],
     dense: &Dense,
     split: &SplitLoop,
-) -> Result<(), AllocError>
+) -> Result<(), Want>
     requires { length split.now.classes.locals.items ≡ length dense.now.lets.items }
     ensures { OnOk result (string_bytes out.new ≡ string_bytes out.old ++ shown_loop names.now slots.now dense.now split.now) }
 {
@@ -63,12 +61,12 @@ fn print_loop(
     print_statements(out, "tail {\n", names, &dense.tail)
 }
 
-fn print_ring(out: &mut String, carry: &Option<Carry>) -> Result<(), AllocError>
+fn print_ring(out: &mut String, carry: &Option<Carry>) -> Result<(), Want>
     ensures { OnOk result (string_bytes out.new ≡ string_bytes out.old ++ ring_line carry.now) }
 {
     match carry {
-        Some(carry) => write!(out, "ring {}\n", carry.words),
-        None => out.push_str("ring none\n"),
+        Some(carry) => Ok(write!(out, "ring {}\n", carry.words)?),
+        None => Ok(out.push_str("ring none\n")?),
     }
 }
 
@@ -77,7 +75,7 @@ fn print_begin(
     names: &[String],
     lets: &[Decl],
     classes: &[Class],
-) -> Result<(), AllocError>
+) -> Result<(), Want>
     requires { length classes.now ≡ length lets.now }
     ensures { OnOk result (string_bytes out.new ≡ string_bytes out.old ++ begin_block names.now lets.now classes.now) }
 {
@@ -85,7 +83,7 @@ fn print_begin(
     print_declarations(out, names, "let ", lets)?;
     print_lets(out, Line::Receive, names, lets, classes)?;
     print_lets(out, Line::Reset, names, lets, classes)?;
-    out.push_str("}\n")
+    Ok(out.push_str("}\n")?)
 }
 
 // The lines of a block behind its keyword and brace.
@@ -94,12 +92,12 @@ fn print_statements(
     opening: &str,
     names: &[String],
     body: &[Stmt],
-) -> Result<(), AllocError>
+) -> Result<(), Want>
     ensures { OnOk result (string_bytes out.new ≡ string_bytes out.old ++ shown_block opening.now names.now body.now) }
 {
     out.push_str(opening)?;
     print_block(out, names, body)?;
-    out.push_str("}\n")
+    Ok(out.push_str("}\n")?)
 }
 
 fn print_give(
@@ -109,7 +107,7 @@ fn print_give(
     classes: &[Class],
     slots: &[SlotDecl],
     emitted: &[u8],
-) -> Result<(), AllocError>
+) -> Result<(), Want>
     requires { length classes.now ≡ length lets.now }
     ensures { OnOk result (string_bytes out.new ≡ string_bytes out.old ++ give_block names.now lets.now classes.now slots.now emitted.now) }
 {
@@ -117,7 +115,7 @@ fn print_give(
     print_lets(out, Line::Forward, names, lets, classes)?;
     print_lets(out, Line::Update, names, lets, classes)?;
     print_slots(out, names, slots, emitted)?;
-    out.push_str("}\n")
+    Ok(out.push_str("}\n")?)
 }
 
 fn print_slots(
@@ -125,7 +123,7 @@ fn print_slots(
     names: &[String],
     slots: &[SlotDecl],
     emitted: &[u8],
-) -> Result<(), AllocError>
+) -> Result<(), Want>
     ensures { OnOk result (string_bytes out.new ≡ string_bytes out.old ++ slot_lines names.now slots.now emitted.now) }
 {
     'lines: for place in emitted {
@@ -142,7 +140,7 @@ fn slot_at(slots: &[SlotDecl], place: u8) -> Option<&SlotDecl>
 }
 
 // The line of a slot, if there is one.
-fn print_slot(out: &mut String, names: &[String], slot: Option<&SlotDecl>) -> Result<(), AllocError>
+fn print_slot(out: &mut String, names: &[String], slot: Option<&SlotDecl>) -> Result<(), Want>
     ensures { OnOk result (string_bytes out.new ≡ string_bytes out.old ++ slot_line names.now (option_copied slot.entry)) }
 {
     match slot {
@@ -151,7 +149,7 @@ fn print_slot(out: &mut String, names: &[String], slot: Option<&SlotDecl>) -> Re
             out.push_str(name_text(names, &slot.name))?;
             out.push_str(" ")?;
             out.push_str(combine_word(slot.op))?;
-            out.push_str(";\n")
+            Ok(out.push_str(";\n")?)
         }
         None => Ok(()),
     }

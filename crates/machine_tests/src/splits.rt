@@ -209,7 +209,8 @@ fn segment_told(
     let mut env = env()?;
     let mut given = ArrayVec::new();
     assert!(rt; env.round <= 10_000 && env.id.0 < 1 << 24);
-    assert!(rt; are_placed(lets_of(&split.program.program), &env, 0));
+    let lets = lets_of(&split.program.program);
+    assert!(rt; lets.len() <= 8 && are_placed(lets, &env, 0));
     let received = if received.is_empty() {
         None
     } else {

@@ -4,6 +4,7 @@ use mode_switch::ruling;
 use sample_programs::Cells;
 use slot_merge::{Partial, merging};
 use std::alloc::{AllocError, Global};
+use std::process::Abort;
 use std::test::Fail;
 use vert_base::{Combine, Mode};
 use vert_eval::{apply, assign, negated, truth, word};
@@ -152,6 +153,19 @@ fn partial(op: Combine, words: &str) -> Result<Partial, Fail> {
     Ok(partial)
 }
 
+/// Both partial values of one slot, of which those of a first slot have different keys.
+fn merged(rt: &impl Abort, mut one: Partial, other: &Partial) -> Partial {
+    assert!(rt; one.op == other.op);
+    match one.op {
+        Combine::First => {
+            assert!(rt; one.key != other.key);
+            one.merge(other);
+        }
+        Combine::Sum | Combine::Min | Combine::Max => one.merge(other),
+    }
+    one
+}
+
 fn partial_told(alloc: Global, partial: &Partial) -> Result<String, AllocError> {
     match partial.value {
         Some(value) if partial.op == Combine::First => {
@@ -175,14 +189,10 @@ fn partial_values(rt: HostRuntime) -> Result<(), Fail> {
     for line in MERGED.lines() {
         let mut cells = Cells::new(line);
         let op = combination(cells.text());
-        let mut one = partial(op, cells.text())?;
+        let one = partial(op, cells.text())?;
         let other = partial(op, cells.text())?;
-        assert!(rt;
-            one.op == other.op && (one.op != Combine::First || one.key != other.key),
-            "{line}"
-        );
-        one.merge(&other);
-        let found = partial_told(rt.alloc(), &one)?;
+        let both = merged(&rt, one, &other);
+        let found = partial_told(rt.alloc(), &both)?;
         assert_eq!(rt; found.as_str(), cells.text(), "{line}");
     }
     Ok(())

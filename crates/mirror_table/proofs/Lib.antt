@@ -1,3 +1,4 @@
+pub mod FewLaws
 pub mod ChunkOrder
 pub mod MetLaws
 pub mod OrderPermutations

@@ -52,6 +52,7 @@ pub(crate) fn scan(
     ensures below { IfOk result (λ list. AreBelow (vertices_of cuts.now) list.items) }
 {
     let _ends = cuts.ends();
+    let _edges = table.edges();
     let mut list = edges_from(alloc, table, cuts.start(m), cuts.end(m))?;
     put_in_order(&mut list, table.vertices(), Side::Target)?;
     Ok(list)
@@ -71,6 +72,7 @@ pub(crate) fn push(
     ensures below { IfOk result (λ list. AreBelow (vertices_of cuts.now) list.items) }
 {
     let _ends = cuts.ends();
+    let _edges = table.edges();
     let mut list = edges_into(alloc, table, cuts.start(m), cuts.end(m))?;
     put_in_order(&mut list, table.vertices(), Side::Source)?;
     Ok(list)

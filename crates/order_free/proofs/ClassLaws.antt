@@ -35,5 +35,6 @@ constant_from (d ∷ ds) k (suc i) ms h =
 
 pub unassigned_idle : (ds : List Decl) (ms : List Mark) (i : ℕ) → IsTrue (is_unassigned (let_classes 0 ds ms) i) →
     Idle i ms
-unassigned_idle ds ms i h = let same : 0 + i ≡ i =
-    omega arith in subst (λ n. Idle n ms) same (constant_from ds 0 i ms h)
+unassigned_idle ds ms i h =
+    let same : 0 + i ≡ i = omega arith in
+    subst (λ n. Idle n ms) same (constant_from ds 0 i ms h)

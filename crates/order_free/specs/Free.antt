@@ -21,8 +21,9 @@ form_of breaks classes body =
 
 abbrev pub loop_form : Option Dense → Freedom
 loop_form None = NoLoop
-loop_form (Some d) = let marks =
-    body_marks d.body.items in form_of (has_break marks) (let_classes 0 d.lets.items marks) d.body.items
+loop_form (Some d) =
+    let marks = body_marks d.body.items in
+    form_of (has_break marks) (let_classes 0 d.lets.items marks) d.body.items
 
 abbrev pub unless_first : Option ℕ → Freedom → Freedom
 unless_first None form = form

@@ -1,6 +1,7 @@
 -- A printed program reads again as the same program.
-use Rattle.std.proofs.Common.{◌≡◌, ◌≤◌, length, sym, ap, subst, ◌∙◌}
-use Rattle.vert_lex.specs.Text.{tokens_of}
+use Rattle.std.proofs.Common.{◌≡◌, ◌≤◌, List, Result, Ok, length, sym, ap, subst, ◌∙◌}
+use Rattle.vert_lex.specs.declared.token.LexFault.{LexFault}
+use Rattle.vert_lex.specs.Text.{Placed, tokens_of}
 use Rattle.vert_tree.specs.Printed.{printed}
 use Rattle.vert_grammar.specs.Grammar.{limits}
 use Rattle.vert_grammar.specs.Spelling.{kinds, spelled_program}
@@ -12,11 +13,17 @@ use Rattle.print_law.proofs.Lexing.{AreTokens, lexed_tokens, LexedAgain, lexed_a
 use Rattle.print_law.proofs.Smallness.{same_small}
 use Rattle.print_law.proofs.Spelled.{grouped, program_kinds}
 
+ok_same : (a b : List Placed) → ◌≡◌ {A = Result (List Placed) LexFault} (Ok a) (Ok b) → a ≡ b
+ok_same a b e = cc
+
 pub prints_again : PrinterLaw
-prints_again text p h = record { layout = layout; again = λ le. says (lexed_again (spelled_program p) tokens (subst (λ t. length t ≤ 65536) layout le)) }
+prints_again text p h = record { layout = λ all lexed. layout ∙ ap laid (sym (kinds_of all lexed)); again = λ le. says (lexed_again (spelled_program p) tokens (subst (λ t. length t ≤ 65536) layout le)) }
   where
     spelled_so : kinds h.tokens ≡ spelled_program p
     spelled_so = program_kinds p h.tokens h.reads.reads
+
+    kinds_of : (all : List Placed) → tokens_of text ≡ Ok all → kinds all ≡ spelled_program p
+    kinds_of all lexed = ap kinds (ok_same all h.tokens (sym lexed ∙ h.lexed)) ∙ spelled_so
 
     layout : printed p ≡ laid (spelled_program p)
     layout = sym (lays_program p h.tokens h.reads.reads).is

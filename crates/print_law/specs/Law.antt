@@ -5,7 +5,7 @@ use Rattle.vert_tree.specs.Plain.{plain_program}
 use Rattle.vert_tree.specs.Printed.{printed}
 use Rattle.vert_tree.specs.Trees.{ProgramTree}
 use Rattle.vert_grammar.specs.Faults.{IsReading}
-use Rattle.vert_grammar.specs.Spelling.{spelled_program}
+use Rattle.vert_grammar.specs.Spelling.{kinds}
 use Rattle.print_law.specs.Layout.{laid}
 
 -- the text says this program, within the limits
@@ -20,10 +20,10 @@ pub record SaysSame (text : List ℕ) (p : ProgramTree) : Type 0 where
   pub same : plain_program tree ≡ plain_program p
   pub says : Says text tree
 
--- A program that some text says is printed as the text of its tokens. This says the same program again,
--- where it is no longer than a text may be.
+-- A program that some text says is printed as the tokens of that text, laid out. What is printed says the
+-- same program again, where it is no longer than a text may be.
 pub record PrintsAgain (text : List ℕ) (p : ProgramTree) : Type 0 where
-  pub layout : printed p ≡ laid (spelled_program p)
+  pub layout : (tokens : List Placed) → tokens_of text ≡ Ok tokens → printed p ≡ laid (kinds tokens)
   pub again : length (printed p) ≤ 65536 → SaysSame (printed p) p
 
 abbrev pub PrinterLaw : Type 0

@@ -19,7 +19,7 @@ use Rattle.program_reader.specs.declared.refusal.Stage.TheVariants.{Grammar, Typ
 use Rattle.program_reader.specs.declared.refusal.Stage.{Stage}
 use Rattle.program_reader.proofs.SmallTokens.{tokens_refused}
 use Rattle.program_reader.specs.Accepted.{HasNoTokens, IsNoProgram, IsText, IsUntyped, lex_refusal, number_of}
-use Rattle.program_reader.specs.Laws.{HasOneRefusal, IsDecided, SaysNoneRefused, SaysOneTree}
+use Rattle.program_reader.specs.Laws.{AcceptedIsUnrefused, HasOneRefusal, IsDecided, SaidIsAccepted, SaysNoneRefused, SaysOneTree}
 
 -- ---- results
 ok_same : (a b : List Placed) → ◌≡◌ {A = Result (List Placed) LexFault} (Ok a) (Ok b) → a ≡ b
@@ -90,10 +90,17 @@ module _ (text : List ℕ) where
   has_one_refusal a b (inr (inr h)) (inr (inr k)) = untyped a b h k
 
   -- ---- never both
+  pub accepted_is_unrefused : AcceptedIsUnrefused text
+  accepted_is_unrefused a it (inl h) = tokens_or_none a it.1.placed h it.1.tokens
+  accepted_is_unrefused a it (inr (inl h)) = read_or_none a it.0 h it.1
+  accepted_is_unrefused a it (inr (inr h)) =
+      not_some _ (sym it.2 ∙ ap first_fault (one_tree it.0 h.tree it.1 h.is) ∙ h.first)
+
+  pub said_is_accepted : SaidIsAccepted text
+  said_is_accepted p k = (view_program p, k.tree, k.accepted)
+
   pub says_none_refused : SaysNoneRefused text
-  says_none_refused a p (inl h) k = tokens_or_none a k.tree.placed h k.tree.tokens
-  says_none_refused a p (inr (inl h)) k = read_or_none a (view_program p) h k.tree
-  says_none_refused a p (inr (inr h)) k = not_some _ (sym k.accepted ∙ ap first_fault (one_tree (view_program p) h.tree k.tree h.is) ∙ h.first)
+  says_none_refused a p h k = accepted_is_unrefused a (said_is_accepted p k) h
 
   -- ---- one of the two
   typed_or_not : (tree : ProgramTree) → IsText text tree → (o : Option Finding) → first_fault tree ≡ o → IsDecided text

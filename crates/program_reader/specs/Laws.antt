@@ -26,6 +26,14 @@ HasOneRefusal text = (a b : Refusal) → Refuses text a → Refuses text b → a
 abbrev pub SaysNoneRefused : List ℕ → Type 0
 SaysNoneRefused text = (a : Refusal) (p : Program) → Refuses text a → Says text p → ⊥
 
+-- The text of a program is accepted.
+abbrev pub SaidIsAccepted : List ℕ → Type 0
+SaidIsAccepted text = (p : Program) → Says text p → IsAccepted text
+
+-- An accepted text is refused by nothing.
+abbrev pub AcceptedIsUnrefused : List ℕ → Type 0
+AcceptedIsUnrefused text = (a : Refusal) → IsAccepted text → Refuses text a → ⊥
+
 -- A text is accepted, or it has a refusal.
 abbrev pub IsDecided : List ℕ → Type 0
 IsDecided text = IsAccepted text ⊎ ((a : Refusal) × Refuses text a)

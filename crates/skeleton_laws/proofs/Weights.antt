@@ -270,9 +270,7 @@ module _ (ring : Ring) (w : Ruling → Spot → ℕ) (m : ℕ) where
   judge_same rulings n a zero lt = refl
   judge_same rulings n a (suc r) lt =
       let b = before_later round_weight (suc r) n a rulings (omega arith) in
-      let c : closed (suc r) (ruling_in ((n, a) ∷ rulings) (suc r)) ≡ closed (suc r)
-      (ruling_in rulings (suc r)) =
-      ap (closed (suc r)) (ruling_other rulings a n (suc r) (λ e. omega arith)) in
+      let c = ap (closed (suc r)) (ruling_other rulings a n (suc r) (λ e. omega arith)) in
       omega arith
 
   -- a standing that is of a round before that of a new ruling, or at its begin
@@ -287,7 +285,8 @@ module _ (ring : Ring) (w : Ruling → Spot → ℕ) (m : ℕ) where
       done (made ∷ rulings) s ≡ done rulings s
   done_same rulings made s early =
       at s.spot s.round early.within early.round early.knows where
-        at : (spot : Spot) (round : ℕ) → round ≤ made.0 → round ≡ round_of round spot → Knows ring rulings early.last spot →
+        at : (spot : Spot) (round : ℕ) → round ≤ made.0 → round ≡ round_of round spot →
+            Knows ring rulings early.last spot →
             done_at (made ∷ rulings) spot round ≡ done_at rulings spot round
         at Tell round le e knows = refl
         at (Judge r) round le e knows =

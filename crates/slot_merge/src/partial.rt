@@ -44,6 +44,7 @@ impl Partial {
 
     /// Combines one more value. `First` keeps the value of the least key, and of equal keys the
     /// earlier one.
+    #[inline]
     pub fn add(&mut self, key: u32, value: i64)
         ensures word { self.new ≡ with_word key value self.old }
     {

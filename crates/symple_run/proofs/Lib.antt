@@ -1,9 +1,12 @@
-pub mod AnswerLaws
-pub mod ReadLaws
-pub mod EndLaws
-pub mod FreeLaws
+pub mod ComesLaws
+pub mod CourseLaws
+pub mod FlushLaws
+pub mod HeadLaws
+pub mod LeavesLaws
 pub mod LineLaws
 pub mod LoadLaws
-pub mod RoundLaws
 pub mod NumberedLaws
+pub mod ReadLaws
+pub mod RoundLaws
 pub mod TextLaws
+pub mod WalkLaws

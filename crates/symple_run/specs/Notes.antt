@@ -44,3 +44,15 @@ note_text (BadLine code line) = codes "symple: graph: E" ++ (decimal code ++ (co
 note_text (BadByte code at) = codes "symple: graph: E" ++ (decimal code ++ (codes " at byte " ++ (decimal at ++ codes "\n")))
 note_text NoWrite = codes "symple: cannot write\n"
 note_text NoMemory = codes "symple: out of memory\n"
+
+-- the number with which the process ends
+abbrev pub status_number : Status → ℕ
+status_number status.Done = 0
+status_number status.Usage = 1
+status_number status.ReadFault = 2
+status_number status.BadProgram = 3
+status_number status.BadGraph = 4
+status_number status.BadSchedule = 5
+status_number status.WriteFault = 6
+status_number status.Memory = 7
+status_number status.BadMessage = 8

@@ -11,7 +11,7 @@ use Rattle.edge_reader.specs.EdgeList as edges
 use Rattle.order_free.specs.declared.freedom.Freedom.{Freedom}
 use Rattle.order_free.specs.declared.freedom.Freedom.TheVariants.{NoLoop, Reductions, FoundOne, ReachACount, FirstSlot, OtherLoop}
 use Rattle.order_free.specs.Free.{freedom_of}
-use Rattle.symple_run.specs.Lines.{RunWords}
+use Rattle.symple_run.specs.Orders.{Play}
 use Rattle.plain_run.specs.Told.{Told, rounds_told}
 use Rattle.symple_words.specs.declared.line.Lines.{Lines}
 use Rattle.vert_base.specs.declared.value.Row.{Row}
@@ -52,8 +52,9 @@ told_run lines program tolds rows = flat_map (told_lines lines) tolds ++ table_t
 abbrev pub text_of_run : Lines → Program → Run → List ℕ
 text_of_run lines program run = told_run lines program (rounds_told run) run.last.rows
 
-abbrev pub run_text : RunWords → Program → edges.Graph → List ℕ
-run_text r program graph = text_of_run r.lines program (source_run (job_of r.machines r.draws program graph))
+-- what the source run of a program puts
+abbrev pub play_text : Play → List ℕ
+play_text play = text_of_run play.lines play.program (source_run (job_of play.machines play.draws play.program play.graph))
 
 abbrev pub chunk_text : ℕ → ℕ → ℕ → List ℕ
 chunk_text chunk start end = codes "chunk " ++ decimal chunk ++ codes " " ++ decimal start ++ codes " " ++ decimal end ++ codes "\n"

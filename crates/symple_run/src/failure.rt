@@ -1,21 +1,25 @@
 ghost use Rattle.std.specs.Prelude.{◌≡◌};
 ghost use Rattle.array_text.specs.Writes.{Writes};
-ghost use Rattle.symple_run.specs.Faults.{fault_of};
-ghost use Rattle.symple_run.specs.Notes.{BadByte, BadLine, BadProgram, note_text, stage_letter, status_of};
+ghost use Rattle.symple_run.specs.declared.failure.Failure.TheVariants.{Memory, Write};
+ghost use Rattle.symple_run.specs.Faults.{failure_for, fault_of};
+ghost use Rattle.symple_run.specs.Notes.{BadByte, BadLine, BadProgram, NoLoad, note_text, stage_letter, status_of};
 
 use crate::status::Status;
 use array_text::{put_all, put_pieces};
 use itoa::Buffer;
+use outside::{Sink, SinkFault};
 use program_reader::{Refusal, Stage};
-use symple_face::{Sink, SinkFault};
+use std::alloc::AllocError;
+use symple_words::WordFault;
+use vert_base::Want;
 
 /// Why a command didn't end well.
-#[derive(Clone, Copy)]
-pub(crate) enum Failure<'a> {
+#[derive(Drop)]
+pub(crate) enum Failure {
     Command,
     Words,
     /// The file of this name could not be loaded.
-    Load(&'a str),
+    Load(String),
     Program(Refusal),
     GraphLine { code: u8, line: u32 },
     GraphByte { code: u8, at: u64 },
@@ -23,7 +27,43 @@ pub(crate) enum Failure<'a> {
     Memory,
 }
 
-impl Failure<'_> {
+impl From<SinkFault> for Failure {
+    ghost from_gives = { λ _ failure. failure ≡ Write };
+
+    fn from(_fault: SinkFault) -> Failure {
+        Failure::Write
+    }
+}
+
+impl From<Want> for Failure {
+    ghost from_gives = { λ _ failure. failure ≡ Memory };
+
+    fn from(_want: Want) -> Failure {
+        Failure::Memory
+    }
+}
+
+impl From<AllocError> for Failure {
+    ghost from_gives = { λ _ failure. failure ≡ Memory };
+
+    fn from(_error: AllocError) -> Failure {
+        Failure::Memory
+    }
+}
+
+impl From<WordFault> for Failure {
+    ghost from_gives = { λ fault failure. failure ≡ failure_for fault };
+
+    fn from(fault: WordFault) -> Failure {
+        match fault {
+            WordFault::Command => Failure::Command,
+            WordFault::Words => Failure::Words,
+            WordFault::Want => Failure::Memory,
+        }
+    }
+}
+
+impl Failure {
     pub(crate) fn status(&self) -> Status
         ensures { result ≡ status_of (fault_of self.now) }
     {
@@ -39,22 +79,25 @@ impl Failure<'_> {
 }
 
 /// Puts the line that tells of a failure.
-pub(crate) fn write_note<N: Sink>(failure: &Failure<'_>, notes: &mut N) -> Result<(), SinkFault>
+pub(crate) fn write_note<N: Sink>(failure: &Failure, notes: &mut N) -> Result<(), SinkFault>
     ensures { Writes N.held N.faults N.spare notes.old notes.new (note_text (fault_of failure.now)) result }
 {
     match failure {
         Failure::Command => put_all(notes, b"symple: unknown command\n"),
         Failure::Words => put_all(notes, b"symple: bad arguments\n"),
-        Failure::Load(name) => put_pieces(
-            notes,
-            &[b"symple: cannot read ", name.as_bytes(), b"\n"],
-        ),
+        Failure::Load(name) => write_unread(name, notes),
         Failure::Program(refusal) => write_refusal(*refusal, notes),
         Failure::GraphLine { code, line } => write_line(*code, *line, notes),
         Failure::GraphByte { code, at } => write_byte(*code, *at, notes),
         Failure::Write => put_all(notes, b"symple: cannot write\n"),
         Failure::Memory => put_all(notes, b"symple: out of memory\n"),
     }
+}
+
+fn write_unread<N: Sink>(name: &str, notes: &mut N) -> Result<(), SinkFault>
+    ensures { Writes N.held N.faults N.spare notes.old notes.new (note_text (NoLoad name.now)) result }
+{
+    put_pieces(notes, &[b"symple: cannot read ", name.as_bytes(), b"\n"])
 }
 
 fn letter(stage: Stage) -> &'static [u8]

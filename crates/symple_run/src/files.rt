@@ -3,11 +3,11 @@ ghost use Rattle.outside.specs.declared.shelf.LoadFault.TheVariants.{Missing, To
 
 use crate::counts::one_more;
 use crate::pieces::{read_some, write_whole};
+use outside::{LoadFault, Shelf, StoreFault};
 use std::alloc::Global;
 use std::fs;
 use std::io::{ErrorKind, Read};
 use std::rt::Files;
-use symple_face::{LoadFault, Shelf, StoreFault};
 
 /// The most bytes that one read asks for.
 const PIECE: usize = 65_536;

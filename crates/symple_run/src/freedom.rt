@@ -2,48 +2,51 @@ ghost use Rattle.std.specs.Prelude.{◌≡◌, ◌≤◌, slice_get};
 ghost use Rattle.array_text.specs.Tables.{bytes_of};
 ghost use Rattle.array_text.specs.Writes.{Writes};
 ghost use Rattle.order_free.specs.declared.freedom.Freedom.TheVariants.{FirstSlot};
-ghost use Rattle.symple_run.specs.Endings.{EndsBy, Plays};
-ghost use Rattle.symple_run.specs.Lines.{FreeOf};
+ghost use Rattle.symple_run.specs.Commands.{free_order};
 ghost use Rattle.symple_run.specs.Outputs.{free_text, freedom_text, slot_name};
+ghost use Rattle.symple_run.specs.States.{sink_state};
+ghost use Rattle.symple_run.specs.Walks.{HandsOn, Performs, Plays};
 
 use crate::failure::Failure;
+use crate::flush::flush;
 use crate::read::load_program;
 use array_text::{put_all, put_pieces};
 use instrument::{Split, split_of};
 use order_free::{Freedom, free};
+use outside::{Shelf, Sink, SinkFault};
 use std::alloc::Global;
-use symple_face::{Shelf, Sink, SinkFault};
 use vert_tree::Program;
 
 /// Puts whether the rows of the program of that name depend on the order of neighbours.
-pub(crate) fn tell_freedom<'a, H: Shelf, O: Sink>(
+pub(crate) fn tell_freedom<H: Shelf, O: Sink>(
     alloc: Global,
-    name: &'a str,
+    name: &str,
     shelf: &mut H,
     out: &mut O,
-) -> Result<(), Failure<'a>>
-    ensures ends { EndsBy (H.files shelf.old) (FreeOf name.now) (H.loads shelf.old) (H.loads shelf.new)
-        (record { held = O.held out.old; held_after = O.held out.new; faults = O.faults out.old; faults_after = O.faults out.new }) result }
-    ensures files { H.files shelf.new ≡ H.files shelf.old }
-    ensures stores { H.stores shelf.new ≡ H.stores shelf.old }
-    ensures loads { H.loads shelf.old ≤ H.loads shelf.new }
+) -> Result<(), Failure>
+    ensures order { Performs H.files H.loads H.stores O.held O.faults O.spare (free_order name.now)
+        shelf.old shelf.new out.old out.new result }
+    ensures later { H.loads shelf.old ≤ H.loads shelf.new }
 {
-    let typed = match load_program(alloc, shelf, name) {
-        Ok(typed) => typed,
-        Err(failure) => return Err(failure),
-    };
-    put_freedom(&split_of(typed), out)
+    let typed = load_program(alloc, shelf, name)?;
+    tell(&split_of(typed), out)
 }
 
-fn put_freedom<O: Sink>(split: &Split, out: &mut O) -> Result<(), Failure<'static>>
-    ensures { Plays (free_text split.now.program.program)
-        (record { held = O.held out.old; held_after = O.held out.new; faults = O.faults out.old; faults_after = O.faults out.new }) result }
+fn tell<O: Sink>(split: &Split, out: &mut O) -> Result<(), Failure>
+    ensures { Plays (free_text split.now.program.program) (sink_state O.held O.faults O.spare out.old)
+        (sink_state O.held O.faults O.spare out.new) result }
 {
-    let freedom = free(split);
-    match write_freedom(&split.program.program, freedom, out) {
-        Ok(()) => Ok(()),
-        Err(_) => Err(Failure::Write),
-    }
+    put_freedom(split, out)?;
+    Ok(())
+}
+
+/// Puts the line and has it handed on.
+fn put_freedom<O: Sink>(split: &Split, out: &mut O) -> Result<(), SinkFault>
+    ensures { HandsOn (free_text split.now.program.program) (sink_state O.held O.faults O.spare out.old)
+        (sink_state O.held O.faults O.spare out.new) result }
+{
+    write_freedom(&split.program.program, free(split), out)?;
+    flush(out)
 }
 
 fn write_freedom<O: Sink>(program: &Program, freedom: Freedom, out: &mut O) -> Result<(), SinkFault>

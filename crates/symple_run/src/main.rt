@@ -1,13 +1,12 @@
 //! SympleGraph: runs vertex programs whose neighbour loops stop early.
 #![tactic(auto)]
 
-mod command;
+mod arguments;
 mod counts;
 mod failure;
 mod files;
+mod flush;
 mod freedom;
-mod line;
-mod outside;
 mod pieces;
 mod plan;
 mod read;
@@ -20,28 +19,30 @@ mod table;
 mod tests;
 mod top;
 
+use arguments::words_of;
+use failure::{Failure, write_note};
 use files::FileShelf;
-use outside::words_of;
 use status::Status;
+use std::io::BufWriter;
 use std::process::ExitCode;
 use streams::{InSource, OutSink};
 use top::symple;
 
+/// The most bytes that are held back before they go to standard output.
+const BUFFER: usize = 65_536;
+
 fn main(rt: HostRuntime) -> ExitCode {
-    let Ok(words) = words_of(&rt, rt.alloc()) else {
+    let alloc = rt.alloc();
+    let mut notes = OutSink::new(rt.stderr());
+    let words = words_of(&rt, alloc);
+    let writer = BufWriter::with_capacity(alloc, BUFFER, rt.stdout());
+    let (Ok(words), Ok(writer)) = (words, writer) else {
+        let _ = write_note(&Failure::Memory, &mut notes);
         return ExitCode::from(Status::Memory.number());
     };
     let mut shelf = FileShelf::new(&rt);
     let mut input = InSource::new(rt.stdin());
-    let mut out = OutSink::new(rt.stdout());
-    let mut notes = OutSink::new(rt.stderr());
-    let status = symple(
-        rt.alloc(),
-        &words,
-        &mut shelf,
-        &mut input,
-        &mut out,
-        &mut notes,
-    );
+    let mut out = OutSink::new(writer);
+    let status = symple(alloc, &words, &mut shelf, &mut input, &mut out, &mut notes);
     ExitCode::from(status.number())
 }

@@ -1,4 +1,4 @@
-ghost use Rattle.std.specs.Prelude.{◌<◌, ◌≤◌, length, IfSome};
+ghost use Rattle.std.specs.Prelude.{◌≡◌, ◌<◌, ◌≤◌, length, IfSome};
 
 use std::io::{ErrorKind, Read, Write};
 
@@ -24,6 +24,20 @@ pub(crate) fn write_some<W: Write>(writer: &mut W, piece: &[u8]) -> Option<usize
         match writer.write(piece) {
             Ok(0) => return None,
             Ok(size) => return Some(size),
+            Err(error) if error.kind() == ErrorKind::Interrupted => {}
+            Err(_) => return None,
+        }
+    }
+    None
+}
+
+/// Has the writer hand on all that it holds back, and answers 0. `None` where it failed.
+pub(crate) fn hand_on<W: Write>(writer: &mut W) -> Option<usize>
+    ensures { IfSome result (λ size. size ≡ 0) }
+{
+    for _ in 0..u64::MAX {
+        match writer.flush() {
+            Ok(()) => return Some(0),
             Err(error) if error.kind() == ErrorKind::Interrupted => {}
             Err(_) => return None,
         }

@@ -1,31 +1,38 @@
 ghost use Rattle.std.specs.Prelude.{◌≡◌, ◌≤◌, ◌<◌, length, slice_index};
 ghost use Rattle.array_text.specs.Writes.{Writes};
 ghost use Rattle.symple_run.specs.Outputs.{chunk_text, chunks_text, machines_text, plan_lines, step_text, steps_text};
+ghost use Rattle.symple_run.specs.States.{sink_state};
+ghost use Rattle.symple_run.specs.Walks.{HandsOn};
 
+use crate::flush::flush;
 use array_text::put_pieces;
 use chunk_split::Cuts;
 use itoa::Buffer;
-use symple_face::{Sink, SinkFault};
+use outside::{Sink, SinkFault};
 use vert_base::limits::MACHINES;
 
+/// Puts the plan of these chunks and has it handed on.
+pub(crate) fn put_plan<O: Sink>(cuts: &Cuts<MACHINES>, out: &mut O) -> Result<(), SinkFault>
+    ensures { HandsOn (plan_lines cuts.now) (sink_state O.held O.faults O.spare out.old)
+        (sink_state O.held O.faults O.spare out.new) result }
+{
+    write_plan(cuts, out)?;
+    flush(out)
+}
+
 /// Puts the plan of these chunks: where each begins and ends, then who works on which in each step.
-pub(crate) fn write_plan<O: Sink>(cuts: &Cuts<MACHINES>, out: &mut O) -> Result<(), SinkFault>
+fn write_plan<O: Sink>(cuts: &Cuts<MACHINES>, out: &mut O) -> Result<(), SinkFault>
     ensures { Writes O.held O.faults O.spare out.old out.new (plan_lines cuts.now) result }
 {
-    match write_chunks(cuts, out) {
-        Ok(()) => write_steps(cuts.count(), out),
-        Err(fault) => Err(fault),
-    }
+    write_chunks(cuts, out)?;
+    write_steps(cuts.count(), out)
 }
 
 fn write_chunks<O: Sink>(cuts: &Cuts<MACHINES>, out: &mut O) -> Result<(), SinkFault>
     ensures { Writes O.held O.faults O.spare out.old out.new (chunks_text cuts.now) result }
 {
     'chunks: for chunk in 0..cuts.count() {
-        match write_chunk(chunk, cuts.start(chunk), cuts.end(chunk), out) {
-            Ok(()) => {}
-            Err(fault) => return Err(fault),
-        }
+        write_chunk(chunk, cuts.start(chunk), cuts.end(chunk), out)?;
     }
     Ok(())
 }
@@ -53,10 +60,7 @@ fn write_steps<O: Sink>(machines: u8, out: &mut O) -> Result<(), SinkFault>
     ensures { Writes O.held O.faults O.spare out.old out.new (steps_text machines) result }
 {
     'steps: for step in 0..machines {
-        match write_machines(machines, step, out) {
-            Ok(()) => {}
-            Err(fault) => return Err(fault),
-        }
+        write_machines(machines, step, out)?;
     }
     Ok(())
 }
@@ -67,10 +71,7 @@ fn write_machines<O: Sink>(machines: u8, step: u8, out: &mut O) -> Result<(), Si
     ensures { Writes O.held O.faults O.spare out.old out.new (machines_text machines step) result }
 {
     'machines: for machine in 0..machines {
-        match write_step(machines, step, machine, out) {
-            Ok(()) => {}
-            Err(fault) => return Err(fault),
-        }
+        write_step(machines, step, machine, out)?;
     }
     Ok(())
 }

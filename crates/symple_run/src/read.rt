@@ -1,14 +1,15 @@
-ghost use Rattle.std.specs.Prelude.{◌≡◌, ◌≤◌};
+ghost use Rattle.std.specs.Prelude.{◌≤◌};
 ghost use Rattle.edge_reader.specs.Gives.{Gives};
-ghost use Rattle.symple_run.specs.Loads.{GivesGraph, GivesProgram};
-ghost use Rattle.symple_run.specs.Verdicts.{graph_of};
+ghost use Rattle.symple_run.specs.Commands.{graph_of};
+ghost use Rattle.symple_run.specs.States.{shelf_state};
+ghost use Rattle.symple_run.specs.Walks.{GivesGraph, GivesProgram};
 ghost use Rattle.symple_words.specs.Ranges.{IsGraphForm};
 
 use crate::failure::Failure;
 use edge_reader::{EdgeFault, Edges, read_pairs, read_text};
+use outside::{LoadFault, Shelf};
 use program_reader::{ProgramFault, Refusal, Stage, read_program};
 use std::alloc::Global;
-use symple_face::{LoadFault, Shelf};
 use symple_words::GraphForm;
 use vert_base::Span;
 use vert_base::limits::{GRAPH_BYTES, PROGRAM_BYTES};
@@ -26,22 +27,24 @@ const TOO_LONG: Refusal = Refusal {
 };
 
 /// Loads and reads the program of that name.
-pub(crate) fn load_program<'a, H: Shelf>(
+///
+/// The failure's name is taken before the load, so that a load that fails needs no memory to say so.
+pub(crate) fn load_program<H: Shelf>(
     alloc: Global,
     shelf: &mut H,
-    name: &'a str,
-) -> Result<Typed, Failure<'a>>
-    ensures program { GivesProgram (H.files shelf.old) (H.loads shelf.old) (H.loads shelf.new) name.now result }
-    ensures files { H.files shelf.new ≡ H.files shelf.old }
-    ensures stores { H.stores shelf.new ≡ H.stores shelf.old }
+    name: &str,
+) -> Result<Typed, Failure>
+    ensures program { GivesProgram (shelf_state H.files H.loads H.stores shelf.old)
+        (shelf_state H.files H.loads H.stores shelf.new) name.now result }
     ensures later { H.loads shelf.old ≤ H.loads shelf.new }
 {
+    let unread = String::from_str(alloc, name)?;
     let text = match shelf.load(alloc, name, PROGRAM_BYTES) {
         Ok(text) => text,
         Err(LoadFault::TooLong) => return Err(Failure::Program(TOO_LONG)),
         Err(LoadFault::Want) => return Err(Failure::Memory),
-        Err(LoadFault::Failed) => return Err(Failure::Load(name)),
-        Err(LoadFault::Missing) => return Err(Failure::Load(name)),
+        Err(LoadFault::Failed) => return Err(Failure::Load(unread)),
+        Err(LoadFault::Missing) => return Err(Failure::Load(unread)),
     };
     match read_program(alloc, &text) {
         Ok(typed) => Ok(typed),
@@ -63,18 +66,18 @@ fn read_graph(alloc: Global, form: &GraphForm, bytes: &[u8]) -> Result<Edges, Ed
 }
 
 /// Loads and reads the graph of that name.
-pub(crate) fn load_graph<'a, H: Shelf>(
+pub(crate) fn load_graph<H: Shelf>(
     alloc: Global,
     shelf: &mut H,
     form: &GraphForm,
-    name: &'a str,
-) -> Result<Edges, Failure<'a>>
+    name: &str,
+) -> Result<Edges, Failure>
     requires { IsGraphForm form.now }
-    ensures graph { GivesGraph (H.files shelf.old) (H.loads shelf.old) (H.loads shelf.new) form.now name.now result }
-    ensures files { H.files shelf.new ≡ H.files shelf.old }
-    ensures stores { H.stores shelf.new ≡ H.stores shelf.old }
+    ensures graph { GivesGraph (shelf_state H.files H.loads H.stores shelf.old)
+        (shelf_state H.files H.loads H.stores shelf.new) form.now name.now result }
     ensures later { H.loads shelf.old ≤ H.loads shelf.new }
 {
+    let unread = String::from_str(alloc, name)?;
     let bytes = match shelf.load(alloc, name, GRAPH_BYTES) {
         Ok(bytes) => bytes,
         Err(LoadFault::TooLong) => {
@@ -84,8 +87,8 @@ pub(crate) fn load_graph<'a, H: Shelf>(
             });
         }
         Err(LoadFault::Want) => return Err(Failure::Memory),
-        Err(LoadFault::Failed) => return Err(Failure::Load(name)),
-        Err(LoadFault::Missing) => return Err(Failure::Load(name)),
+        Err(LoadFault::Failed) => return Err(Failure::Load(unread)),
+        Err(LoadFault::Missing) => return Err(Failure::Load(unread)),
     };
     match read_graph(alloc, form, &bytes) {
         Ok(edges) => Ok(edges),

@@ -6,8 +6,9 @@ ghost use Rattle.plain_run.specs.Told.{told_of};
 ghost use Rattle.symple_run.specs.Outputs.{IsFew, read_line, read_lines, told_lines, told_text};
 
 use array_text::{put_all, write_read_head, write_reads, write_round};
+use outside::{Sink, SinkFault};
 use plain_run::PlayedRound;
-use symple_face::{Report, Sink, SinkFault};
+use symple_face::Report;
 use symple_words::Lines;
 use vert_base::VertexId;
 
@@ -21,10 +22,7 @@ pub(crate) fn write_rounds<O: Sink>(
     ensures { Writes O.held O.faults O.spare out.old out.new (flat_map (λ r. told_lines lines.now (told_of r)) rounds.now) result }
 {
     'rounds: for played in rounds {
-        match write_played(lines, played, out) {
-            Ok(()) => {}
-            Err(fault) => return Err(fault),
-        }
+        write_played(lines, played, out)?;
     }
     Ok(())
 }
@@ -34,10 +32,8 @@ fn write_played<O: Sink>(lines: &Lines, played: &PlayedRound, out: &mut O) -> Re
     requires { IsFew (told_of played.now) }
     ensures { Writes O.held O.faults O.spare out.old out.new (told_lines lines.now (told_of played.now)) result }
 {
-    match write_report(lines.rounds, played, out) {
-        Ok(()) => write_sources(lines.reads, played, out),
-        Err(fault) => Err(fault),
-    }
+    write_report(lines.rounds, played, out)?;
+    write_sources(lines.reads, played, out)
 }
 
 /// Puts the line of a round, where it is asked for.
@@ -91,10 +87,7 @@ fn write_read_lines<O: Sink>(
     ensures { Writes O.held O.faults O.spare out.old out.new (read_lines round 0 (map (λ v. ids_of v.items) reads.now)) result }
 {
     'vertices: for (v, sources) in reads.iter().enumerate() {
-        match write_read_line(round, VertexId(v as u32), sources, out) {
-            Ok(()) => {}
-            Err(fault) => return Err(fault),
-        }
+        write_read_line(round, VertexId(v as u32), sources, out)?;
     }
     Ok(())
 }

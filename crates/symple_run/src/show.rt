@@ -1,44 +1,46 @@
-ghost use Rattle.std.specs.Prelude.{◌≡◌, ◌≤◌};
+ghost use Rattle.std.specs.Prelude.{◌≤◌};
 ghost use Rattle.instrument.specs.Shown.{shown};
-ghost use Rattle.symple_run.specs.Endings.{EndsBy, Plays};
-ghost use Rattle.symple_run.specs.Lines.{ShowOf};
+ghost use Rattle.symple_run.specs.Commands.{show_order};
+ghost use Rattle.symple_run.specs.States.{sink_state};
+ghost use Rattle.symple_run.specs.Walks.{HandsOn, Performs, Plays};
 
 use crate::failure::Failure;
+use crate::flush::flush;
 use crate::read::load_program;
 use array_text::put_all;
 use instrument::{Split, print_split, split_of};
+use outside::{Shelf, Sink, SinkFault};
 use std::alloc::Global;
-use symple_face::{Shelf, Sink};
 
 /// Puts the program of that name and how its loop is split.
-pub(crate) fn show_program<'a, H: Shelf, O: Sink>(
+pub(crate) fn show_program<H: Shelf, O: Sink>(
     alloc: Global,
-    name: &'a str,
+    name: &str,
     shelf: &mut H,
     out: &mut O,
-) -> Result<(), Failure<'a>>
-    ensures ends { EndsBy (H.files shelf.old) (ShowOf name.now) (H.loads shelf.old) (H.loads shelf.new)
-        (record { held = O.held out.old; held_after = O.held out.new; faults = O.faults out.old; faults_after = O.faults out.new }) result }
-    ensures files { H.files shelf.new ≡ H.files shelf.old }
-    ensures stores { H.stores shelf.new ≡ H.stores shelf.old }
-    ensures loads { H.loads shelf.old ≤ H.loads shelf.new }
+) -> Result<(), Failure>
+    ensures order { Performs H.files H.loads H.stores O.held O.faults O.spare (show_order name.now)
+        shelf.old shelf.new out.old out.new result }
+    ensures later { H.loads shelf.old ≤ H.loads shelf.new }
 {
-    let typed = match load_program(alloc, shelf, name) {
-        Ok(typed) => typed,
-        Err(failure) => return Err(failure),
-    };
+    let typed = load_program(alloc, shelf, name)?;
     put_shown(alloc, &split_of(typed), out)
 }
 
-fn put_shown<O: Sink>(alloc: Global, split: &Split, out: &mut O) -> Result<(), Failure<'static>>
-    ensures { Plays (shown split.now.program.program)
-        (record { held = O.held out.old; held_after = O.held out.new; faults = O.faults out.old; faults_after = O.faults out.new }) result }
+fn put_shown<O: Sink>(alloc: Global, split: &Split, out: &mut O) -> Result<(), Failure>
+    ensures { Plays (shown split.now.program.program) (sink_state O.held O.faults O.spare out.old)
+        (sink_state O.held O.faults O.spare out.new) result }
 {
-    let Ok(text) = print_split(alloc, split) else {
-        return Err(Failure::Memory);
-    };
-    match put_all(out, text.as_bytes()) {
-        Ok(()) => Ok(()),
-        Err(_) => Err(Failure::Write),
-    }
+    let text = print_split(alloc, split)?;
+    put_text(text.as_bytes(), out)?;
+    Ok(())
+}
+
+/// Puts a text and has it handed on.
+fn put_text<O: Sink>(text: &[u8], out: &mut O) -> Result<(), SinkFault>
+    ensures { HandsOn text.now (sink_state O.held O.faults O.spare out.old)
+        (sink_state O.held O.faults O.spare out.new) result }
+{
+    put_all(out, text)?;
+    flush(out)
 }

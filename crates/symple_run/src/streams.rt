@@ -1,9 +1,9 @@
 ghost use Rattle.std.specs.Prelude.{◌≡◌, None};
 
 use crate::counts::one_more;
-use crate::pieces::{read_some, write_some};
+use crate::pieces::{hand_on, read_some, write_some};
+use outside::{Sink, SinkFault, Source, SourceFault};
 use std::io::{Read, Write};
-use symple_face::{Sink, SinkFault, Source, SourceFault};
 
 /// The most bytes that one read asks for.
 const PIECE: usize = 8_192;
@@ -45,7 +45,8 @@ impl<R: Read + Drop> Source for InSource<R> {
     }
 }
 
-/// A stream of the system to write to. It counts its failures and tells nothing of contents.
+/// A stream of the system to write to. It counts its failures and tells nothing of contents. At an empty
+/// piece the stream hands on what it holds back.
 #[derive(Drop)]
 pub struct OutSink<W: Write + Drop> {
     writer: W,
@@ -67,10 +68,12 @@ impl<W: Write + Drop> Sink for OutSink<W> {
     ghost faults = { λ sink. sink.faults };
 
     fn put(&mut self, bytes: &[u8]) -> Result<usize, SinkFault> {
-        if bytes.is_empty() {
-            return Ok(0);
-        }
-        match write_some(&mut self.writer, bytes) {
+        let taken = if bytes.is_empty() {
+            hand_on(&mut self.writer)
+        } else {
+            write_some(&mut self.writer, bytes)
+        };
+        match taken {
             Some(size) => Ok(size),
             None => {
                 self.faults = one_more(self.faults);

@@ -1,175 +1,208 @@
-ghost use Rattle.std.specs.Prelude.{◌≡◌, ◌≤◌, ◌⊎◌, ℕ, List, Result, map, Some, None};
+ghost use Rattle.std.specs.Prelude.{◌≡◌, ◌≤◌, IfOk, None, option_map};
 ghost use Rattle.std.specs.String.{string_bytes};
+ghost use Rattle.chunk_split.specs.Bounds.{ends_of};
 ghost use Rattle.edge_reader.specs.Gives.{graph_of_edges};
-ghost use Rattle.outside.specs.Causes.{Rose};
-ghost use Rattle.outside.specs.Files.{File};
-ghost use Rattle.symple_run.specs.Answers.{Answers};
-ghost use Rattle.symple_run.specs.Endings.{CutsInto, EndsBy, Plays, failure_for};
-ghost use Rattle.symple_run.specs.Freedom.{FreeAnswer};
-ghost use Rattle.symple_run.specs.Lines.{FreeOf, Line, PlanOf, RunOf, line_of};
-ghost use Rattle.symple_run.specs.Notes.{Fault, status_of};
-ghost use Rattle.symple_run.specs.Outputs.{plan_text, run_text};
-ghost use Rattle.symple_run.specs.Reads.{LineReads, plan_view, run_view};
-ghost use Rattle.symple_run.specs.Verdicts.{AsksOver, Fails, Puts};
-ghost use Rattle.symple_words.specs.Ranges.{AreMachines};
+ghost use Rattle.symple_run.specs.Commands.{asked, order_of, plan_order, play_of, run_order};
+ghost use Rattle.symple_run.specs.Headline.{Answers, IsComplete, TellsFreedom};
+ghost use Rattle.symple_run.specs.Outputs.{plan_text, play_text};
+ghost use Rattle.symple_run.specs.States.{input_state, outside, shelf_state, sink_state};
+ghost use Rattle.symple_run.specs.SourceRuns.{IsSourceRun};
+ghost use Rattle.symple_run.specs.Walks.{Performs, Plays};
+ghost use Rattle.symple_words.specs.Lines.{RunOf};
+ghost use Rattle.symple_words.specs.Ranges.{AreMachines, IsGraphForm, IsWithin};
+ghost use Rattle.symple_words.specs.Views.{job_view, line_view, words_of};
 
-use crate::command::{Command, PlanLine, RunLine};
 use crate::failure::{Failure, write_note};
 use crate::freedom::tell_freedom;
-use crate::line::read_line;
-use crate::plan::write_plan;
+use crate::plan::put_plan;
 use crate::read::{load_graph, load_program};
 use crate::show::show_program;
 use crate::status::Status;
-use crate::table::write_run;
+use crate::table::put_run;
 use chunk_split::{Cuts, cuts_of};
 use edge_reader::Edges;
 use graph_table::Table;
 use instrument::{Split, split_of};
 use order_free::order_free_programs;
+use outside::{Shelf, Sink, Source};
 use plain_run::run_plainly;
 use std::alloc::Global;
-use symple_face::{Shelf, Sink, Source};
-use symple_words::WordFault;
+use symple_words::{GraphForm, Job, Line, read_words};
+use vert_base::Want;
 use vert_base::limits::MACHINES;
 
 /// The chunks of a graph for so many machines.
-fn chunks(alloc: Global, edges: &Edges, machines: u8) -> Result<Cuts<MACHINES>, Failure<'static>>
+fn chunks(alloc: Global, edges: &Edges, machines: u8) -> Result<Cuts<MACHINES>, Want>
     requires { AreMachines machines }
-    ensures { CutsInto machines (graph_of_edges edges.now) result }
+    ensures { IfOk result (λ cuts. cuts ≡ ends_of machines edges.now.vertices edges.now.list.items) }
 {
-    match Table::build(alloc, edges) {
-        Ok(table) => Ok(cuts_of(&table, machines)),
-        Err(_) => Err(Failure::Memory),
-    }
+    let table = Table::build(alloc, edges)?;
+    Ok(cuts_of(&table, machines))
 }
 
 /// Runs the program on the graph and puts what is asked of the run.
-fn run<'a, H: Shelf, O: Sink>(
+fn run<H: Shelf, O: Sink>(
     alloc: Global,
-    line: &'a RunLine,
+    job: &Job,
+    machines: u8,
     shelf: &mut H,
     out: &mut O,
-) -> Result<(), Failure<'a>>
-    ensures ends { EndsBy (H.files shelf.old) (RunOf (run_view line.now)) (H.loads shelf.old) (H.loads shelf.new)
-        (record { held = O.held out.old; held_after = O.held out.new; faults = O.faults out.old; faults_after = O.faults out.new }) result }
-    ensures files { H.files shelf.new ≡ H.files shelf.old }
-    ensures stores { H.stores shelf.new ≡ H.stores shelf.old }
-    ensures loads { H.loads shelf.old ≤ H.loads shelf.new }
+) -> Result<(), Failure>
+    requires form { IsGraphForm job.now.form }
+    requires few { AreMachines machines }
+    ensures order { Performs H.files H.loads H.stores O.held O.faults O.spare
+        (run_order (job_view job.now) machines) shelf.old shelf.new out.old out.new result }
+    ensures later { H.loads shelf.old ≤ H.loads shelf.new }
 {
-    let typed = match load_program(alloc, shelf, &line.job.program) {
-        Ok(typed) => typed,
-        Err(failure) => return Err(failure),
-    };
-    let edges = match load_graph(alloc, shelf, &line.job.form, &line.job.graph) {
-        Ok(edges) => edges,
-        Err(failure) => return Err(failure),
-    };
-    play(alloc, line, &split_of(typed), &edges, out)
+    let typed = load_program(alloc, shelf, &job.program)?;
+    let edges = load_graph(alloc, shelf, &job.form, &job.graph)?;
+    play(alloc, job, machines, &split_of(typed), &edges, out)
 }
 
 /// Plays the program on the graph, cut into chunks, and puts what is asked of the run.
 fn play<O: Sink>(
     alloc: Global,
-    line: &RunLine,
+    job: &Job,
+    machines: u8,
     split: &Split,
     edges: &Edges,
     out: &mut O,
-) -> Result<(), Failure<'static>>
-    ensures { Plays (run_text (run_view line.now) split.now.program.program (graph_of_edges edges.now))
-        (record { held = O.held out.old; held_after = O.held out.new; faults = O.faults out.old; faults_after = O.faults out.new }) result }
+) -> Result<(), Failure>
+    requires { AreMachines machines }
+    ensures { Plays (play_text (play_of (job_view job.now) machines split.now.program.program
+        (graph_of_edges edges.now)))
+        (sink_state O.held O.faults O.spare out.old)
+        (sink_state O.held O.faults O.spare out.new) result }
 {
-    let cuts = match chunks(alloc, edges, line.machines) {
-        Ok(cuts) => cuts,
-        Err(failure) => return Err(failure),
-    };
-    let (vertices, draws) = (edges.vertices, line.job.draws);
-    let Ok(played) = run_plainly(
+    let cuts = chunks(alloc, edges, machines)?;
+    let (vertices, draws) = (edges.vertices, job.draws);
+    let played = run_plainly(
         alloc,
         &split.program,
         vertices,
         &edges.list,
         cuts.ends(),
         draws,
-    ) else {
-        return Err(Failure::Memory);
-    };
-    match write_run(split, &played, &line.job.lines, out) {
-        Ok(()) => Ok(()),
-        Err(_) => Err(Failure::Write),
-    }
+    )?;
+    put_run(split, &played, &job.lines, out)?;
+    Ok(())
 }
 
 /// Puts how the graph is cut and who works on which chunk in each step.
-fn plan<'a, H: Shelf, O: Sink>(
+fn plan<H: Shelf, O: Sink>(
     alloc: Global,
-    line: &'a PlanLine,
+    name: &str,
+    form: &GraphForm,
+    machines: u8,
     shelf: &mut H,
     out: &mut O,
-) -> Result<(), Failure<'a>>
-    ensures ends { EndsBy (H.files shelf.old) (PlanOf (plan_view line.now)) (H.loads shelf.old) (H.loads shelf.new)
-        (record { held = O.held out.old; held_after = O.held out.new; faults = O.faults out.old; faults_after = O.faults out.new }) result }
-    ensures files { H.files shelf.new ≡ H.files shelf.old }
-    ensures stores { H.stores shelf.new ≡ H.stores shelf.old }
-    ensures loads { H.loads shelf.old ≤ H.loads shelf.new }
+) -> Result<(), Failure>
+    requires form { IsGraphForm form.now }
+    requires few { AreMachines machines }
+    ensures order { Performs H.files H.loads H.stores O.held O.faults O.spare
+        (plan_order name.now form.now machines) shelf.old shelf.new out.old out.new result }
+    ensures later { H.loads shelf.old ≤ H.loads shelf.new }
 {
-    let edges = match load_graph(alloc, shelf, &line.form, &line.graph) {
-        Ok(edges) => edges,
-        Err(failure) => return Err(failure),
-    };
-    lay_out(alloc, line, &edges, out)
+    let edges = load_graph(alloc, shelf, form, name)?;
+    lay_out(alloc, machines, &edges, out)
 }
 
 /// Puts the plan of a graph.
-fn lay_out<O: Sink>(
-    alloc: Global,
-    line: &PlanLine,
-    edges: &Edges,
-    out: &mut O,
-) -> Result<(), Failure<'static>>
-    ensures { Plays (plan_text line.now.machines (graph_of_edges edges.now))
-        (record { held = O.held out.old; held_after = O.held out.new; faults = O.faults out.old; faults_after = O.faults out.new }) result }
+fn lay_out<O: Sink>(alloc: Global, machines: u8, edges: &Edges, out: &mut O) -> Result<(), Failure>
+    requires { AreMachines machines }
+    ensures { Plays (plan_text machines (graph_of_edges edges.now))
+        (sink_state O.held O.faults O.spare out.old)
+        (sink_state O.held O.faults O.spare out.new) result }
 {
-    let cuts = match chunks(alloc, edges, line.machines) {
-        Ok(cuts) => cuts,
-        Err(failure) => return Err(failure),
-    };
-    match write_plan(&cuts, out) {
-        Ok(()) => Ok(()),
-        Err(_) => Err(Failure::Write),
-    }
+    let cuts = chunks(alloc, edges, machines)?;
+    put_plan(&cuts, out)?;
+    Ok(())
 }
 
-/// Performs a line, where the words are one.
-fn perform<'a, H: Shelf, O: Sink>(
+/// Runs a line of `run` without `--image`. One with `--log` is not built yet.
+fn run_unlogged<H: Shelf, O: Sink>(
     alloc: Global,
-    line: &'a Result<Command, WordFault>,
+    job: &Job,
+    machines: u8,
     shelf: &mut H,
     out: &mut O,
-) -> Result<(), Failure<'a>>
-    ensures ends { (words : Line) → LineReads words line.now → EndsBy (H.files shelf.old) words (H.loads shelf.old) (H.loads shelf.new)
-        (record { held = O.held out.old; held_after = O.held out.new; faults = O.faults out.old; faults_after = O.faults out.new }) result }
-    ensures files { H.files shelf.new ≡ H.files shelf.old }
-    ensures stores { H.stores shelf.new ≡ H.stores shelf.old }
-    ensures loads { H.loads shelf.old ≤ H.loads shelf.new }
+) -> Result<(), Failure>
+    requires form { IsGraphForm job.now.form }
+    requires few { AreMachines machines }
+    ensures order { Performs H.files H.loads H.stores O.held O.faults O.spare
+        (asked (RunOf (job_view job.now) machines None)) shelf.old shelf.new out.old out.new result }
+    ensures later { H.loads shelf.old ≤ H.loads shelf.new }
 {
-    match line {
-        Ok(Command::Run(line)) => run(alloc, line, shelf, out),
-        Ok(Command::Plan(line)) => plan(alloc, line, shelf, out),
-        Ok(Command::Show(program)) => show_program(alloc, program, shelf, out),
-        Ok(Command::Free(program)) => tell_freedom(alloc, program, shelf, out),
-        Err(fault) => Err(failure_for(*fault)),
+    if job.lines.log {
+        return Err(Failure::Words);
+    }
+    run(alloc, job, machines, shelf, out)
+}
+
+/// Runs a line of `run`. One with `--image` is not built yet.
+fn run_line<H: Shelf, O: Sink>(
+    alloc: Global,
+    job: &Job,
+    machines: u8,
+    image: &Option<String>,
+    shelf: &mut H,
+    out: &mut O,
+) -> Result<(), Failure>
+    requires form { IsGraphForm job.now.form }
+    requires few { AreMachines machines }
+    ensures order { Performs H.files H.loads H.stores O.held O.faults O.spare
+        (asked (RunOf (job_view job.now) machines (option_map (λ name. string_bytes name) image.now)))
+        shelf.old shelf.new out.old out.new result }
+    ensures later { H.loads shelf.old ≤ H.loads shelf.new }
+{
+    match image {
+        Some(_) => Err(Failure::Words),
+        None => run_unlogged(alloc, job, machines, shelf, out),
     }
 }
 
-fn failure_for(fault: WordFault) -> Failure<'static>
-    ensures { result ≡ failure_for fault }
+/// Performs a line. One that is not built yet is refused as if it weren't there.
+fn perform<H: Shelf, O: Sink>(
+    alloc: Global,
+    line: &Line,
+    shelf: &mut H,
+    out: &mut O,
+) -> Result<(), Failure>
+    requires { IsWithin (line_view line.now) }
+    ensures order { Performs H.files H.loads H.stores O.held O.faults O.spare
+        (asked (line_view line.now)) shelf.old shelf.new out.old out.new result }
+    ensures later { H.loads shelf.old ≤ H.loads shelf.new }
 {
-    match fault {
-        WordFault::Command => Failure::Command,
-        WordFault::Words => Failure::Words,
-        WordFault::Want => Failure::Memory,
+    match line {
+        Line::RunLine {
+            job,
+            machines,
+            image,
+        } => run_line(alloc, job, *machines, image, shelf, out),
+        Line::PlanLine {
+            graph,
+            form,
+            machines,
+        } => plan(alloc, graph, form, *machines, shelf, out),
+        Line::ShowLine { program } => show_program(alloc, program, shelf, out),
+        Line::FreeLine { program } => tell_freedom(alloc, program, shelf, out),
+        _ => Err(Failure::Command),
     }
+}
+
+/// Reads the words as a line and performs it.
+fn obey<H: Shelf, O: Sink>(
+    alloc: Global,
+    words: &[String],
+    shelf: &mut H,
+    out: &mut O,
+) -> Result<(), Failure>
+    ensures order { Performs H.files H.loads H.stores O.held O.faults O.spare
+        (order_of (words_of words.now)) shelf.old shelf.new out.old out.new result }
+    ensures later { H.loads shelf.old ≤ H.loads shelf.new }
+{
+    let line = read_words(alloc, words)?;
+    perform(alloc, &line, shelf, out)
 }
 
 /// Performs the line that the words are, over a shelf of files, an input, and sinks for what it prints
@@ -184,33 +217,36 @@ pub fn symple<H: Shelf, I: Source, O: Sink, N: Sink>(
     out: &mut O,
     notes: &mut N,
 ) -> Status
-    ensures answer { Answers (H.files shelf.old) (line_of (map string_bytes words.now)) (H.loads shelf.old) (H.loads shelf.new)
-        (record { held = O.held out.old; held_after = O.held out.new; faults = O.faults out.old; faults_after = O.faults out.new })
-        (record { held = N.held notes.old; held_after = N.held notes.new; faults = N.faults notes.old; faults_after = N.faults notes.new })
+    // What is printed is the text of the source run.
+    ensures answer { Answers IsSourceRun (words_of words.now)
+        (outside (shelf_state H.files H.loads H.stores shelf.old)
+        (sink_state O.held O.faults O.spare out.old) (input_state I.left I.faults input.old))
+        (outside (shelf_state H.files H.loads H.stores shelf.new)
+        (sink_state O.held O.faults O.spare out.new) (input_state I.left I.faults input.new))
+        (sink_state N.held N.faults N.spare notes.old)
+        (sink_state N.held N.faults N.spare notes.new) result }
+
+    // What is refused is refused, and what isn't is done, but for want of memory, where nothing fails.
+    ensures complete { IsComplete IsSourceRun (words_of words.now)
+        (outside (shelf_state H.files H.loads H.stores shelf.old)
+        (sink_state O.held O.faults O.spare out.old) (input_state I.left I.faults input.old))
+        (outside (shelf_state H.files H.loads H.stores shelf.new)
+        (sink_state O.held O.faults O.spare out.new) (input_state I.left I.faults input.new))
         result }
 
-    // What is refused is refused, and what isn't is printed, but for want of memory and counts that rose.
-    ensures refused { (files : List File) → (fault : Fault) → H.files shelf.old ≡ Some files
-        → AsksOver files (line_of (map string_bytes words.now)) (Fails fault)
-        → ¬ (Rose (H.loads shelf.old) (H.loads shelf.new)) → (result ≡ status_of fault) ⊎ (result ≡ Status.Memory) }
-    ensures complete { (files : List File) → (text : List ℕ) → H.files shelf.old ≡ Some files
-        → AsksOver files (line_of (map string_bytes words.now)) (Puts text)
-        → ¬ (Rose (H.loads shelf.old) (H.loads shelf.new)) → ¬ (Rose (O.faults out.old) (O.faults out.new))
-        → (result ≡ Status.Done) ⊎ (result ≡ Status.Memory) }
-
     // The runs of a program that `free` calls free are alike at all machine counts, but for their reads.
-    ensures free { (name : List ℕ) → line_of (map string_bytes words.now) ≡ FreeOf name → result ≡ Status.Done
-        → FreeAnswer (H.files shelf.old) name
-        (record { held = O.held out.old; held_after = O.held out.new; faults = O.faults out.old; faults_after = O.faults out.new }) }
+    ensures free { TellsFreedom (words_of words.now) (H.files shelf.old)
+        (sink_state O.held O.faults O.spare out.old)
+        (sink_state O.held O.faults O.spare out.new) result }
 
+    // No command that there is stores a file or takes from the input.
     ensures files { H.files shelf.new ≡ H.files shelf.old }
     ensures stores { H.stores shelf.new ≡ H.stores shelf.old }
-    ensures loads { H.loads shelf.old ≤ H.loads shelf.new }
     ensures input { input.new ≡ input.old }
+    ensures loads { H.loads shelf.old ≤ H.loads shelf.new }
 {
     order_free_programs();
-    let line = read_line(alloc, words);
-    match perform(alloc, &line, shelf, out) {
+    match obey(alloc, words, shelf, out) {
         Ok(()) => Status::Done,
         Err(failure) => {
             let _ = write_note(&failure, notes);

@@ -1,5 +1,5 @@
 -- A whole run keeps the types of words: an induction over its rounds.
-use Rattle.std.proofs.Common.{◌≡◌, ◌<◌, ◌≤◌, ◌+◌, ◌-◌, ◌^◌, ℕ, zero, suc, List, [], ◌∷◌, length, All, sym, ◌∙◌, FitsSigned, arith}
+use Rattle.std.proofs.Common.{◌≡◌, ◌<◌, ◌≤◌, ◌+◌, ◌-◌, ◌^◌, ℕ, zero, suc, List, [], ◌∷◌, length, All, ◌∙◌, FitsSigned, arith}
 use Rattle.std.specs.Int.{w32}
 use Rattle.std.proofs.lemmas.List.{length-map}
 use Rattle.std.proofs.lemmas.List.Elements.{All-cons, All-head, All-nil, All-tail}
@@ -9,10 +9,10 @@ use Rattle.vert_base.specs.declared.value.Row.{Row}
 use Rattle.vert_base.specs.declared.value.Ruling.{Ruling}
 use Rattle.vert_base.specs.declared.value.Ruling.TheVariants as ruling
 use Rattle.vert_base.specs.Neighbours.{source, target}
-use Rattle.vert_tree.specs.Kinds.{field_kinds, kinds_of}
+use Rattle.vert_tree.specs.Kinds.{kinds_of}
 use Rattle.vert_eval.specs.Rounds.{row_after, rows_after, vertices_of}
 use Rattle.vert_eval.specs.SourceRun.{Job, Run, Standing, by_ruling, first_row, first_rows, next_standing, played_at, rounds_from, scene_before, standing_after, then_runs}
-use Rattle.value_laws.specs.Fits.{HasWords, IsEdge, IsFitting, IsRow, IsSized, PlaysInWords, RunsInWords, StandsInWords}
+use Rattle.value_laws.specs.Fits.{IsEdge, IsFitting, IsRow, IsSized, PlaysInWords, RunsInWords, StandsInWords}
 use Rattle.value_laws.specs.Laws.{BeginsInWords, EdgesAreSized, GoesOnInWords, ResumedInWords, ScenesHaveWords, WholeInWords}
 use Rattle.value_laws.proofs.Rounds.{few_rounds}
 use Rattle.value_laws.proofs.Rows.{first_words, rows_words, totals_words}

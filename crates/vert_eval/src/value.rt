@@ -53,6 +53,7 @@ pub fn eval(e: &Expr, env: &Env) -> i64
 }
 
 /// The value of a word of the language at the vertex.
+#[inline]
 pub fn builtin_word(what: Builtin, env: &Env) -> i64
     ensures { result ≡ builtin what env.now }
 {
@@ -68,6 +69,7 @@ pub fn builtin_word(what: Builtin, env: &Env) -> i64
 }
 
 /// The value of a word of the language behind `u.`, which is 0 for those that do not stand there.
+#[inline]
 pub fn other_word(what: Builtin, env: &Env) -> i64
     ensures { result ≡ other_builtin what env.now }
 {

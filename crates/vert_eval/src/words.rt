@@ -4,6 +4,7 @@ ghost use Rattle.vert_eval.specs.Words.{word_of, is_set, wrapped, quotient, rema
 use vert_tree::{AssignOp, BinOp};
 
 /// The word of a truth value.
+#[inline]
 pub fn word(b: bool) -> i64
     ensures { result ≡ word_of b }
 {
@@ -11,6 +12,7 @@ pub fn word(b: bool) -> i64
 }
 
 /// Whether the word counts as true.
+#[inline]
 pub fn truth(x: i64) -> bool
     ensures { result ≡ is_set x }
 {
@@ -18,6 +20,7 @@ pub fn truth(x: i64) -> bool
 }
 
 /// What is left of `-x` in 64 bits.
+#[inline]
 pub fn negated(x: i64) -> i64
     ensures { result ≡ wrapped (neg_ℤ x) }
 {
@@ -25,6 +28,7 @@ pub fn negated(x: i64) -> i64
 }
 
 /// What the operator gives for two words.
+#[inline]
 pub fn apply(op: BinOp, x: i64, y: i64) -> i64
     ensures { result ≡ binary op x y }
 {
@@ -46,6 +50,7 @@ pub fn apply(op: BinOp, x: i64, y: i64) -> i64
 }
 
 /// What an assignment of `y` leaves in a place that held `x`.
+#[inline]
 pub fn assign(op: AssignOp, x: i64, y: i64) -> i64
     ensures { result ≡ assigned op x y }
 {

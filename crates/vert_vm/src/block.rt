@@ -27,6 +27,7 @@ pub fn step_block(code: &Code, block: Block, env: &mut Env, emits: &mut Emits)
 }
 
 /// The list of a block.
+#[inline]
 pub(crate) fn list_at(code: &Code, block: Block) -> &[Instr]
     ensures { result.now ≡ list_of code.now block }
 {

@@ -45,6 +45,7 @@ pub(crate) fn run_list(list: &[Instr], stack: &mut Stack, env: &mut Env, emits: 
 }
 
 /// Runs one instruction: the place where the run goes on, which a break hasn't.
+#[inline]
 fn run_step(
     instr: Instr,
     place: usize,
@@ -93,6 +94,7 @@ fn run_step(
     }
 }
 
+#[inline]
 fn slot_at(i: u8, env: &Env) -> Option<i64>
     requires { i < length env.now.slots.items }
     ensures { result ≡ slot_value (what.Slot i) env.now }
@@ -100,6 +102,7 @@ fn slot_at(i: u8, env: &Env) -> Option<i64>
     env.slots[usize::from(i)]
 }
 
+#[inline]
 fn drawn(number: u8, env: &Env) -> i64
     requires { CanDraw env.now }
     ensures { result ≡ pos (draw_word env.now.draws env.now.round env.now.id.0 number) }

@@ -16,6 +16,7 @@ use vert_eval::{Env, apply, assign, negated, put, truth, word, word_in};
 use vert_tree::{AssignOp, BinOp};
 
 /// Puts a value on the stack.
+#[inline]
 pub(crate) fn give(value: i64, place: usize, stack: &mut Stack) -> usize
     requires small { place < 2 ^ 63 }
     requires room { length stack.old < 64 }
@@ -27,6 +28,7 @@ pub(crate) fn give(value: i64, place: usize, stack: &mut Stack) -> usize
 }
 
 /// Puts `-x` in the place of the topmost value x.
+#[inline]
 pub(crate) fn negate(place: usize, stack: &mut Stack) -> usize
     requires small { place < 2 ^ 63 }
     requires some { 1 ≤ length stack.old }
@@ -39,6 +41,7 @@ pub(crate) fn negate(place: usize, stack: &mut Stack) -> usize
 }
 
 /// Puts the other truth value in the place of the topmost one.
+#[inline]
 pub(crate) fn invert(place: usize, stack: &mut Stack) -> usize
     requires small { place < 2 ^ 63 }
     requires some { 1 ≤ length stack.old }
@@ -51,6 +54,7 @@ pub(crate) fn invert(place: usize, stack: &mut Stack) -> usize
 }
 
 /// Puts what an operator gives in the place of its two operands.
+#[inline]
 pub(crate) fn operate(op: BinOp, place: usize, stack: &mut Stack) -> usize
     requires small { place < 2 ^ 63 }
     requires some { 2 ≤ length stack.old }
@@ -64,6 +68,7 @@ pub(crate) fn operate(op: BinOp, place: usize, stack: &mut Stack) -> usize
 }
 
 /// Puts the lesser one in the place of the two topmost values.
+#[inline]
 pub(crate) fn lower(place: usize, stack: &mut Stack) -> usize
     requires small { place < 2 ^ 63 }
     requires some { 2 ≤ length stack.old }
@@ -77,6 +82,7 @@ pub(crate) fn lower(place: usize, stack: &mut Stack) -> usize
 }
 
 /// Puts the greater one in the place of the two topmost values.
+#[inline]
 pub(crate) fn raise(place: usize, stack: &mut Stack) -> usize
     requires small { place < 2 ^ 63 }
     requires some { 2 ≤ length stack.old }
@@ -90,6 +96,7 @@ pub(crate) fn raise(place: usize, stack: &mut Stack) -> usize
 }
 
 /// Takes the topmost value and goes on at the next place, or at the target where it is 0.
+#[inline]
 pub(crate) fn fork(target: u32, place: usize, stack: &mut Stack) -> usize
     requires small { place < 2 ^ 63 }
     requires some { 1 ≤ length stack.old }
@@ -104,6 +111,7 @@ pub(crate) fn fork(target: u32, place: usize, stack: &mut Stack) -> usize
 }
 
 /// Assigns the topmost value to a let.
+#[inline]
 pub(crate) fn to_local(op: AssignOp, i: u8, place: usize, stack: &mut Stack, env: &mut Env) -> usize
     requires small { place < 2 ^ 63 }
     requires some { 1 ≤ length stack.old }
@@ -120,6 +128,7 @@ pub(crate) fn to_local(op: AssignOp, i: u8, place: usize, stack: &mut Stack, env
     place + 1
 }
 
+#[inline]
 fn note(op: AssignOp, i: u8, touched: u8) -> u8
     requires { i < 8 }
     ensures { result ≡ noted op i touched }
@@ -131,6 +140,7 @@ fn note(op: AssignOp, i: u8, touched: u8) -> u8
 }
 
 /// Assigns the topmost value to a field.
+#[inline]
 pub(crate) fn to_field(op: AssignOp, i: u8, place: usize, stack: &mut Stack, env: &mut Env) -> usize
     requires small { place < 2 ^ 63 }
     requires some { 1 ≤ length stack.old }
@@ -147,6 +157,7 @@ pub(crate) fn to_field(op: AssignOp, i: u8, place: usize, stack: &mut Stack, env
 }
 
 /// Assigns the topmost value to the next flag.
+#[inline]
 pub(crate) fn to_active(place: usize, stack: &mut Stack, env: &mut Env) -> usize
     requires small { place < 2 ^ 63 }
     requires some { 1 ≤ length stack.old }
@@ -160,6 +171,7 @@ pub(crate) fn to_active(place: usize, stack: &mut Stack, env: &mut Env) -> usize
 }
 
 /// Adds the topmost value to the partial of a slot.
+#[inline]
 pub(crate) fn emit(i: u8, key: u32, place: usize, stack: &mut Stack, emits: &mut Emits) -> usize
     requires small { place < 2 ^ 63 }
     requires some { 1 ≤ length stack.old }

@@ -44,6 +44,7 @@ pub fn step_segment<F: Feed>(code: &Code, env: &mut Env, emits: &mut Emits, feed
 }
 
 /// Runs the loop body on a neighbour, whose row is there.
+#[inline]
 fn visit(
     list: &[Instr],
     neighbour: Neighbour,

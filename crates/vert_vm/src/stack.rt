@@ -20,6 +20,7 @@ impl Model for Stack {
 
 impl Stack {
     /// The empty stack.
+    #[inline]
     pub(crate) fn new() -> Stack
         ensures { result ≡ [] }
     {
@@ -29,6 +30,7 @@ impl Stack {
     }
 
     /// One more value.
+    #[inline]
     pub(crate) fn push(&mut self, value: i64)
         requires { length self.old < 64 }
         ensures { self.new ≡ value ∷ self.old }
@@ -37,6 +39,7 @@ impl Stack {
     }
 
     /// Takes the topmost value.
+    #[inline]
     pub(crate) fn pop(&mut self) -> i64
         requires { 0 < length self.old }
         ensures value { result ≡ top self.old }

@@ -5,8 +5,7 @@ ghost use Rattle.vert_tree.specs.Views.{text_of};
 ghost use Rattle.instrument.specs.Shown.{carried_line, class_text, let_line, let_lines, reduced_line};
 
 use carry_analysis::Class;
-use std::alloc::AllocError;
-use vert_base::Combine;
+use vert_base::{Combine, Want};
 use vert_tree::{Decl, Ident};
 
 /// What is told of a let: its class, that its word is received or that it is reset as a segment
@@ -27,7 +26,7 @@ pub(crate) fn print_lets(
     names: &[String],
     lets: &[Decl],
     classes: &[Class],
-) -> Result<(), AllocError>
+) -> Result<(), Want>
     requires { length classes.now ≡ length lets.now }
     ensures { OnOk result (string_bytes out.new ≡ string_bytes out.old ++ let_lines line names.now lets.now classes.now) }
 {
@@ -37,7 +36,7 @@ pub(crate) fn print_lets(
     Ok(())
 }
 
-fn print_let(out: &mut String, line: Line, name: &str, class: Class) -> Result<(), AllocError>
+fn print_let(out: &mut String, line: Line, name: &str, class: Class) -> Result<(), Want>
     ensures { OnOk result (string_bytes out.new ≡ string_bytes out.old ++ let_line line name.now class) }
 {
     match line {
@@ -45,7 +44,7 @@ fn print_let(out: &mut String, line: Line, name: &str, class: Class) -> Result<(
             out.push_str("local ")?;
             out.push_str(name)?;
             out.push_str(" ")?;
-            out.push_str(class_words(class))
+            Ok(out.push_str(class_words(class))?)
         }
         Line::Receive => print_carried(out, "receive ", name, class),
         Line::Reset => print_reduced(out, "reset ", name, class),
@@ -59,14 +58,14 @@ fn print_carried(
     keyword: &str,
     name: &str,
     class: Class,
-) -> Result<(), AllocError>
+) -> Result<(), Want>
     ensures { OnOk result (string_bytes out.new ≡ string_bytes out.old ++ carried_line keyword.now name.now class) }
 {
     match class {
         Class::Carried => {
             out.push_str(keyword)?;
             out.push_str(name)?;
-            out.push_str(" ;\n")
+            Ok(out.push_str(" ;\n")?)
         }
         Class::Constant | Class::Reduced(_) => Ok(()),
     }
@@ -77,7 +76,7 @@ fn print_reduced(
     keyword: &str,
     name: &str,
     class: Class,
-) -> Result<(), AllocError>
+) -> Result<(), Want>
     ensures { OnOk result (string_bytes out.new ≡ string_bytes out.old ++ reduced_line keyword.now name.now class) }
 {
     match class {
@@ -86,7 +85,7 @@ fn print_reduced(
             out.push_str(name)?;
             out.push_str(" ")?;
             out.push_str(combine_word(op))?;
-            out.push_str(";\n")
+            Ok(out.push_str(";\n")?)
         }
         Class::Constant | Class::Carried => Ok(()),
     }

@@ -50,14 +50,14 @@ vertex dist parent
 2 1 0
 3 2 1
 $ run p g --machines 1
-first into_one Done
+first three-into-one Done
 vertex pick
 0 1
 1 0
 2 -1
 3 -1
 $ run p g --machines 2 --rounds
-first into_one Done
+first three-into-one Done
 round 1 dense 4 4 2
 vertex pick
 0 1
@@ -65,19 +65,19 @@ vertex pick
 2 -1
 3 -1
 $ run p g --vertices 0 --machines 4 --rounds
-bfs nothing Done
+bfs empty Done
 vertex dist parent
 $ run p g --machines 1 --rounds
 bfs remark Done
 vertex dist parent
 $ run p g --vertices 1 --machines 16 --rounds
-k nothing Done
+k empty Done
 round 1 dense 1 0 0
 round 2 dense 1 0 0
 vertex alive
 0 false
 $ run p g --vertices 1 --machines 64 --rounds
-k nothing Done
+k empty Done
 round 1 dense 1 0 0
 round 2 dense 1 0 0
 vertex alive
@@ -97,7 +97,7 @@ vertex pick
 2 -1
 3 -1
 $ run p g --both --machines 1 --rounds
-k tailed Done
+k triangle-with-tail Done
 round 1 dense 4 8 7
 round 2 dense 1 1 6
 vertex alive
@@ -106,7 +106,7 @@ vertex alive
 2 true
 3 false
 $ run p g --both --machines 3 --rounds
-k tailed Done
+k triangle-with-tail Done
 round 1 dense 4 8 7
 round 2 dense 1 1 7
 vertex alive
@@ -115,14 +115,14 @@ vertex alive
 2 true
 3 false
 $ run p g --machines 3 --rounds
-sum weighted Done
+sum weighted-cycle Done
 round 1 dense 3 4 4
 vertex mass
 0 -3
 1 5
 2 11
 $ run p g --machines 1
-sum weighted Done
+sum weighted-cycle Done
 vertex mass
 0 -3
 1 5
@@ -141,49 +141,49 @@ vertex mass
 2 1
 3 2
 $ run p g --machines 3
-wrap two_into_one Done
+wrap two-into-one Done
 vertex x
 0 9223372036854775807
 1 1
 2 -9223372036854775808
 $ run p g --machines 1
-zero one Done
+zero one-edge Done
 vertex a
 0 false
 1 true
 $ run p g --machines 2
-zero one Done
+zero one-edge Done
 vertex a
 0 false
 1 true
 $ run p g --machines 1
-heavy heavy_into_one Done
+heavy weighted-into-one Done
 vertex pick
 0 -1
 1 9
 2 -1
 $ run p g --machines 2
-heavy heavy_into_one Done
+heavy weighted-into-one Done
 vertex pick
 0 -1
 1 4
 2 -1
 $ run p g --vertices 1 --machines 1 --draws 42
-dice nothing Done
+dice empty Done
 vertex d
 0 2707161783
 $ run p g --machines 1 --draws 7
-sample one Done
+sample one-edge Done
 vertex pick
 0 -1
 1 0
 $ run p g --machines 2
-sample one Done
+sample one-edge Done
 vertex pick
 0 -1
 1 0
 $ run p g --machines 1
-sample into_one Done
+sample three-into-one Done
 vertex pick
 0 1
 1 2
@@ -209,7 +209,7 @@ vertex c
 
 /// Runs with their reads.
 pub(super) static READS: &str = "$ run p g --machines 2 --reads
-first into_one Done
+first three-into-one Done
 read 1 0 1
 read 1 1 2
 vertex pick
@@ -243,7 +243,7 @@ vertex dist parent
 2 1 0
 3 2 1
 $ run p g --both --machines 3 --rounds --reads
-k tailed Done
+k triangle-with-tail Done
 round 1 dense 4 8 7
 read 1 0 2 3
 read 1 1 2 0
@@ -277,7 +277,7 @@ step 0 machine 1 chunk 0
 step 1 machine 0 chunk 0
 step 1 machine 1 chunk 1
 $ plan --machines=1 g --vertices 3
-bfs nothing Done
+bfs empty Done
 chunk 0 0 3
 step 0 machine 0 chunk 0
 ";
@@ -345,6 +345,9 @@ bfs diamond Usage
 symple: unknown command
 $ record p g s
 bfs diamond Usage
+symple: bad arguments
+$ record p g s --machines 1 --seed 1
+bfs diamond Usage
 symple: unknown command
 $ run p g
 bfs diamond Usage
@@ -398,3 +401,31 @@ $ free p --rounds
 bfs diamond Usage
 symple: bad arguments
 ";
+
+/// Loads that fail: behind the status stands the call of the shelf.
+pub(super) static FAILURES: &str = "$ run p g --machines 1
+bfs diamond ReadFault 2
+symple: cannot read p
+$ run p g --machines 1
+bfs diamond ReadFault 3
+symple: cannot read g
+$ show p
+bfs diamond ReadFault 2
+symple: cannot read p
+$ free p
+bfs diamond ReadFault 2
+symple: cannot read p
+$ plan g --machines 2
+bfs diamond ReadFault 2
+symple: cannot read g
+$ run p g --machines 1
+dust diamond BadProgram 3
+symple: program: Y1 at 8:12
+";
+
+/// Lines whose puts fail in turn.
+pub(super) static FAILING: &str = "run p g --machines 1 --rounds
+run p g --machines 1 --reads
+plan g --machines 2
+show p
+free p";

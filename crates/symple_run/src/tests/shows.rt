@@ -2,7 +2,7 @@
 
 /// Programs with how their loops are split.
 pub(super) static SHOWS: &str = "$ show p
-k nothing Done
+k empty Done
 vertex 1 ;
 mode dense ;
 limit 100 ;
@@ -52,7 +52,7 @@ emit weak 1 ;
 }
 }
 $ show p
-bfs nothing Done
+bfs empty Done
 vertex 1 ;
 mode auto ;
 limit 100 ;
@@ -96,7 +96,7 @@ update claim first ;
 tail {
 }
 $ show p
-dense_only nothing Done
+dense_only empty Done
 vertex 1 ;
 mode dense ;
 limit 100 ;
@@ -134,7 +134,7 @@ update claim first ;
 tail {
 }
 $ show p
-dice nothing Done
+dice empty Done
 vertex 1 ;
 mode dense ;
 limit 0 ;
@@ -156,7 +156,7 @@ give {
 tail {
 }
 $ show p
-eight nothing Done
+every-class empty Done
 vertex 2 ;
 mode auto ;
 limit 12 ;
@@ -300,7 +300,7 @@ low = 0 ;
 }
 }
 $ show p
-first nothing Done
+first empty Done
 vertex 1 ;
 mode dense ;
 limit 1 ;
@@ -331,7 +331,7 @@ update seen first ;
 tail {
 }
 $ show p
-first0 nothing Done
+first0 empty Done
 vertex 1 ;
 mode dense ;
 limit 0 ;
@@ -362,7 +362,7 @@ update seen first ;
 tail {
 }
 $ show p
-halve nothing Done
+halve empty Done
 vertex 2 ;
 mode dense ;
 limit 10 ;
@@ -392,7 +392,7 @@ update a sum ;
 tail {
 }
 $ show p
-heavy nothing Done
+heavy empty Done
 vertex 1 ;
 mode dense ;
 limit 1 ;
@@ -421,7 +421,7 @@ update seen first ;
 tail {
 }
 $ show p
-sample nothing Done
+sample empty Done
 vertex 1 ;
 mode dense ;
 limit 1 ;
@@ -463,7 +463,7 @@ update seen first ;
 tail {
 }
 $ show p
-sparse_only nothing Done
+sparse-only empty Done
 vertex 1 ;
 mode sparse ;
 limit 2 ;
@@ -479,7 +479,7 @@ a += s . value ;
 }
 no dense
 $ show p
-sum nothing Done
+sum empty Done
 vertex 1 ;
 mode dense ;
 limit 1 ;
@@ -512,7 +512,7 @@ tail {
 emit acc s ;
 }
 $ show p
-wrap nothing Done
+wrap empty Done
 vertex 1 ;
 mode dense ;
 limit 1 ;
@@ -541,7 +541,7 @@ update acc sum ;
 tail {
 }
 $ show p
-zero nothing Done
+zero empty Done
 vertex 1 ;
 mode dense ;
 limit 1 ;
@@ -568,7 +568,7 @@ update z sum ;
 tail {
 }
 $ show p
-two_sorts nothing Done
+two-sorts empty Done
 vertex 1 ;
 mode auto ;
 limit 2 ;
@@ -614,52 +614,52 @@ emit s c ;
 
 /// Whether rows depend on the order of neighbours.
 pub(super) static FREES: &str = "$ free p
-k nothing Done
+k empty Done
 free reach-a-count
 $ free p
-sum nothing Done
+sum empty Done
 free reductions
 $ free p
-bfs nothing Done
+bfs empty Done
 not free: first slot claim
 $ free p
-by_weight nothing Done
+by_weight empty Done
 not free: loop
 $ free p
-dice nothing Done
+dice empty Done
 free reductions
 $ free p
-first nothing Done
+first empty Done
 not free: first slot seen
 $ free p
-first0 nothing Done
+first0 empty Done
 not free: first slot seen
 $ free p
-halve nothing Done
+halve empty Done
 free reductions
 $ free p
-heavy nothing Done
+heavy empty Done
 not free: first slot seen
 $ free p
-sample nothing Done
+sample empty Done
 not free: first slot seen
 $ free p
-wrap nothing Done
+wrap empty Done
 free reductions
 $ free p
-zero nothing Done
+zero empty Done
 free reductions
 $ free p
-sparse_only nothing Done
+sparse-only empty Done
 free no-loop
 $ free p
-two_sorts nothing Done
+two-sorts empty Done
 not free: first slot o
 $ free p
-eight nothing Done
+every-class empty Done
 not free: first slot one
 $ free p
-dense_only nothing Done
+dense_only empty Done
 not free: first slot claim
 ";
 

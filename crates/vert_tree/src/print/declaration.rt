@@ -9,7 +9,7 @@ use crate::{Decl, SlotDecl, TotalDecl};
 use std::alloc::AllocError;
 
 /// Appends the lines of fields, lets or sends. `keyword` has the space behind it.
-pub fn print_declarations(
+pub(crate) fn print_declarations(
     out: &mut String,
     names: &[String],
     keyword: &str,

@@ -10,7 +10,7 @@ use std::alloc::AllocError;
 
 /// Appends the lines of some statements.
 #[cycle(statements)]
-pub fn print_block(
+pub(crate) fn print_block(
     out: &mut String,
     names: &[String],
     statements: &[Stmt],

@@ -1,4 +1,4 @@
-use Rattle.body_shape.proofs.RefreshLaws.{form_flagged, refresh_back, refresh_fits, refresh_in_place, refresh_spelled, refresh_suits}
+use Rattle.body_shape.proofs.RefreshLaws.{form_flagged, refresh_back, refresh_fits, refresh_grows, refresh_in_place, refresh_spelled, refresh_suits}
 use Rattle.body_shape.proofs.laws.refresh_reads_back.Goals as goal
 
 pub returns-clause-back : goal.returns-clause-back
@@ -18,3 +18,6 @@ returns-clause-placed c = refresh_in_place
 
 pub returns-clause-flagged : goal.returns-clause-flagged
 returns-clause-flagged c = form_flagged
+
+pub returns-clause-grows : goal.returns-clause-grows
+returns-clause-grows c = refresh_grows

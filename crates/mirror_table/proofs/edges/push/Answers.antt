@@ -1,5 +1,5 @@
 -- The edges of the chunk's vertices, put in order, are the list by its definition.
-use Rattle.std.proofs.Common.{◌≡◌, ◌<◌, ◌-◌, ◌∙◌, ℕ, List, ap, length, sym, subst}
+use Rattle.std.proofs.Common.{◌≡◌, ◌<◌, ◌-◌, ◌∙◌, ℕ, List, ap, arith, length, refl, sym, subst}
 use Rattle.std.specs.Prelude.{slice_index}
 use Rattle.std.specs.List.{All, flat_map, range_with_len}
 use Rattle.std.specs.List.Sorted.{IsNonDecreasingBy}
@@ -9,6 +9,8 @@ use Rattle.vert_base.specs.Neighbours.{AreBelow, source, target, in_order, ins_o
 use Rattle.chunk_split.specs.Chunks.{AreEnds, vertices_of}
 use Rattle.circulant_plan.specs.Ring.{start_of}
 use Rattle.symple_face.specs.PartsOf.{push_of}
+use Rattle.graph_table.proofs.StartLaws.{start_all}
+use Rattle.mirror_table.proofs.FewLaws.{push_few}
 use Rattle.symple_face.proofs.ChunkLaws.{same_start}
 use Rattle.mirror_table.proofs.PartsMade.{gathered_all, push_below, push_made, push_rises}
 use Rattle.mirror_table.proofs.edges.push.Goals as goal
@@ -19,8 +21,8 @@ gathered n edges list vs below is =
     (All-from_recursion (λ e. source e < n) (flat_map (ins_of n edges) vs)
     (gathered_all (λ e. source e < n) source target n edges vs (recursion_from_All (λ e. source e < n) edges (λ k d lt. (below k d lt).0))))
 
-pub put_in_order-requires : goal.put_in_order-requires
-put_in_order-requires c =
+pub put_in_order-requires-clause-below : goal.put_in_order-requires-clause-below
+put_in_order-requires-clause-below c =
     let n = c.args.table.now.vertices in
     let edges = c.args.table.now.list in
     let list = c.in_ok-list.list.items in
@@ -37,6 +39,22 @@ made n v first last m ends edges list new are here whole size below start end ga
     ∙ (ap (in_order source (vertices_of ends)) (gathered ∙ (ap (λ q. flat_map (ins_of q edges) (range_with_len first (last - first))) (sym whole) ∙ (ap (λ q. flat_map (ins_of (vertices_of ends) edges) (range_with_len q (last - q))) start ∙ ap (λ q. flat_map (ins_of (vertices_of ends) edges) (range_with_len (start_of ends m) (q - start_of ends m))) end)))
     ∙ push_made 64 ends edges are below' m here))
 
+pub put_in_order-requires-clause-few : goal.put_in_order-requires-clause-few
+put_in_order-requires-clause-few c =
+    let ends = c.args.cuts.now in
+    let edges = c.args.table.now.list in
+    let m = c.args.m in
+    let list = c.in_ok-list.list.items in
+    let v = c.vertices.result in
+    let are : AreEnds 64 ends = subst (λ (q : List ℕ). AreEnds 64 q) c.ends-ends.ensures.value c.ends-ends.ensures.ends in
+    let below : AreBelow (vertices_of ends) edges = subst (λ (q : ℕ). AreBelow q edges) (c.vertices.ensures.value ∙ sym c.requires.whole) c.vertices.ensures.below in
+    let is : in_order source v list ≡ push_of ends edges m =
+    made c.args.table.now.vertices v c.start.result c.end.result m ends edges list (in_order source v list) are c.requires.machine c.requires.whole c.vertices.ensures.value c.vertices.ensures.below
+    (c.start.ensures ∙ sym (same_start ends m)) c.end.ensures.value c.in_ok-list.ensures refl in
+    let known : AreBelow c.args.table.now.vertices edges = subst (λ (q : ℕ). AreBelow q edges) c.vertices.ensures.value c.vertices.ensures.below in
+    let keys : All (λ e. source e < v) list = subst (λ (q : ℕ). All (λ e. source e < q) list) (sym c.vertices.ensures.value) (gathered c.args.table.now.vertices edges list _ known c.in_ok-list.ensures) in
+    omega (arith, start_all source v list keys, ap length is, push_few ends edges m below, c.edges-edges.ensures.value, c.edges-edges.ensures.within)
+
 pub returns : goal.returns
 returns c =
     let ends = c.args.cuts.now in
@@ -47,7 +65,7 @@ returns c =
     let below : AreBelow (vertices_of ends) edges = subst (λ (q : ℕ). AreBelow q edges) (c.vertices.ensures.value ∙ sym c.requires.whole) c.vertices.ensures.below in
     let is : new ≡ push_of ends edges m =
     made c.args.table.now.vertices c.vertices.result c.start.result c.end.result m ends edges c.in_ok-list.list.items new are c.requires.machine c.requires.whole c.vertices.ensures.value c.vertices.ensures.below
-    (c.start.ensures ∙ sym (same_start ends m)) c.end.ensures.value c.in_ok-list.ensures c.in_ok-put_in_order.ensures in
+    (c.start.ensures ∙ sym (same_start ends m)) c.end.ensures.value c.in_ok-list.ensures c.in_ok-put_in_order.ensures.order in
     record {
       list = is;
       order = subst (λ (es : List Edge). IsNonDecreasingBy source es) (sym is) (push_rises 64 ends edges are below m c.requires.machine);

@@ -1,4 +1,4 @@
-use Rattle.program_reader.proofs.AcceptLaws.{has_one_refusal, is_decided, says_none_refused, says_one_tree}
+use Rattle.program_reader.proofs.AcceptLaws.{accepted_is_unrefused, has_one_refusal, is_decided, said_is_accepted, says_none_refused, says_one_tree}
 use Rattle.program_reader.proofs.laws.accepted_once.Goals as goal
 
 pub returns-clause-tree : goal.returns-clause-tree
@@ -12,3 +12,9 @@ returns-clause-never_both c = says_none_refused
 
 pub returns-clause-decided : goal.returns-clause-decided
 returns-clause-decided c = is_decided
+
+pub returns-clause-said : goal.returns-clause-said
+returns-clause-said c = said_is_accepted
+
+pub returns-clause-unrefused : goal.returns-clause-unrefused
+returns-clause-unrefused c = accepted_is_unrefused

@@ -1,16 +1,13 @@
-use Rattle.std.proofs.Common.{codes, sym, ap, ◌∙◌}
+use Rattle.std.proofs.Common.{List, ℕ, sym, ap, ◌∙◌}
 use Rattle.array_text.proofs.WritesLaws.{writes_same}
 use Rattle.symple_run.specs.declared.failure.Failure.{Failure}
 use Rattle.symple_run.specs.Faults.{fault_of}
-use Rattle.symple_run.specs.Notes.{note_text}
-use Rattle.symple_run.proofs.LineLaws.{same_name}
+use Rattle.symple_run.specs.Notes.{NoLoad, note_text}
 use Rattle.symple_run.proofs.failure.write_note.Goals as goal
 
 pub returns-in-Load : goal.returns-in-Load
 returns-in-Load g c =
-    writes_same
-    (same_name (codes "symple: cannot read ") _ _ c.as_bytes.ensures.value ∙ ap (λ (f : Failure). note_text (fault_of f)) (sym c.in-Load.is))
-    c.put_pieces.ensures
+    writes_same (ap (λ (n : List ℕ). note_text (NoLoad n)) c.deref.ensures ∙ ap (λ (f : Failure). note_text (fault_of f)) (sym c.in-Load.is)) c.write_unread.ensures
 
 pub returns-in-Program : goal.returns-in-Program
 returns-in-Program g c = writes_same (ap (λ (f : Failure). note_text (fault_of f)) (sym c.in-Program.is)) c.write_refusal.ensures

@@ -1,21 +1,23 @@
-use Rattle.std.proofs.Common.{refl, subst}
-use Rattle.symple_run.proofs.EndLaws.{free_ends, free_without_program}
-use Rattle.symple_run.specs.Answers.{Change}
-use Rattle.symple_run.specs.Endings.{Plays}
+use Rattle.std.proofs.Common.{subst}
+use Rattle.std.proofs.lemmas.Result.{err_from_is_err_and}
+use Rattle.symple_run.specs.Orders.{Ends, Puts}
 use Rattle.symple_run.specs.Outputs.{free_text}
+use Rattle.symple_run.specs.SourceRuns.{IsSourceRun}
+use Rattle.symple_run.specs.States.{sink_state}
+use Rattle.symple_run.specs.Walks.{Plays}
+use Rattle.symple_run.proofs.WalkLaws.{program_goes, program_stops, put_ends}
 use Rattle.vert_tree.specs.declared.typed.Typed.{Typed}
 use Rattle.symple_run.proofs.freedom.tell_freedom.Goals as goal
 
-pub returns-clause-ends : goal.returns-clause-ends
-returns-clause-ends g c =
-    let out : Change = record {
-      held = g.O.Sink.held c.args.out.now;
-      held_after = g.O.Sink.held c.put_freedom.new.out;
-      faults = g.O.Sink.faults c.args.out.now;
-      faults_after = g.O.Sink.faults c.put_freedom.new.out;
-    } in
-    let P : Typed → Type 0 = λ typed. Plays (free_text typed.program) out c.put_freedom.result in
-    free_ends _ c.args.name.now _ _ _ c.in-Ok.typed c.in-Ok.ensures.program c.put_freedom.result (subst P c.split_of.ensures c.put_freedom.ensures)
+pub returns-in_err-typed-clause-order : goal.returns-in_err-typed-clause-order
+returns-in_err-typed-clause-order g c =
+    let p = err_from_is_err_and c.from_residual.result c.from_residual.ensures.1 in
+    rw (p.1, p.2) (λ input. program_stops IsSourceRun _ _ c.args.name.now _ c.in_err-typed.ensures.program (λ program. Puts (free_text program) Ends) _ input)
 
-pub returns-in-Err-clause-ends : goal.returns-in-Err-clause-ends
-returns-in-Err-clause-ends g c = free_without_program _ _ _ _ refl c.args.name.now c.in-Err.failure c.in-Err.ensures.program
+pub returns-clause-order : goal.returns-clause-order
+returns-clause-order g c =
+    let old = sink_state g.O.Sink.held g.O.Sink.faults g.O.Sink.spare c.args.out.now in
+    let new = sink_state g.O.Sink.held g.O.Sink.faults g.O.Sink.spare c.tell.new.out in
+    let P : Typed → Type 0 = λ typed. Plays (free_text typed.program) old new c.tell.result in
+    λ input. program_goes IsSourceRun _ _ c.args.name.now c.in_ok-typed.typed c.in_ok-typed.ensures.program (λ program. Puts (free_text program) Ends) old input _ _
+    (put_ends IsSourceRun (free_text c.in_ok-typed.typed.program) old new c.tell.result (subst P c.split_of.ensures c.tell.ensures) _ input)

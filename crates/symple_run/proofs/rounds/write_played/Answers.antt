@@ -5,10 +5,10 @@ use Rattle.array_text.proofs.WritesLaws.{writes_failed, writes_then}
 use Rattle.symple_run.specs.Outputs.{read_lines}
 use Rattle.symple_run.proofs.rounds.write_played.Goals as goal
 
-pub returns-in-Ok : goal.returns-in-Ok
-returns-in-Ok g c = writes_then _ c.in-Ok.ensures c.write_sources.ensures
+pub returns : goal.returns
+returns g c = writes_then _ c.in_ok-write_report.ensures c.write_sources.ensures
 
-pub returns-in-Err : goal.returns-in-Err
-returns-in-Err g c =
+pub returns-in_err-write_report : goal.returns-in_err-write_report
+returns-in_err-write_report g c =
     let played = c.args.played.now in
-    writes_failed (if c.args.lines.now.reads then read_lines played.round 0 (id_lists_of played.reads) else []) (Err c.in-Err.fault) refl c.in-Err.ensures
+    writes_failed (if c.args.lines.now.reads then read_lines played.round 0 (id_lists_of played.reads) else []) c.from_residual.result c.from_residual.ensures.0 c.in_err-write_report.ensures

@@ -7,15 +7,15 @@ use Rattle.symple_run.proofs.RoundLaws.{held_line, held_lines, reads_numbered}
 use Rattle.vert_base.specs.declared.graph.VertexId.{VertexId}
 use Rattle.symple_run.proofs.rounds.write_read_lines.Goals as goal
 
-pub returns-in-Err : goal.returns-in-Err
-returns-in-Err g c =
+pub returns-in_err-write_read_line : goal.returns-in_err-write_read_line
+returns-in_err-write_read_line g c =
     let round = c.args.round in
     let helds = c.args.reads.now in
     let v = c.vertices.v in
     let line : List VertexId → List ℕ = λ sources. read_line round v (ids_of sources) in
     writes_same
     (numbered_split (reads_numbered round) helds v c.index-reads-v.result (line c.deref.result.now) (omega arith) (ap line c.deref.ensures.value ∙ ap (held_line round v) c.index-reads-v.is))
-    (writes_failed (held_lines round (v + 1) (drop (v + 1) helds)) (Err c.in-Err.fault) refl (writes_then _ c.vertices.invariant c.in-Err.ensures))
+    (writes_failed (held_lines round (v + 1) (drop (v + 1) helds)) c.from_residual.result c.from_residual.ensures.0 (writes_then _ c.vertices.invariant c.in_err-write_read_line.ensures))
 
 pub vertices-preserved : goal.vertices-preserved
 vertices-preserved g c =
@@ -25,4 +25,4 @@ vertices-preserved g c =
     let line : List VertexId → List ℕ = λ sources. read_line round v (ids_of sources) in
     writes_same
     (numbered_more (reads_numbered round) helds v c.index-reads-v.result (line c.deref.result.now) (omega arith) (ap line c.deref.ensures.value ∙ ap (held_line round v) c.index-reads-v.is))
-    (writes_then _ c.vertices.invariant c.in-Ok.ensures)
+    (writes_then _ c.vertices.invariant c.in_ok-write_read_line.ensures)

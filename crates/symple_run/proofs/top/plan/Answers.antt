@@ -1,17 +1,21 @@
-use Rattle.std.proofs.Common.{List, ℕ, Ok, Err, refl, subst}
-use Rattle.symple_run.proofs.EndLaws.{plan_ends, plan_without_graph}
-use Rattle.symple_run.specs.Loads.{GivesGraph}
-use Rattle.symple_run.specs.Reads.{plan_view}
+use Rattle.std.proofs.lemmas.Result.{err_from_is_err_and}
+use Rattle.edge_reader.specs.Gives.{graph_of_edges}
+use Rattle.symple_run.specs.Orders.{Ends, Puts}
+use Rattle.symple_run.specs.Outputs.{plan_text}
+use Rattle.symple_run.specs.SourceRuns.{IsSourceRun}
+use Rattle.symple_run.specs.States.{shelf_state, sink_state}
+use Rattle.symple_run.proofs.WalkLaws.{graph_goes, graph_stops, put_ends}
 use Rattle.symple_run.proofs.top.plan.Goals as goal
 
-pub returns-in-Err-clause-ends : goal.returns-in-Err-clause-ends
-returns-in-Err-clause-ends g c =
-    let Q : List ℕ → Type 0 = λ name.
-    GivesGraph (g.H.Shelf.files c.args.shelf.now) (g.H.Shelf.loads c.args.shelf.now) (g.H.Shelf.loads c.load_graph.new.shelf) c.args.line.now.form name (Err c.in-Err.failure) in
-    plan_without_graph _ (plan_view c.args.line.now) _ _ _ refl c.in-Err.failure (subst Q c.deref.ensures c.in-Err.ensures.graph)
+pub returns-in_err-edges-clause-order : goal.returns-in_err-edges-clause-order
+returns-in_err-edges-clause-order g c =
+    let p = err_from_is_err_and c.from_residual.result c.from_residual.ensures.1 in
+    rw (p.1, p.2) (λ input. graph_stops IsSourceRun _ _ c.args.form.now c.args.name.now _ c.in_err-edges.ensures.graph (λ graph. Puts (plan_text c.args.machines graph) Ends) _ input)
 
-pub returns-clause-ends : goal.returns-clause-ends
-returns-clause-ends g c =
-    let Q : List ℕ → Type 0 = λ name.
-    GivesGraph (g.H.Shelf.files c.args.shelf.now) (g.H.Shelf.loads c.args.shelf.now) (g.H.Shelf.loads c.load_graph.new.shelf) c.args.line.now.form name (Ok c.in-Ok.edges) in
-    plan_ends _ (plan_view c.args.line.now) _ _ _ c.in-Ok.edges (subst Q c.deref.ensures c.in-Ok.ensures.graph) c.lay_out.result c.lay_out.ensures
+pub returns-clause-order : goal.returns-clause-order
+returns-clause-order g c =
+    let out = sink_state g.O.Sink.held g.O.Sink.faults g.O.Sink.spare c.args.out.now in
+    let after = sink_state g.O.Sink.held g.O.Sink.faults g.O.Sink.spare c.lay_out.new.out in
+    let graph = graph_of_edges c.in_ok-edges.edges in
+    λ input. graph_goes IsSourceRun _ _ c.args.form.now c.args.name.now graph c.in_ok-edges.ensures.graph (λ graph. Puts (plan_text c.args.machines graph) Ends) out input _ _
+    (put_ends IsSourceRun (plan_text c.args.machines graph) out after c.lay_out.result c.lay_out.ensures _ input)

@@ -1,12 +1,16 @@
 use Rattle.std.proofs.Common.{rules, List, sym, subst}
+use Rattle.std.proofs.lemmas.Result.{err_from_is_err_and}
 use Rattle.plain_run.specs.Jobs.{plain_job}
 use Rattle.plain_run.specs.Told.{Told}
 use Rattle.symple_run.specs.Outputs.{AreFew}
 use Rattle.symple_run.proofs.ReadLaws.{run_few}
 use Rattle.symple_run.proofs.top.play.Goals as goal
 
-pub write_run-requires-clause-reads : goal.write_run-requires-clause-reads
-write_run-requires-clause-reads g c =
+pub put_run-requires-clause-reads : goal.put_run-requires-clause-reads
+put_run-requires-clause-reads g c =
     let P : List Told → Type 0 = λ tolds. AreFew tolds in
-    let job = plain_job c.args.split.now.program.program c.args.edges.now.vertices c.ends.result.now c.deref.result.now c.args.line.now.job.draws in
-    subst P (sym c.in-Ok-run_plainly.ensures.rounds) (run_few job (record { vertices = search rules; edges = search rules; below = search rules }))
+    let job = plain_job c.args.split.now.program.program c.args.edges.now.vertices c.ends.result.now c.deref.result.now c.args.job.now.draws in
+    subst P (sym c.in_ok-played.ensures.rounds) (run_few job (record { vertices = search rules; edges = search rules; below = search rules }))
+
+pub returns-in_err-put_run : goal.returns-in_err-put_run
+returns-in_err-put_run g c = let p = err_from_is_err_and c.from_residual-in_err-put_run.result c.from_residual-in_err-put_run.ensures.1 in rw (p.1, p.2) (search rules)

@@ -1,38 +1,61 @@
-use Rattle.std.proofs.Common.{List, ℕ, Ok, Err, refl, subst}
+use Rattle.std.proofs.Common.{List, ℕ, Ok, Err, subst}
+use Rattle.std.proofs.lemmas.Result.{err_from_is_err_and}
+use Rattle.edge_reader.specs.EdgeList.{Graph}
 use Rattle.edge_reader.specs.Gives.{graph_of_edges}
-use Rattle.symple_run.proofs.EndLaws.{run_ends, run_without_graph, run_without_program}
-use Rattle.symple_run.specs.Answers.{Change}
-use Rattle.symple_run.specs.Endings.{Plays}
-use Rattle.symple_run.specs.Loads.{GivesGraph, GivesProgram}
-use Rattle.symple_run.specs.Outputs.{run_text}
-use Rattle.symple_run.specs.Reads.{run_view}
+use Rattle.symple_run.specs.Commands.{play_of, with_graph}
+use Rattle.symple_run.specs.Faults.{fault_of}
+use Rattle.symple_run.specs.Orders.{Order, Runs, follows}
+use Rattle.symple_run.specs.Outputs.{play_text}
+use Rattle.symple_run.specs.SourceRuns.{IsSourceRun}
+use Rattle.symple_run.specs.States.{shelf_state, sink_state}
+use Rattle.symple_run.specs.Walks.{GivesGraph, GivesProgram, Plays}
+use Rattle.symple_run.proofs.WalkLaws.{graph_goes, graph_stops, program_goes, program_stops, run_ends}
+use Rattle.symple_words.specs.Views.{job_view}
+use Rattle.vert_tree.specs.declared.program.Program.{Program}
 use Rattle.vert_tree.specs.declared.typed.Typed.{Typed}
 use Rattle.symple_run.proofs.top.run.Goals as goal
 
-pub returns-in-Err-clause-ends : goal.returns-in-Err-clause-ends
-returns-in-Err-clause-ends g c =
-    let P : List ℕ → Type 0 = λ name. GivesProgram (g.H.Shelf.files c.args.shelf.now) (g.H.Shelf.loads c.args.shelf.now) (g.H.Shelf.loads c.load_program.new.shelf) name (Err c.in-Err.failure) in
-    run_without_program _ _ _ _ refl (run_view c.args.line.now) c.in-Err.failure (subst P c.deref.ensures c.in-Err.ensures.program)
+pub returns-in_err-typed-clause-order : goal.returns-in_err-typed-clause-order
+returns-in_err-typed-clause-order g c =
+    let job = job_view c.args.job.now in
+    let next : Program → Order = λ program. with_graph job.form job.graph (λ graph. Runs (play_of job c.args.machines program graph) follows) in
+    let P : List ℕ → Type 0 = λ name.
+    GivesProgram (shelf_state g.H.Shelf.files g.H.Shelf.loads g.H.Shelf.stores c.args.shelf.now)
+    (shelf_state g.H.Shelf.files g.H.Shelf.loads g.H.Shelf.stores c.load_program.new.shelf) name (Err c.in_err-typed.field-0.0) in
+    let p = err_from_is_err_and c.from_residual.result c.from_residual.ensures.1 in
+    rw (p.1, p.2) (λ input. program_stops IsSourceRun _ _ job.program _ (subst P c.deref.ensures c.in_err-typed.ensures.program) next _ input)
 
-pub returns-in-Err-load_graph-clause-ends : goal.returns-in-Err-load_graph-clause-ends
-returns-in-Err-load_graph-clause-ends g c =
-    let P : List ℕ → Type 0 = λ name. GivesProgram (g.H.Shelf.files c.args.shelf.now) (g.H.Shelf.loads c.args.shelf.now) (g.H.Shelf.loads c.load_program.new.shelf) name (Ok c.in-Ok.typed) in
-    let Q : List ℕ → Type 0 = λ name.
-    GivesGraph (g.H.Shelf.files c.load_program.new.shelf) (g.H.Shelf.loads c.load_program.new.shelf) (g.H.Shelf.loads c.load_graph.new.shelf) c.args.line.now.job.form name (Err c.in-Err-load_graph.failure) in
-    run_without_graph _ _ (run_view c.args.line.now) _ _ _ _ c.in-Ok.typed c.load_program.ensures.files (subst P c.deref.ensures c.in-Ok.ensures.program) refl c.load_program.ensures.later
-    c.in-Err-load_graph.failure (subst Q c.deref-2.ensures c.in-Err-load_graph.ensures.graph)
+pub returns-in_err-edges-clause-order : goal.returns-in_err-edges-clause-order
+returns-in_err-edges-clause-order g c =
+    let job = job_view c.args.job.now in
+    let machines = c.args.machines in
+    let next : Program → Order = λ program. with_graph job.form job.graph (λ graph. Runs (play_of job machines program graph) follows) in
+    let old = shelf_state g.H.Shelf.files g.H.Shelf.loads g.H.Shelf.stores c.args.shelf.now in
+    let mid = shelf_state g.H.Shelf.files g.H.Shelf.loads g.H.Shelf.stores c.load_program.new.shelf in
+    let new = shelf_state g.H.Shelf.files g.H.Shelf.loads g.H.Shelf.stores c.load_graph.new.shelf in
+    let typed = c.in_ok-typed.typed in
+    let P : List ℕ → Type 0 = λ name. GivesProgram old mid name (Ok typed) in
+    let Q : List ℕ → Type 0 = λ name. GivesGraph mid new job.form name (Err c.in_err-edges.field-0.0) in
+    let out = sink_state g.O.Sink.held g.O.Sink.faults g.O.Sink.spare c.args.out.now in
+    let p = err_from_is_err_and c.from_residual-in_err-edges.result c.from_residual-in_err-edges.ensures.1 in
+    rw (p.1, p.2) (λ input. program_goes IsSourceRun old mid job.program typed (subst P c.deref.ensures c.in_ok-typed.ensures.program) next out input _ _
+    (graph_stops IsSourceRun mid new job.form job.graph _ (subst Q c.deref-2.ensures c.in_err-edges.ensures.graph) (λ graph. Runs (play_of job machines typed.program graph) follows) out input))
 
-pub returns-clause-ends : goal.returns-clause-ends
-returns-clause-ends g c =
-    let P : List ℕ → Type 0 = λ name. GivesProgram (g.H.Shelf.files c.args.shelf.now) (g.H.Shelf.loads c.args.shelf.now) (g.H.Shelf.loads c.load_program.new.shelf) name (Ok c.in-Ok.typed) in
-    let Q : List ℕ → Type 0 = λ name.
-    GivesGraph (g.H.Shelf.files c.load_program.new.shelf) (g.H.Shelf.loads c.load_program.new.shelf) (g.H.Shelf.loads c.load_graph.new.shelf) c.args.line.now.job.form name (Ok c.in-Ok-load_graph.edges) in
-    let out : Change = record {
-      held = g.O.Sink.held c.args.out.now;
-      held_after = g.O.Sink.held c.play.new.out;
-      faults = g.O.Sink.faults c.args.out.now;
-      faults_after = g.O.Sink.faults c.play.new.out;
-    } in
-    let R : Typed → Type 0 = λ typed. Plays (run_text (run_view c.args.line.now) typed.program (graph_of_edges c.in-Ok-load_graph.edges)) out c.play.result in
-    run_ends _ _ (run_view c.args.line.now) _ _ _ _ c.in-Ok.typed c.in-Ok-load_graph.edges c.load_program.ensures.files (subst P c.deref.ensures c.in-Ok.ensures.program)
-    (subst Q c.deref-2.ensures c.in-Ok-load_graph.ensures.graph) c.play.result (subst R c.split_of.ensures c.play.ensures)
+pub returns-clause-order : goal.returns-clause-order
+returns-clause-order g c =
+    let job = job_view c.args.job.now in
+    let machines = c.args.machines in
+    let next : Program → Order = λ program. with_graph job.form job.graph (λ graph. Runs (play_of job machines program graph) follows) in
+    let old = shelf_state g.H.Shelf.files g.H.Shelf.loads g.H.Shelf.stores c.args.shelf.now in
+    let mid = shelf_state g.H.Shelf.files g.H.Shelf.loads g.H.Shelf.stores c.load_program.new.shelf in
+    let new = shelf_state g.H.Shelf.files g.H.Shelf.loads g.H.Shelf.stores c.load_graph.new.shelf in
+    let typed = c.in_ok-typed.typed in
+    let edges = c.in_ok-edges.edges in
+    let P : List ℕ → Type 0 = λ name. GivesProgram old mid name (Ok typed) in
+    let Q : List ℕ → Type 0 = λ name. GivesGraph mid new job.form name (Ok edges) in
+    let out = sink_state g.O.Sink.held g.O.Sink.faults g.O.Sink.spare c.args.out.now in
+    let after = sink_state g.O.Sink.held g.O.Sink.faults g.O.Sink.spare c.play.new.out in
+    let R : Typed → Type 0 = λ t. Plays (play_text (play_of job machines t.program (graph_of_edges edges))) out after c.play.result in
+    λ input. program_goes IsSourceRun old mid job.program typed (subst P c.deref.ensures c.in_ok-typed.ensures.program) next out input _ _
+    (graph_goes IsSourceRun mid new job.form job.graph (graph_of_edges edges) (subst Q c.deref-2.ensures c.in_ok-edges.ensures.graph) (λ graph. Runs (play_of job machines typed.program graph) follows) out input _ _
+    (run_ends (play_of job machines typed.program (graph_of_edges edges)) out after c.play.result (subst R c.split_of.ensures c.play.ensures) new input))
