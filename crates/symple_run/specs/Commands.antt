@@ -1,5 +1,5 @@
 -- What each command does: the order of its steps, by the line that its words are.
-use Rattle.std.specs.Prelude.{ℕ, List, Option, Some, None, Result, Ok, Err, if◌then◌else◌}
+use Rattle.std.specs.Prelude.{ℕ, List, Some, None, Result, Ok, Err, if◌then◌else◌}
 use Rattle.edge_reader.specs.declared.fault.EdgeFault.{EdgeFault}
 use Rattle.edge_reader.specs.declared.fault.EdgeFault.TheVariants.{Line as AtLine, Byte as AtByte, Want as EdgeWant}
 use Rattle.edge_reader.specs.EdgeList.{Graph}
@@ -8,7 +8,7 @@ use Rattle.edge_reader.specs.EdgeText.{reading_of_text}
 use Rattle.instrument.specs.Shown.{shown}
 use Rattle.program_reader.specs.declared.refusal.Stage.TheVariants.{Tokens}
 use Rattle.symple_run.specs.Notes.{BadByte, BadLine, BadProgram, BadWords, Fault, NoCommand, NoMemory}
-use Rattle.symple_run.specs.Orders.{Course, Ends, Judges, Loads, Order, Play, Puts, Refuses, Runs, follows}
+use Rattle.symple_run.specs.Orders.{Ends, Judges, Loads, Order, Play, Puts, Refuses, Runs, follows}
 use Rattle.symple_run.specs.Outputs.{free_text, plan_text}
 use Rattle.symple_words.specs.declared.line.GraphForm.{GraphForm}
 use Rattle.symple_words.specs.Lines as words
