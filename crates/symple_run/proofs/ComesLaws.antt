@@ -1,5 +1,5 @@
 -- Completeness: how a command comes out over told files, but for want of memory, where no count rose.
-use Rattle.std.proofs.Common.{◌≡◌, ◌⊎◌, inl, inr, ℕ, ◌+◌, ◌-◌, ◌<◌, ◌≤◌, Bool, true, false, List, Option, Some, None, length, nat_lt, refl, sym, ap, ◌∙◌, subst, arith}
+use Rattle.std.proofs.Common.{◌≡◌, ◌⊎◌, inl, inr, ℕ, ◌+◌, ◌-◌, ◌<◌, ◌≤◌, Bool, List, Option, Some, None, length, refl, sym, ap, ◌∙◌, subst, arith}
 use Rattle.std.specs.Prelude.{MatchBool, drop}
 use Rattle.std.proofs.lemmas.Bool.{le-ltb, lt-ltb}
 use Rattle.program_reader.specs.declared.refusal.Refusal.{Refusal}
@@ -7,10 +7,10 @@ use Rattle.program_reader.specs.Accepted.{Refuses as RefusesText, Says}
 use Rattle.outside.specs.Causes.{Rose}
 use Rattle.outside.specs.Files.{File, file_named, with_file}
 use Rattle.symple_run.specs.Comes.{ByFile, Fits, OfInput}
-use Rattle.symple_run.specs.Leaves.{AfterJudging, AfterLoad, AfterPut, AfterRun, AfterServing, AfterStore, AfterTry, CannotLoad, CannotServe, Done, EndsWith, Gained, HasFailed, IsAbsent, IsLong, IsMore, IsNone, IsProgram, IsRefused, IsThere, IsUnder, Leaves, Loaded, NotLoaded, NotPut, NotServed, NotStored, PutFailed, Ran, Refused, Served, Stored, TakeFailed, TryFailed, Wants, WantsAtJudging, WantsAtLoad, WantsAtPut, WantsAtRefusal, WantsAtRun, WantsAtStore, WantsAtTry, WantsToServe, after_text}
+use Rattle.symple_run.specs.Leaves.{CannotLoad, Gained, HasFailed, IsAbsent, IsLong, IsMore, IsNone, IsProgram, IsRefused, IsThere, Leaves, Loaded, NotLoaded, NotPut, NotServed, NotStored, PutFailed, Ran, Refused, Served, Stored, TakeFailed, TryFailed, Wants, WantsAtJudging, WantsAtLoad, WantsAtPut, WantsAtRefusal, WantsAtRun, WantsAtStore, WantsAtTry, WantsToServe, after_text}
 use Rattle.symple_run.specs.Notes.{BadProgram, Fault, NoLoad, NoMemory}
 use Rattle.symple_run.specs.Orders.{Course, Ends, Judges, Loads, Order, Play, Puts, Refuses, Runs, Serves, Stores, Tries}
-use Rattle.symple_run.specs.States.{Held, Kept, Left, Outside}
+use Rattle.symple_run.specs.States.{Held, Kept, Outside}
 use Rattle.vert_tree.specs.declared.program.Program.{Program}
 
 -- the order comes out so, whichever program a text says and whichever course a run takes

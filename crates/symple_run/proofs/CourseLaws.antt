@@ -1,12 +1,12 @@
 -- What stands of a run: all that it puts before its end or its refusal, or a first part of it.
-use Rattle.std.proofs.Common.{◌≡◌, ◌⊎◌, inl, inr, ℕ, List, [], ◌++◌, Option, Some, None, refl, sym, ap, ◌∙◌, subst}
+use Rattle.std.proofs.Common.{◌≡◌, inl, inr, ℕ, List, [], Option, refl, sym, ap, ◌∙◌, subst}
 use Rattle.outside.specs.Bytes.{gained, GainedPart}
 use Rattle.outside.proofs.BytesLaws.{gained-gained, gained-nothing, no_part, part_after, part_of_longer}
 use Rattle.symple_run.specs.Courses.{course_end, course_text, Stands}
-use Rattle.symple_run.specs.Leaves.{AfterPut, AfterStore, AtRefusal, Done, EndsWith, Gained, Leaves, NotPut, NotStored, Refused, Stored, Wants, WantsAtPut, WantsAtRefusal, WantsAtStore}
-use Rattle.symple_run.specs.Notes.{Fault, NoMemory, NoWrite}
+use Rattle.symple_run.specs.Leaves.{Gained, Leaves, NotPut, NotStored, Refused, Stored, Wants, WantsAtPut, WantsAtRefusal, WantsAtStore}
+use Rattle.symple_run.specs.Notes.{Fault}
 use Rattle.symple_run.specs.Orders.{Course, Fails, IsOver, Keeps, Play, Prints, follows}
-use Rattle.symple_run.specs.States.{Held, Kept, Outside}
+use Rattle.symple_run.specs.States.{Outside}
 
 same_bytes : (w new : Outside) → new ≡ w → new.out.bytes ≡ w.out.bytes
 same_bytes w new is = ap (λ (o : Outside). o.out.bytes) is

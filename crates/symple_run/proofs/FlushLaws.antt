@@ -1,5 +1,5 @@
 -- A text that is put and then handed on.
-use Rattle.std.proofs.Common.{◌≡◌, ◌+◌, ◌≤◌, ℕ, List, [], length, take, Option, Result, Ok, Err, refl, sym, ap, subst, ◌∙◌, arith}
+use Rattle.std.proofs.Common.{◌≡◌, ◌+◌, ◌≤◌, ℕ, List, [], length, take, Option, Result, Ok, Err, sym, ap, subst, ◌∙◌, arith}
 use Rattle.std.specs.Prelude.{IsErr}
 use Rattle.std.proofs.lemmas.List.{take_all}
 use Rattle.array_text.specs.Writes.{Writes}
@@ -7,11 +7,8 @@ use Rattle.outside.specs.declared.sink.SinkFault.{SinkFault}
 use Rattle.outside.specs.Bytes.{gained, GainedPart}
 use Rattle.outside.specs.Causes.{Rose}
 use Rattle.outside.proofs.BytesLaws.{gained-nothing}
-use Rattle.symple_run.specs.declared.failure.Failure.{Failure}
-use Rattle.symple_run.specs.declared.failure.Failure.TheVariants as failure
-use Rattle.symple_run.specs.Leaves.{PutFails, after_text}
 use Rattle.symple_run.specs.States.{Held, sink_state}
-use Rattle.symple_run.specs.Walks.{Flushes, HandsOn, IsPut, Plays}
+use Rattle.symple_run.specs.Walks.{Flushes, HandsOn}
 
 -- the state of a sink by its parts
 held_same : (old new : Held) (bytes : Option (List ℕ)) (faults : ℕ) → new.bytes ≡ bytes → new.faults ≡ faults → new ≡ record { bytes = bytes; faults = faults; spare = new.spare }

@@ -1,5 +1,5 @@
 -- What `symple` answers, from what the order of its words leaves.
-use Rattle.std.proofs.Common.{◌≡◌, ◌⊎◌, inl, inr, ℕ, Bool, true, false, List, Option, Some, None, Result, Ok, Err, length, nat_lt, refl, sym, ap, ◌∙◌, subst, arith}
+use Rattle.std.proofs.Common.{◌≡◌, ◌⊎◌, inl, inr, ℕ, Bool, true, false, List, Option, Some, None, Result, Ok, Err, length, nat_lt, sym, ap, ◌∙◌, subst, arith}
 use Rattle.std.specs.Prelude.{IsTrue, MatchBool, if◌then◌else◌}
 use Rattle.array_text.specs.Writes.{Writes}
 use Rattle.chunk_split.specs.Bounds.{ends_of}
@@ -19,15 +19,15 @@ use Rattle.symple_run.specs.declared.status.Status.{Status}
 use Rattle.symple_run.specs.declared.status.Status.TheVariants as status
 use Rattle.symple_run.specs.Commands.{asked, asked_by, free_order, graph_of, of_graph, order_of, play_of, run_order, with_graph, with_program}
 use Rattle.symple_run.specs.Comes.{ByFile, Comes, Fits}
-use Rattle.symple_run.specs.Headline.{AlikeAtAllCounts, FreeAnswer, IsComplete, NothingFails, status_after}
-use Rattle.symple_run.specs.Leaves.{AfterJudging, AfterLoad, AfterPut, Gained, IsProgram, IsRefused, IsUnder, Leaves, Loaded, NotLoaded, NotPut, PutFails, WantsAtJudging, WantsAtLoad, WantsAtPut}
+use Rattle.symple_run.specs.Headline.{AlikeAtAllCounts, FreeAnswer, IsComplete, status_after}
+use Rattle.symple_run.specs.Leaves.{Gained, IsProgram, IsRefused, Leaves, Loaded, NotLoaded, NotPut, PutFails, WantsAtJudging, WantsAtLoad, WantsAtPut}
 use Rattle.symple_run.specs.Notes as note
-use Rattle.symple_run.specs.Orders.{Course, Ends, IsOver, Order, Play, Prints, Puts, Refuses, Runs, follows}
-use Rattle.symple_run.specs.Outputs.{free_text, job_of, plan_text, play_text}
-use Rattle.symple_run.specs.States.{Held, Outside, sink_state}
+use Rattle.symple_run.specs.Orders.{Course, Ends, Order, Play, Puts, Refuses, Runs, follows}
+use Rattle.symple_run.specs.Outputs.{free_text, job_of, plan_text}
+use Rattle.symple_run.specs.States.{Outside, sink_state}
 use Rattle.symple_run.specs.Quiet.{IsQuiet}
 use Rattle.symple_run.specs.SourceRuns.{IsSourceRun}
-use Rattle.symple_run.proofs.ComesLaws.{IsCalm, IsOrWants, IsSafe, Must, must_come}
+use Rattle.symple_run.proofs.ComesLaws.{IsOrWants, IsSafe, Must, must_come}
 use Rattle.symple_words.specs.declared.line.GraphForm.{GraphForm}
 use Rattle.symple_words.specs.Lines as words
 use Rattle.vert_eval.specs.SourceRun.{Job}

@@ -1,14 +1,14 @@
 -- What every order leaves: of files, of the input, and of the texts of a run.
-use Rattle.std.proofs.Common.{◌≡◌, ◌≢◌, ◌⊎◌, inl, inr, ℕ, Bool, true, false, List, [], ◌∷◌, Option, Some, None, codes, refl, sym, ap, ◌∙◌, subst, arith}
+use Rattle.std.proofs.Common.{◌≡◌, ◌≢◌, ◌⊎◌, inl, inr, ℕ, Bool, true, false, List, [], ◌∷◌, Option, Some, None, codes, refl, sym, ap, ◌∙◌, subst}
 use Rattle.std.specs.Prelude.{bytes_eq, if◌then◌else◌, option_map}
 use Rattle.std.proofs.lemmas.Slice.Eq.{bytes_eq-Decides}
 use Rattle.outside.specs.Causes.{Rose}
 use Rattle.outside.specs.Files.{File, SameBut, file_named, with_file}
 use Rattle.program_reader.specs.declared.refusal.Refusal.{Refusal}
-use Rattle.symple_run.specs.Leaves.{AfterJudging, AfterLoad, AfterPut, AfterRun, AfterServing, AfterStore, AfterTry, CannotLoad, CannotServe, Done, EndsWith, Gained, HasFailed, IsAbsent, IsLong, IsNone, IsProgram, IsRefused, IsThere, Leaves, Loaded, NotLoaded, NotPut, NotServed, NotStored, PutFailed, Ran, Refused, Served, Stored, TakeFailed, TryFailed, Wants, WantsAtJudging, WantsAtLoad, WantsAtPut, WantsAtRefusal, WantsAtRun, WantsAtStore, WantsAtTry, WantsToServe}
+use Rattle.symple_run.specs.Leaves.{CannotLoad, Gained, HasFailed, IsAbsent, IsLong, IsNone, IsProgram, IsRefused, IsThere, Leaves, Loaded, NotLoaded, NotPut, NotServed, NotStored, PutFailed, Ran, Refused, Served, Stored, TakeFailed, TryFailed, WantsAtJudging, WantsAtLoad, WantsAtPut, WantsAtRefusal, WantsAtRun, WantsAtStore, WantsAtTry, WantsToServe}
 use Rattle.symple_run.specs.Notes.{BadProgram, Fault, NoLoad, NoMemory, NoWrite}
 use Rattle.symple_run.specs.Orders.{Course, Ends, Judges, Loads, Order, Play, Puts, Refuses, Runs, Serves, Stores, Tries}
-use Rattle.symple_run.specs.States.{Held, Kept, Left, Outside}
+use Rattle.symple_run.specs.States.{Kept, Outside}
 use Rattle.symple_run.specs.Quiet.{BlamesNoWrite, IsQuiet, Spares}
 
 -- an order leaves the same where more courses are allowed

@@ -1,13 +1,13 @@
 -- How the parts of a command make its order.
-use Rattle.std.proofs.Common.{◌≡◌, ◌≤◌, ◌+◌, ℕ, Bool, true, false, List, length, Option, Some, None, Result, Ok, Err, refl, sym, ap, subst}
+use Rattle.std.proofs.Common.{◌≡◌, ℕ, Bool, true, false, List, Option, Some, None, Result, Ok, Err, refl, sym, ap, subst}
 use Rattle.std.specs.Prelude.{if◌then◌else◌}
 use Rattle.edge_reader.specs.declared.fault.EdgeFault.{EdgeFault}
 use Rattle.edge_reader.specs.EdgeList.{Graph}
 use Rattle.symple_run.specs.declared.failure.Failure.{Failure}
 use Rattle.symple_run.specs.declared.failure.Failure.TheVariants as failure
-use Rattle.symple_run.specs.Commands.{asked, asked_by, graph_of, of_graph, order_of, run_order, with_graph, with_program}
+use Rattle.symple_run.specs.Commands.{asked, asked_by, of_graph, order_of, run_order, with_graph, with_program}
 use Rattle.symple_run.specs.Faults.{failure_for, fault_of}
-use Rattle.symple_run.specs.Leaves.{EndsWith, Gained, IsProgram, IsRefused, Leaves, Loaded, NotLoaded, NotPut, Ran, Refused, Wants, WantsAtLoad, WantsAtPut, WantsAtRefusal}
+use Rattle.symple_run.specs.Leaves.{Gained, IsProgram, IsRefused, Leaves, Loaded, NotLoaded, NotPut, Ran, Refused, Wants, WantsAtLoad, WantsAtPut, WantsAtRefusal}
 use Rattle.symple_run.specs.Notes.{BadWords, Fault, NoMemory}
 use Rattle.symple_run.specs.Orders.{Course, Ends, IsOver, Order, Play, Prints, Puts, Refuses, Runs, follows}
 use Rattle.symple_run.specs.Outputs.{play_text}

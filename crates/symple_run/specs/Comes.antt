@@ -1,6 +1,5 @@
 -- How an order comes out over files that are told, where nothing of the outside fails.
 use Rattle.std.specs.Prelude.{◌≡◌, ◌⊎◌, ◌<◌, ◌-◌, ℕ, List, Option, Some, None, MatchBool, drop, length, nat_lt}
-use Rattle.std.specs.Prelude.{if◌then◌else◌}
 use Rattle.program_reader.specs.declared.refusal.Refusal.{Refusal}
 use Rattle.program_reader.specs.Accepted.{Refuses as RefusesText, Says}
 use Rattle.outside.specs.Files.{File, file_named, with_file}

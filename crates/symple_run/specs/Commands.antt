@@ -1,5 +1,5 @@
 -- What each command does: the order of its steps, by the line that its words are.
-use Rattle.std.specs.Prelude.{ℕ, List, Option, Some, None, Result, Ok, Err, if◌then◌else◌}
+use Rattle.std.specs.Prelude.{ℕ, List, Some, None, Result, Ok, Err, if◌then◌else◌}
 use Rattle.edge_reader.specs.declared.fault.EdgeFault.{EdgeFault}
 use Rattle.edge_reader.specs.declared.fault.EdgeFault.TheVariants.{Line as AtLine, Byte as AtByte, Want as EdgeWant}
 use Rattle.edge_reader.specs.EdgeList.{Graph}
@@ -8,7 +8,7 @@ use Rattle.edge_reader.specs.EdgeText.{reading_of_text}
 use Rattle.instrument.specs.Shown.{shown}
 use Rattle.program_reader.specs.declared.refusal.Stage.TheVariants.{Tokens}
 use Rattle.symple_run.specs.Notes.{BadByte, BadLine, BadProgram, BadWords, Fault, NoCommand, NoMemory}
-use Rattle.symple_run.specs.Orders.{Course, Ends, Judges, Loads, Order, Play, Puts, Refuses, Runs, follows}
+use Rattle.symple_run.specs.Orders.{Ends, Judges, Loads, Order, Play, Puts, Refuses, Runs, follows}
 use Rattle.symple_run.specs.Outputs.{free_text, plan_text}
 use Rattle.symple_words.specs.declared.line.GraphForm.{GraphForm}
 use Rattle.symple_words.specs.Lines as words
@@ -74,7 +74,8 @@ plan_order name form machines = with_graph form name (λ graph. Puts (plan_text 
 
 -- the order of a line; what is not built yet is refused as if it weren't there
 abbrev pub asked : words.PlainLine → Order
-asked (words.RunOf job machines None) = if job.lines.log then Refuses BadWords else run_order job machines
+asked (words.RunOf job machines None) =
+    if job.lines.log then Refuses BadWords else run_order job machines
 asked (words.RunOf job machines (Some image)) = Refuses BadWords
 asked (words.ShowOf program) = show_order program
 asked (words.FreeOf program) = free_order program

@@ -28,7 +28,8 @@ status_after (Some fault) = status_of fault
 abbrev pub Noted : Option Fault → Held → Held → Type 0
 Noted None notes notes_after = notes_after.bytes ≡ notes.bytes
 Noted (Some fault) notes notes_after =
-    (notes_after.bytes ≡ gained notes.bytes (note_text fault)) ⊎ PutFails (note_text fault) notes notes_after
+    (notes_after.bytes ≡ gained notes.bytes (note_text fault))
+    ⊎ PutFails (note_text fault) notes notes_after
 
 -- The order of the words left of the outside `w` what stands in `after`, each run in it being one that
 -- `courses` allows, and the status and the note are those of how it ended.
@@ -43,10 +44,12 @@ pub record NothingFails (courses : Play → Course → Type 0) (order : Order) (
   pub no_load : ¬ (Rose w.shelf.loads after.shelf.loads)
   pub no_store : ¬ (Rose w.shelf.stores after.shelf.stores)
   pub no_take : ¬ (Rose w.input.faults after.input.faults)
-  pub no_put : ¬ (Rose w.out.faults after.out.faults) ⊎ Fits courses order files w.input.bytes w.out.spare
+  pub no_put :
+      ¬ (Rose w.out.faults after.out.faults) ⊎ Fits courses order files w.input.bytes w.out.spare
 
 -- Where nothing fails, the status is that to which the order comes over the files, or memory was wanting.
-abbrev pub IsComplete : (Play → Course → Type 0) → List (List ℕ) → Outside → Outside → Status → Type 0
+abbrev pub IsComplete :
+    (Play → Course → Type 0) → List (List ℕ) → Outside → Outside → Status → Type 0
 IsComplete courses texts w after result =
     (files : List File) (outcome : Option Fault) → w.shelf.files ≡ Some files
     → Comes courses (order_of texts) files w.input.bytes outcome

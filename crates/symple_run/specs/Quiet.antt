@@ -1,7 +1,7 @@
 -- What an order never does to the outside.
-use Rattle.std.specs.Prelude.{◌≡◌, ◌≢◌, ℕ, List, Option, Some, None}
+use Rattle.std.specs.Prelude.{◌≢◌, ℕ, List, Option}
 use Rattle.program_reader.specs.Accepted.{Says}
-use Rattle.symple_run.specs.Notes.{Fault, NoWrite}
+use Rattle.symple_run.specs.Notes.{NoWrite}
 use Rattle.symple_run.specs.Orders.{Course, Ends, Judges, Loads, Order, Play, Puts, Refuses, Runs, Serves, Stores, Tries}
 use Rattle.vert_tree.specs.declared.program.Program.{Program}
 

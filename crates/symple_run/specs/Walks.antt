@@ -1,6 +1,5 @@
 -- What the parts of a command do to the outside, as parts of an order.
 use Rattle.std.specs.Prelude.{◌≡◌, ◌≤◌, ◌+◌, ℕ, List, length, Option, Some, None, Result, Ok, Err}
-use Rattle.chunk_split.specs.Bounds.{ends_of}
 use Rattle.edge_reader.specs.declared.edges.Edges.{Edges}
 use Rattle.edge_reader.specs.declared.fault.EdgeFault.{EdgeFault}
 use Rattle.edge_reader.specs.EdgeList.{Graph}

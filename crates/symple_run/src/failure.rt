@@ -80,7 +80,8 @@ impl Failure {
 
 /// Puts the line that tells of a failure.
 pub(crate) fn write_note<N: Sink>(failure: &Failure, notes: &mut N) -> Result<(), SinkFault>
-    ensures { Writes N.held N.faults N.spare notes.old notes.new (note_text (fault_of failure.now)) result }
+    ensures { Writes N.held N.faults N.spare notes.old notes.new
+        (note_text (fault_of failure.now)) result }
 {
     match failure {
         Failure::Command => put_all(notes, b"symple: unknown command\n"),
@@ -95,7 +96,8 @@ pub(crate) fn write_note<N: Sink>(failure: &Failure, notes: &mut N) -> Result<()
 }
 
 fn write_unread<N: Sink>(name: &str, notes: &mut N) -> Result<(), SinkFault>
-    ensures { Writes N.held N.faults N.spare notes.old notes.new (note_text (NoLoad name.now)) result }
+    ensures { Writes N.held N.faults N.spare notes.old notes.new
+        (note_text (NoLoad name.now)) result }
 {
     put_pieces(notes, &[b"symple: cannot read ", name.as_bytes(), b"\n"])
 }
@@ -111,7 +113,8 @@ fn letter(stage: Stage) -> &'static [u8]
 }
 
 fn write_refusal<N: Sink>(refusal: Refusal, notes: &mut N) -> Result<(), SinkFault>
-    ensures { Writes N.held N.faults N.spare notes.old notes.new (note_text (BadProgram refusal)) result }
+    ensures { Writes N.held N.faults N.spare notes.old notes.new
+        (note_text (BadProgram refusal)) result }
 {
     let mut number = Buffer::new();
     let mut line = Buffer::new();
@@ -130,7 +133,8 @@ fn write_refusal<N: Sink>(refusal: Refusal, notes: &mut N) -> Result<(), SinkFau
 }
 
 fn write_line<N: Sink>(code: u8, line: u32, notes: &mut N) -> Result<(), SinkFault>
-    ensures { Writes N.held N.faults N.spare notes.old notes.new (note_text (BadLine code line)) result }
+    ensures { Writes N.held N.faults N.spare notes.old notes.new
+        (note_text (BadLine code line)) result }
 {
     let mut digits = Buffer::new();
     let mut place = Buffer::new();
@@ -145,7 +149,8 @@ fn write_line<N: Sink>(code: u8, line: u32, notes: &mut N) -> Result<(), SinkFau
 }
 
 fn write_byte<N: Sink>(code: u8, at: u64, notes: &mut N) -> Result<(), SinkFault>
-    ensures { Writes N.held N.faults N.spare notes.old notes.new (note_text (BadByte code at)) result }
+    ensures { Writes N.held N.faults N.spare notes.old notes.new
+        (note_text (BadByte code at)) result }
 {
     let mut digits = Buffer::new();
     let mut place = Buffer::new();

@@ -33,7 +33,8 @@ pub(crate) fn tell_freedom<H: Shelf, O: Sink>(
 }
 
 fn tell<O: Sink>(split: &Split, out: &mut O) -> Result<(), Failure>
-    ensures { Plays (free_text split.now.program.program) (sink_state O.held O.faults O.spare out.old)
+    ensures { Plays (free_text split.now.program.program)
+        (sink_state O.held O.faults O.spare out.old)
         (sink_state O.held O.faults O.spare out.new) result }
 {
     put_freedom(split, out)?;
@@ -42,7 +43,8 @@ fn tell<O: Sink>(split: &Split, out: &mut O) -> Result<(), Failure>
 
 /// Puts the line and has it handed on.
 fn put_freedom<O: Sink>(split: &Split, out: &mut O) -> Result<(), SinkFault>
-    ensures { HandsOn (free_text split.now.program.program) (sink_state O.held O.faults O.spare out.old)
+    ensures { HandsOn (free_text split.now.program.program)
+        (sink_state O.held O.faults O.spare out.old)
         (sink_state O.held O.faults O.spare out.new) result }
 {
     write_freedom(&split.program.program, free(split), out)?;
@@ -50,7 +52,8 @@ fn put_freedom<O: Sink>(split: &Split, out: &mut O) -> Result<(), SinkFault>
 }
 
 fn write_freedom<O: Sink>(program: &Program, freedom: Freedom, out: &mut O) -> Result<(), SinkFault>
-    ensures { Writes O.held O.faults O.spare out.old out.new (freedom_text program.now freedom) result }
+    ensures { Writes O.held O.faults O.spare out.old out.new
+        (freedom_text program.now freedom) result }
 {
     match freedom {
         Freedom::NoLoop => put_all(out, b"free no-loop\n"),
@@ -63,7 +66,8 @@ fn write_freedom<O: Sink>(program: &Program, freedom: Freedom, out: &mut O) -> R
 }
 
 fn write_first_slot<O: Sink>(program: &Program, slot: u8, out: &mut O) -> Result<(), SinkFault>
-    ensures { Writes O.held O.faults O.spare out.old out.new (freedom_text program.now (FirstSlot slot)) result }
+    ensures { Writes O.held O.faults O.spare out.old out.new
+        (freedom_text program.now (FirstSlot slot)) result }
 {
     let pieces = [b"not free: first slot ", name_of_slot(program, slot), b"\n"];
     put_pieces(out, &pieces)

@@ -80,7 +80,8 @@ fn write_step<O: Sink>(machines: u8, step: u8, machine: u8, out: &mut O) -> Resu
     requires few { machines ≤ 64 }
     requires step { step < machines }
     requires machine { machine < machines }
-    ensures { Writes O.held O.faults O.spare out.old out.new (step_text machines step machine) result }
+    ensures { Writes O.held O.faults O.spare out.old out.new
+        (step_text machines step machine) result }
 {
     let chunk = (machine + machines - 1 - step) % machines;
     let mut number = Buffer::new();

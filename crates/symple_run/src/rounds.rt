@@ -19,7 +19,8 @@ pub(crate) fn write_rounds<O: Sink>(
     out: &mut O,
 ) -> Result<(), SinkFault>
     requires { All (λ r. IsFew (told_of r)) rounds.now }
-    ensures { Writes O.held O.faults O.spare out.old out.new (flat_map (λ r. told_lines lines.now (told_of r)) rounds.now) result }
+    ensures { Writes O.held O.faults O.spare out.old out.new
+        (flat_map (λ r. told_lines lines.now (told_of r)) rounds.now) result }
 {
     'rounds: for played in rounds {
         write_played(lines, played, out)?;
@@ -30,7 +31,8 @@ pub(crate) fn write_rounds<O: Sink>(
 /// Puts the line of a round and then its read lines, as they are asked for.
 fn write_played<O: Sink>(lines: &Lines, played: &PlayedRound, out: &mut O) -> Result<(), SinkFault>
     requires { IsFew (told_of played.now) }
-    ensures { Writes O.held O.faults O.spare out.old out.new (told_lines lines.now (told_of played.now)) result }
+    ensures { Writes O.held O.faults O.spare out.old out.new
+        (told_lines lines.now (told_of played.now)) result }
 {
     write_report(lines.rounds, played, out)?;
     write_sources(lines.reads, played, out)
@@ -39,7 +41,8 @@ fn write_played<O: Sink>(lines: &Lines, played: &PlayedRound, out: &mut O) -> Re
 /// Puts the line of a round, where it is asked for.
 fn write_report<O: Sink>(asked: bool, played: &PlayedRound, out: &mut O) -> Result<(), SinkFault>
     requires { IsFew (told_of played.now) }
-    ensures { Writes O.held O.faults O.spare out.old out.new (if asked then told_text (told_of played.now) else []) result }
+    ensures { Writes O.held O.faults O.spare out.old out.new
+        (if asked then told_text (told_of played.now) else []) result }
 {
     if !asked {
         return Ok(());
@@ -57,7 +60,9 @@ fn write_report<O: Sink>(asked: bool, played: &PlayedRound, out: &mut O) -> Resu
 /// Puts the read lines of a round, where they are asked for.
 fn write_sources<O: Sink>(asked: bool, played: &PlayedRound, out: &mut O) -> Result<(), SinkFault>
     requires { IsFew (told_of played.now) }
-    ensures { Writes O.held O.faults O.spare out.old out.new (if asked then read_lines played.now.round 0 (id_lists_of played.now.reads) else []) result }
+    ensures { Writes O.held O.faults O.spare out.old out.new
+        (if asked then read_lines played.now.round 0 (id_lists_of played.now.reads) else [])
+        result }
 {
     if !asked {
         return Ok(());
@@ -84,7 +89,8 @@ fn write_read_lines<O: Sink>(
     out: &mut O,
 ) -> Result<(), SinkFault>
     requires { length reads.now < 2 ^ 32 }
-    ensures { Writes O.held O.faults O.spare out.old out.new (read_lines round 0 (map (λ v. ids_of v.items) reads.now)) result }
+    ensures { Writes O.held O.faults O.spare out.old out.new
+        (read_lines round 0 (map (λ v. ids_of v.items) reads.now)) result }
 {
     'vertices: for (v, sources) in reads.iter().enumerate() {
         write_read_line(round, VertexId(v as u32), sources, out)?;
@@ -98,7 +104,8 @@ fn write_read_line<O: Sink>(
     sources: &[VertexId],
     out: &mut O,
 ) -> Result<(), SinkFault>
-    ensures { Writes O.held O.faults O.spare out.old out.new (read_line round v.0 (ids_of sources.now)) result }
+    ensures { Writes O.held O.faults O.spare out.old out.new
+        (read_line round v.0 (ids_of sources.now)) result }
 {
     if sources.is_empty() {
         return Ok(());

@@ -43,7 +43,8 @@ fn write_run<O: Sink>(
     requires rows { length played.now.rows.items < 2 ^ 32 }
     requires reads { AreFew (map told_of played.now.rounds.items) }
     ensures { Writes O.held O.faults O.spare out.old out.new (told_run lines.now
-        split.now.program.program (map told_of played.now.rounds.items) played.now.rows.items) result }
+        split.now.program.program (map told_of played.now.rounds.items)
+        played.now.rows.items) result }
 {
     write_rounds(lines, &played.rounds, out)?;
     write_table(split, &played.rows, out)
@@ -52,7 +53,8 @@ fn write_run<O: Sink>(
 /// Puts the table: a header, then a line for each vertex.
 fn write_table<O: Sink>(split: &Split, rows: &[Row], out: &mut O) -> Result<(), SinkFault>
     requires { length rows.now < 2 ^ 32 }
-    ensures { Writes O.held O.faults O.spare out.old out.new (table_text split.now.program.program rows.now) result }
+    ensures { Writes O.held O.faults O.spare out.old out.new
+        (table_text split.now.program.program rows.now) result }
 {
     write_header(split, out)?;
     write_rows(split, rows, out)
@@ -60,7 +62,8 @@ fn write_table<O: Sink>(split: &Split, rows: &[Row], out: &mut O) -> Result<(), 
 
 fn write_rows<O: Sink>(split: &Split, rows: &[Row], out: &mut O) -> Result<(), SinkFault>
     requires { length rows.now < 2 ^ 32 }
-    ensures { Writes O.held O.faults O.spare out.old out.new (rows_text split.now.program.program 0 rows.now) result }
+    ensures { Writes O.held O.faults O.spare out.old out.new
+        (rows_text split.now.program.program 0 rows.now) result }
 {
     for (v, row) in rows.iter().enumerate() {
         write_row(split, VertexId(v as u32), row, out)?;

@@ -34,7 +34,8 @@ use vert_base::limits::MACHINES;
 /// The chunks of a graph for so many machines.
 fn chunks(alloc: Global, edges: &Edges, machines: u8) -> Result<Cuts<MACHINES>, Want>
     requires { AreMachines machines }
-    ensures { IfOk result (λ cuts. cuts ≡ ends_of machines edges.now.vertices edges.now.list.items) }
+    ensures { IfOk result
+        (λ cuts. cuts ≡ ends_of machines edges.now.vertices edges.now.list.items) }
 {
     let table = Table::build(alloc, edges)?;
     Ok(cuts_of(&table, machines))
@@ -130,7 +131,8 @@ fn run_unlogged<H: Shelf, O: Sink>(
     requires form { IsGraphForm job.now.form }
     requires few { AreMachines machines }
     ensures order { Performs H.files H.loads H.stores O.held O.faults O.spare
-        (asked (RunOf (job_view job.now) machines None)) shelf.old shelf.new out.old out.new result }
+        (asked (RunOf (job_view job.now) machines None))
+        shelf.old shelf.new out.old out.new result }
     ensures later { H.loads shelf.old ≤ H.loads shelf.new }
 {
     if job.lines.log {
@@ -151,7 +153,8 @@ fn run_line<H: Shelf, O: Sink>(
     requires form { IsGraphForm job.now.form }
     requires few { AreMachines machines }
     ensures order { Performs H.files H.loads H.stores O.held O.faults O.spare
-        (asked (RunOf (job_view job.now) machines (option_map (λ name. string_bytes name) image.now)))
+        (asked (RunOf (job_view job.now) machines
+        (option_map (λ name. string_bytes name) image.now)))
         shelf.old shelf.new out.old out.new result }
     ensures later { H.loads shelf.old ≤ H.loads shelf.new }
 {

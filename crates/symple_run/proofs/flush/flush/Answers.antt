@@ -1,4 +1,4 @@
-use Rattle.std.proofs.Common.{[], arith}
+use Rattle.std.proofs.Common.{arith}
 use Rattle.symple_run.specs.States.{sink_state}
 use Rattle.symple_run.proofs.FlushLaws.{flushed}
 use Rattle.symple_run.proofs.flush.flush.Goals as goal

@@ -1,4 +1,4 @@
-use Rattle.std.proofs.Common.{◌<◌, ◌∙◌, ℕ, length, Err, refl, ap, arith}
+use Rattle.std.proofs.Common.{◌<◌, ◌∙◌, ℕ, length, ap, arith}
 use Rattle.std.specs.List.{range_with_len}
 use Rattle.chunk_split.specs.Chunks.{start_of}
 use Rattle.symple_run.specs.Outputs.{chunk_line, chunk_text}

@@ -1,4 +1,4 @@
-use Rattle.std.proofs.Common.{◌++◌, ℕ, length, Err, ap, refl}
+use Rattle.std.proofs.Common.{◌++◌, ℕ, length, ap}
 use Rattle.array_text.proofs.WritesLaws.{writes_failed, writes_same, writes_then}
 use Rattle.symple_run.specs.Outputs.{chunks_text, steps_text}
 use Rattle.symple_run.proofs.plan.write_plan.Goals as goal

@@ -1,4 +1,4 @@
-use Rattle.std.proofs.Common.{◌<◌, Err, refl, ap, arith}
+use Rattle.std.proofs.Common.{◌<◌, ap, arith}
 use Rattle.std.specs.List.{range_with_len}
 use Rattle.symple_run.specs.Outputs.{machines_text}
 use Rattle.symple_run.proofs.TextLaws.{all_numbers, all_put, below_numbers, number_at, one_failed, one_more}

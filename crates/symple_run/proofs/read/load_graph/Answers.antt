@@ -1,9 +1,9 @@
-use Rattle.std.proofs.Common.{List, ℕ, Some, subst, sym, Ok, Err, ap, refl, ◌∙◌}
+use Rattle.std.proofs.Common.{List, ℕ, subst, Ok, Err, ap, refl, ◌∙◌}
 use Rattle.edge_reader.specs.declared.fault.EdgeFault.{EdgeFault}
 use Rattle.edge_reader.specs.declared.fault.EdgeFault.TheVariants.{Byte, Line}
 use Rattle.edge_reader.specs.Gives.{Gives}
 use Rattle.symple_run.specs.Commands.{graph_of, too_long_graph}
-use Rattle.symple_run.specs.States.{Kept, shelf_state}
+use Rattle.symple_run.specs.States.{shelf_state}
 use Rattle.symple_run.specs.Walks.{BadFile, NoFile, WantsForFile}
 use Rattle.symple_run.proofs.LoadLaws.{bytes_under, has_failed, is_long, is_missing, loaded_same, wanted_same, within_items}
 use Rattle.symple_run.proofs.read.load_graph.Goals as goal

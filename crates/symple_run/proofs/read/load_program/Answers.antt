@@ -1,9 +1,9 @@
-use Rattle.std.proofs.Common.{List, ℕ, Some, subst, sym, Ok, Err, ap, refl, ◌∙◌}
+use Rattle.std.proofs.Common.{List, ℕ, subst, Ok, Err, ap, refl, ◌∙◌}
 use Rattle.program_reader.specs.declared.refusal.ProgramFault.{ProgramFault}
 use Rattle.program_reader.specs.declared.refusal.ProgramFault.TheVariants.{Refused}
 use Rattle.program_reader.specs.Answers.{ReadsProgram}
 use Rattle.symple_run.specs.Commands.{too_long_program}
-use Rattle.symple_run.specs.States.{Kept, shelf_state}
+use Rattle.symple_run.specs.States.{shelf_state}
 use Rattle.symple_run.specs.Walks.{BadText, NoText, WantsForText}
 use Rattle.symple_run.proofs.LoadLaws.{bytes_under, has_failed, is_long, is_missing, loaded_same, wanted_same, within_items}
 use Rattle.symple_run.proofs.read.load_program.Goals as goal

@@ -1,4 +1,4 @@
-use Rattle.std.proofs.Common.{[], Err, refl}
+use Rattle.std.proofs.Common.{[]}
 use Rattle.std.specs.Prelude.{if◌then◌else◌}
 use Rattle.plain_run.specs.Lists.{id_lists_of}
 use Rattle.array_text.proofs.WritesLaws.{writes_failed, writes_then}

@@ -1,4 +1,4 @@
-use Rattle.std.proofs.Common.{◌+◌, List, ℕ, drop, ap, arith, refl, Err, ◌∙◌}
+use Rattle.std.proofs.Common.{◌+◌, List, ℕ, drop, ap, arith, ◌∙◌}
 use Rattle.plain_run.specs.Lists.{ids_of}
 use Rattle.array_text.proofs.WritesLaws.{writes_same, writes_failed, writes_then}
 use Rattle.symple_run.specs.Outputs.{read_line}

@@ -1,4 +1,4 @@
-use Rattle.std.proofs.Common.{List, ℕ, Err, refl, ap, arith}
+use Rattle.std.proofs.Common.{List, ℕ, ap, arith}
 use Rattle.plain_run.specs.declared.rounds.PlayedRound.{PlayedRound}
 use Rattle.plain_run.specs.Told.{told_of}
 use Rattle.symple_run.specs.Outputs.{told_lines}

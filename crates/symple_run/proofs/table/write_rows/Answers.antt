@@ -1,4 +1,4 @@
-use Rattle.std.proofs.Common.{◌+◌, drop, ap, arith, refl, Err}
+use Rattle.std.proofs.Common.{◌+◌, drop, ap, arith}
 use Rattle.array_text.specs.Tables.{row_text, rows_text}
 use Rattle.array_text.proofs.WritesLaws.{writes_same, writes_failed, writes_then}
 use Rattle.symple_run.proofs.NumberedLaws.{numbered_more, numbered_split}

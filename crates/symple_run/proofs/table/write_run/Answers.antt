@@ -1,4 +1,4 @@
-use Rattle.std.proofs.Common.{List, Err, refl, subst}
+use Rattle.std.proofs.Common.{List, subst}
 use Rattle.array_text.specs.Tables.{table_text}
 use Rattle.array_text.specs.Writes.{Writes}
 use Rattle.array_text.proofs.WritesLaws.{writes_failed, writes_same, writes_then}

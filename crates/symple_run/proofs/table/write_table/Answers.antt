@@ -1,4 +1,3 @@
-use Rattle.std.proofs.Common.{Err, refl}
 use Rattle.array_text.specs.Tables.{rows_text}
 use Rattle.array_text.proofs.WritesLaws.{writes_failed, writes_then}
 use Rattle.symple_run.proofs.table.write_table.Goals as goal

@@ -3,7 +3,7 @@ use Rattle.edge_reader.specs.Gives.{graph_of_edges}
 use Rattle.symple_run.specs.Orders.{Ends, Puts}
 use Rattle.symple_run.specs.Outputs.{plan_text}
 use Rattle.symple_run.specs.SourceRuns.{IsSourceRun}
-use Rattle.symple_run.specs.States.{shelf_state, sink_state}
+use Rattle.symple_run.specs.States.{sink_state}
 use Rattle.symple_run.proofs.WalkLaws.{graph_goes, graph_stops, put_ends}
 use Rattle.symple_run.proofs.top.plan.Goals as goal
 

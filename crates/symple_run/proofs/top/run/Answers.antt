@@ -1,9 +1,7 @@
 use Rattle.std.proofs.Common.{List, ℕ, Ok, Err, subst}
 use Rattle.std.proofs.lemmas.Result.{err_from_is_err_and}
-use Rattle.edge_reader.specs.EdgeList.{Graph}
 use Rattle.edge_reader.specs.Gives.{graph_of_edges}
 use Rattle.symple_run.specs.Commands.{play_of, with_graph}
-use Rattle.symple_run.specs.Faults.{fault_of}
 use Rattle.symple_run.specs.Orders.{Order, Runs, follows}
 use Rattle.symple_run.specs.Outputs.{play_text}
 use Rattle.symple_run.specs.SourceRuns.{IsSourceRun}

@@ -2,7 +2,7 @@ use Rattle.std.proofs.Common.{Bool, sym, ap}
 use Rattle.std.specs.Prelude.{if◌then◌else◌}
 use Rattle.symple_run.specs.Commands.{run_order}
 use Rattle.symple_run.specs.Notes.{BadWords}
-use Rattle.symple_run.specs.Orders.{Order, Refuses}
+use Rattle.symple_run.specs.Orders.{Refuses}
 use Rattle.symple_run.specs.SourceRuns.{IsSourceRun}
 use Rattle.symple_run.proofs.WalkLaws.{as_order}
 use Rattle.symple_words.specs.Views.{job_view}

@@ -1,8 +1,8 @@
-use Rattle.std.proofs.Common.{None, Some, refl, sym}
+use Rattle.std.proofs.Common.{None, Some, refl}
 use Rattle.symple_run.specs.Faults.{fault_of}
 use Rattle.symple_run.specs.Notes.{note_text}
 use Rattle.symple_run.specs.SourceRuns.{IsSourceRun}
-use Rattle.symple_run.specs.States.{input_state, outside, shelf_state, sink_state}
+use Rattle.symple_run.specs.States.{input_state}
 use Rattle.symple_run.proofs.HeadLaws.{alike_by, completes, free_answer, noted_by, quiet_order}
 use Rattle.symple_run.proofs.LeavesLaws.{quiet_leaves}
 use Rattle.symple_words.specs.Views.{words_of}
