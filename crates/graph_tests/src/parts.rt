@@ -131,7 +131,7 @@ fn parts_of(
     let table = table_at(rt, alloc, &mut Cells::new(graph))?;
     let cuts = cuts_of::<64>(&table, machines);
     let split = split_from(alloc, program)?;
-    match parts(alloc, &table, &cuts, &split, 7) {
+    match parts(alloc, table, &cuts, &split, 7) {
         Ok(parts) => Ok(parts),
         Err(_) => Err(AllocError.into()),
     }

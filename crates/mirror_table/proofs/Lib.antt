@@ -1,5 +1,7 @@
-pub mod FewLaws
-pub mod ChunkOrder
+pub mod ChosenLaws
+pub mod DealLaws
+pub mod OwnerLaws
+pub mod ShareLaws
 pub mod MetLaws
 pub mod OrderPermutations
 pub mod MovedLaws

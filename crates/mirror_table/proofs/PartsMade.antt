@@ -8,7 +8,7 @@ use Rattle.std.proofs.lemmas.List.Elements.{All-from_recursion}
 use Rattle.std.specs.declared.alloc.Global.{Global}
 use Rattle.std.specs.declared.vec.Vec.{Vec}
 use Rattle.std.proofs.lemmas.List.{length-map}
-use Rattle.std.proofs.lemmas.List.FromFn.{length-map-range_with_len}
+use Rattle.std.proofs.lemmas.List.FromFn.{get_or-map-range_with_len, length-map-range_with_len}
 use Rattle.vert_base.specs.declared.graph.Edge.{Edge}
 use Rattle.vert_base.specs.declared.graph.VertexId.{VertexId}
 use Rattle.vert_base.specs.Neighbours.{AreBelow, source, target, in_order, ins_of, outs_of}
@@ -20,25 +20,12 @@ use Rattle.symple_face.specs.Parts.{PlainPart, chunk_vertices, degree_in, ends_m
 use Rattle.symple_face.specs.PartsOf.{known_of, part_of, push_of, scan_of}
 use Rattle.graph_table.proofs.FilterLaws.{all_filter, all_flat_map, all_passes, all_range, all_true, all_weaker, filter_same, flat_map_same}
 use Rattle.symple_face.proofs.ChunkLaws.{chunk_rises, chunk_within}
-use Rattle.mirror_table.proofs.ChunkOrder.{chunk_orders, chunk_test}
 use Rattle.symple_face.proofs.ListLaws.{other_list}
 use Rattle.mirror_table.proofs.PartLaws.{all_in_order, others_same, push_of_push, push_to_scan, refresh_of_scan, refresh_to_push, sources_below, targets_below}
 use Rattle.mirror_table.proofs.SplitLaws.{by_index}
 
 -- the vertex lists of a chunk's vertices hold edges of the graph
-pub gathered_all : (P : Edge → Type 0) (major minor : Edge → ℕ) (n : ℕ) (edges : List Edge) (vs : List ℕ) → AllByRecursion P edges → AllByRecursion P (flat_map (λ v. in_order major n (filter (λ e. minor e == v) edges)) vs)
-gathered_all P major minor n edges vs all =
-    all_flat_map P (λ v. in_order major n (filter (λ e. minor e == v) edges)) vs
-    (all_true (λ v. AllByRecursion P (in_order major n (filter (λ e. minor e == v) edges))) (λ v. all_in_order P major n (filter (λ e. minor e == v) edges) (all_filter P (λ e. minor e == v) edges all)) vs)
-
 module _ (most : ℕ) (ends : List ℕ) (edges : List Edge) (are : AreEnds most ends) (below : AreBelow (vertices_of ends) edges) (m : ℕ) (here : m < length ends) where
-  -- the edges of a chunk, put in order, are those of the definition
-  pub scan_made : in_order target (vertices_of ends) (flat_map (outs_of (vertices_of ends) edges) (range_with_len (start_of ends m) (slice_index ends m - start_of ends m))) ≡ scan_of ends edges m
-  scan_made = chunk_orders source (lies_in ends m) (start_of ends m) (slice_index ends m) (vertices_of ends) edges (chunk_rises most ends are m here) (chunk_within most ends are m here) (chunk_test ends m) target
-
-  pub push_made : in_order source (vertices_of ends) (flat_map (ins_of (vertices_of ends) edges) (range_with_len (start_of ends m) (slice_index ends m - start_of ends m))) ≡ push_of ends edges m
-  push_made = chunk_orders target (lies_in ends m) (start_of ends m) (slice_index ends m) (vertices_of ends) edges (chunk_rises most ends are m here) (chunk_within most ends are m here) (chunk_test ends m) source
-
   pub scan_rises : IsNonDecreasingBy target (scan_of ends edges m)
   scan_rises = by_index target (scan_of ends edges m) (in_order_rises target (vertices_of ends) (in_order source (vertices_of ends) (filter (λ e. lies_in ends m (source e)) edges)))
 

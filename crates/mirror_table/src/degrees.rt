@@ -1,7 +1,8 @@
 // The degrees that a machine knows.
-ghost use Rattle.std.specs.Prelude.{◌≡◌, ◌==◌, ◌<◌, ◌≤◌, ◌-◌, ◌++◌, [], if◌then◌else◌, length, map, slice_index_or, IfOk, OnOk};
+ghost use Rattle.std.specs.Prelude.{◌≡◌, ℕ, ◌==◌, ◌<◌, ◌≤◌, ◌-◌, ◌++◌, [], if◌then◌else◌, length, map, slice_index_or, IfOk, OnOk};
 ghost use Rattle.std.specs.List.{All, flat_map, range_with_len};
 ghost use Rattle.chunk_split.specs.Chunks.{vertices_of};
+ghost use Rattle.symple_face.specs.declared.degree.Degree.{Degree};
 ghost use Rattle.symple_face.specs.Parts.{chunk_vertices, degree_in, lists_of};
 
 use chunk_split::Cuts;
@@ -69,18 +70,30 @@ fn degree(table: &Table, v: VertexId) -> Degree
     }
 }
 
-/// The degrees of some vertices.
-pub(crate) fn degrees(
+/// The degrees of all vertices.
+pub(crate) fn degrees(alloc: Global, table: &Table) -> Result<Vec<Degree>, AllocError>
+    ensures { IfOk result (λ list. list.items ≡ map (degree_in table.now.list table.now.list) (range_with_len 0 table.now.vertices)) }
+{
+    let vertices = table.vertices();
+    let mut list = Vec::with_capacity(alloc, vertices as usize)?;
+    for v in 0..vertices {
+        list.push(degree(table, VertexId(v)))?;
+    }
+    Ok(list)
+}
+
+/// The degrees of some vertices, from those of all.
+pub(crate) fn chosen(
     alloc: Global,
-    table: &Table,
+    degrees: &[Degree],
     vertices: &[VertexId],
 ) -> Result<Vec<Degree>, AllocError>
-    requires { All (λ v. v.0 < table.now.vertices) vertices.now }
-    ensures { IfOk result (λ list. list.items ≡ map (degree_in table.now.list table.now.list) (map (λ v. v.0) vertices.now)) }
+    requires { All (λ v. v.0 < length degrees.now) vertices.now }
+    ensures { IfOk result (λ list. (f : ℕ → Degree) → degrees.now ≡ map f (range_with_len 0 (length degrees.now)) → list.items ≡ map f (map (λ v. v.0) vertices.now)) }
 {
     let mut list = Vec::with_capacity(alloc, vertices.len())?;
     for v in vertices {
-        list.push(degree(table, *v))?;
+        list.push(degrees[v.0 as usize])?;
     }
     Ok(list)
 }

@@ -1,79 +1,107 @@
-// The edges that a machine works on.
-ghost use Rattle.std.specs.Prelude.{◌≡◌, ◌<◌, ◌≤◌, ◌-◌, length, IfOk};
-ghost use Rattle.std.specs.List.{flat_map, range_with_len};
-ghost use Rattle.std.specs.List.Sorted.{IsNonDecreasingBy};
-ghost use Rattle.vert_base.specs.Neighbours.{AreBelow, ins_of, outs_of, source, target};
-ghost use Rattle.chunk_split.specs.Chunks.{vertices_of};
-ghost use Rattle.symple_face.specs.PartsOf.{push_of, scan_of};
+// The edges that each machine works on.
+ghost use Rattle.std.specs.Prelude.{◌≡◌, ◌<◌, ℕ, [], ◌∷◌, length, map, slice_index, slice_index_or, slice_set, IfOk, vec_len};
+ghost use Rattle.std.specs.List.{All, filter, range_with_len};
+ghost use Rattle.vert_base.specs.Neighbours.{source, target};
+ghost use Rattle.chunk_split.specs.Chunks.{Holds, vertices_of};
+ghost use Rattle.circulant_plan.specs.Ring.{lies_in};
+ghost use Rattle.graph_table.specs.Sides.{key_of};
 
 use chunk_split::Cuts;
-use graph_table::{Side, Table, put_in_order};
+use graph_table::{Lists, Side, end_of};
 use std::alloc::{AllocError, Global};
+use std::mem;
 use vert_base::limits::MACHINES;
 use vert_base::{Edge, VertexId};
 
-// The edges from some vertices, source by source.
-fn edges_from(alloc: Global, table: &Table, start: u32, end: u32) -> Result<Vec<Edge>, AllocError>
-    requires rises { start ≤ end }
-    requires within { end ≤ table.now.vertices }
-    ensures { IfOk result (λ list. list.items ≡ flat_map (outs_of table.now.vertices table.now.list) (range_with_len start (end - start))) }
-{
-    let mut list = Vec::new(alloc);
-    for v in start..end {
-        list.extend_from_slice(table.outs(VertexId(v)))?;
-    }
-    Ok(list)
+/// The edges that each machine works on, in order of the machines.
+#[derive(Drop)]
+pub(crate) struct Shares {
+    /// Those from its chunk.
+    pub(crate) scans: Vec<Vec<Edge>>,
+    /// Those into its chunk.
+    pub(crate) pushes: Vec<Vec<Edge>>,
 }
 
-// The edges into some vertices, target by target.
-fn edges_into(alloc: Global, table: &Table, start: u32, end: u32) -> Result<Vec<Edge>, AllocError>
-    requires rises { start ≤ end }
-    requires within { end ≤ table.now.vertices }
-    ensures { IfOk result (λ list. list.items ≡ flat_map (ins_of table.now.vertices table.now.list) (range_with_len start (end - start))) }
+// The machine that owns each vertex.
+fn owners(alloc: Global, cuts: &Cuts<MACHINES>) -> Result<Vec<u8>, AllocError>
+    ensures len { IfOk result (λ owners. vec_len owners ≡ vertices_of cuts.now) }
+    ensures holds { IfOk result (λ owners. (v : ℕ) → v < vertices_of cuts.now → Holds cuts.now v (slice_index owners.items v)) }
 {
-    let mut list = Vec::new(alloc);
-    for v in start..end {
-        list.extend_from_slice(table.ins(VertexId(v)))?;
+    let vertices = cuts.end(cuts.count() - 1);
+    let mut owners = Vec::with_capacity(alloc, vertices as usize)?;
+    for v in 0..vertices {
+        owners.push(cuts.owner(VertexId(v)))?;
     }
-    Ok(list)
+    Ok(owners)
 }
 
-/// The edges from a chunk, by target, then source.
-pub(crate) fn scan(
+// Lists for so many machines, with nothing in them.
+fn empty_lists(alloc: Global, machines: u8) -> Result<Vec<Vec<Edge>>, AllocError>
+    ensures { IfOk result (λ lists. map (λ l. l.items) lists.items ≡ map (λ _. []) (range_with_len 0 machines)) }
+{
+    let mut lists = Vec::with_capacity(alloc, machines as usize)?;
+    for _machine in 0..machines {
+        lists.push(Vec::new(alloc))?;
+    }
+    Ok(lists)
+}
+
+// The edges of each chunk, those whose vertex at this end lies in it, as they stand.
+fn dealt(
     alloc: Global,
-    table: &Table,
+    edges: &[Edge],
     cuts: &Cuts<MACHINES>,
-    m: u8,
-) -> Result<Vec<Edge>, AllocError>
-    requires machine { m < length cuts.now }
-    requires whole { vertices_of cuts.now ≡ table.now.vertices }
-    ensures list { IfOk result (λ list. list.items ≡ scan_of cuts.now table.now.list m) }
-    ensures order { IfOk result (λ list. IsNonDecreasingBy target list.items) }
-    ensures below { IfOk result (λ list. AreBelow (vertices_of cuts.now) list.items) }
+    owners: &[u8],
+    side: Side,
+) -> Result<Vec<Vec<Edge>>, AllocError>
+    requires len { length owners.now ≡ vertices_of cuts.now }
+    requires holds { (v : ℕ) → v < vertices_of cuts.now → Holds cuts.now v (slice_index owners.now v) }
+    requires below { All (λ e. key_of side e < vertices_of cuts.now) edges.now }
+    ensures { IfOk result (λ lists. map (λ l. l.items) lists.items ≡ map (λ m. filter (λ e. lies_in cuts.now m (key_of side e)) edges.now) (range_with_len 0 (length cuts.now))) }
 {
     let _ends = cuts.ends();
-    let _edges = table.edges();
-    let mut list = edges_from(alloc, table, cuts.start(m), cuts.end(m))?;
-    put_in_order(&mut list, table.vertices(), Side::Target)?;
-    Ok(list)
+    let mut lists = empty_lists(alloc, cuts.count())?;
+    for edge in edges {
+        let owner = owners[end_of(side, edge) as usize];
+        lists[owner as usize].push(*edge)?;
+    }
+    Ok(lists)
 }
 
-/// The edges into a chunk, by source, then target.
-pub(crate) fn push(
-    alloc: Global,
-    table: &Table,
-    cuts: &Cuts<MACHINES>,
-    m: u8,
-) -> Result<Vec<Edge>, AllocError>
-    requires machine { m < length cuts.now }
-    requires whole { vertices_of cuts.now ≡ table.now.vertices }
-    ensures list { IfOk result (λ list. list.items ≡ push_of cuts.now table.now.list m) }
-    ensures order { IfOk result (λ list. IsNonDecreasingBy source list.items) }
-    ensures below { IfOk result (λ list. AreBelow (vertices_of cuts.now) list.items) }
+// The list of the one machine that there is.
+fn whole(alloc: Global, edges: Vec<Edge>) -> Result<Vec<Vec<Edge>>, AllocError>
+    ensures { IfOk result (λ lists. map (λ l. l.items) lists.items ≡ edges.items ∷ []) }
 {
-    let _ends = cuts.ends();
-    let _edges = table.edges();
-    let mut list = edges_into(alloc, table, cuts.start(m), cuts.end(m))?;
-    put_in_order(&mut list, table.vertices(), Side::Source)?;
-    Ok(list)
+    let mut lists = Vec::with_capacity(alloc, 1)?;
+    lists.push(edges)?;
+    Ok(lists)
+}
+
+/// What each machine works on. One machine takes the lists over.
+pub(crate) fn deal(alloc: Global, lists: Lists, cuts: &Cuts<MACHINES>) -> Result<Shares, AllocError>
+    requires sources { All (λ e. source e < vertices_of cuts.now) lists.ins.items }
+    requires targets { All (λ e. target e < vertices_of cuts.now) lists.outs.items }
+    ensures scans { IfOk result (λ shares. map (λ l. l.items) shares.scans.items ≡ map (λ m. filter (λ e. lies_in cuts.now m (source e)) lists.ins.items) (range_with_len 0 (length cuts.now))) }
+    ensures pushes { IfOk result (λ shares. map (λ l. l.items) shares.pushes.items ≡ map (λ m. filter (λ e. lies_in cuts.now m (target e)) lists.outs.items) (range_with_len 0 (length cuts.now))) }
+{
+    if cuts.count() == 1 {
+        return Ok(Shares {
+            scans: whole(alloc, lists.ins)?,
+            pushes: whole(alloc, lists.outs)?,
+        });
+    }
+    let owners = owners(alloc, cuts)?;
+    let scans = dealt(alloc, &lists.ins, cuts, &owners, Side::Source)?;
+    drop(lists.ins);
+    let pushes = dealt(alloc, &lists.outs, cuts, &owners, Side::Target)?;
+    Ok(Shares { scans, pushes })
+}
+
+/// Takes the list of machine `m` out.
+pub(crate) fn taken(alloc: Global, lists: &mut Vec<Vec<Edge>>, m: u8) -> Vec<Edge>
+    requires { m < vec_len lists.old }
+    ensures list { result.items ≡ slice_index_or (map (λ l. l.items) lists.old.items) m [] }
+    ensures others { map (λ l. l.items) lists.new.items ≡ slice_set (map (λ l. l.items) lists.old.items) m [] }
+{
+    mem::replace(&mut lists[m as usize], Vec::new(alloc))
 }
