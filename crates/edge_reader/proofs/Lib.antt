@@ -3,3 +3,4 @@ pub mod LineLaws
 pub mod EntryLaws
 pub mod GatherLaws
 pub mod UnitLaws
+pub mod PlainLaws

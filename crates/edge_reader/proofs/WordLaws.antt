@@ -26,7 +26,7 @@ begins_past_blanks (c ∷ s) =
     (λ (plain : is_blank c ≡ false). rw plain plain)
     (cases_Bool (is_blank c))
 
-join_blank : (c d : ℕ) (s : List ℕ) (ws : List (List ℕ)) → is_blank d ≡ true → join_byte c (d ∷ s) ws ≡ (c ∷ []) ∷ ws
+pub join_blank : (c d : ℕ) (s : List ℕ) (ws : List (List ℕ)) → is_blank d ≡ true → join_byte c (d ∷ s) ws ≡ (c ∷ []) ∷ ws
 join_blank c d s [] split = refl
 join_blank c d s (w ∷ ws) split = rw split refl
 

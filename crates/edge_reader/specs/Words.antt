@@ -1,5 +1,5 @@
 -- Words between blanks, and the numbers that they say.
-use Rattle.std.specs.Prelude.{◌==◌, ℕ, ◌+◌, ◌-◌, ◌*◌, nat_le, Bool, false, not, ◌&&◌, ◌||◌, if◌then◌else◌, List, [], ◌∷◌, Option, Some, None}
+use Rattle.std.specs.Prelude.{◌≡◌, ◌==◌, ℕ, ◌+◌, ◌-◌, ◌*◌, nat_le, Bool, false, true, not, ◌&&◌, ◌||◌, if◌then◌else◌, List, [], ◌∷◌, ◌++◌, min, Option, Some, None}
 use Rattle.std.specs.List.{fold, list_all}
 
 -- a space or a tab
@@ -37,3 +37,10 @@ value_of digits = fold (λ value digit. value * 10 + (digit - 48)) 0 digits
 -- the number that a word says, where it is digits
 abbrev pub number_of : List ℕ → Option ℕ
 number_of word = if is_number word then Some (value_of word) else None
+
+-- a text that begins with a number, cut down to 2^40 where it is larger, and goes on with `rest`
+pub record BeginsWith (text : List ℕ) (number : ℕ) (rest : List ℕ) : Type 0 where
+  pub word : List ℕ
+  pub parts : text ≡ word ++ rest
+  pub says : is_number word ≡ true
+  pub value : number ≡ min (value_of word) 1099511627776

@@ -1,10 +1,10 @@
-ghost use Rattle.std.specs.Prelude.{◌≡◌, ◌<◌, ◌≤◌, [], ◌∷◌, length, MatchOption, IfSome};
+ghost use Rattle.std.specs.Prelude.{◌≡◌, ◌<◌, ◌≤◌, [], ◌∷◌, length, map, MatchOption, IfSome};
 ghost use Rattle.std.specs.List.{position_or_len};
 ghost use Rattle.std.specs.Option.{option_map};
 ghost use Rattle.edge_reader.specs.Lines.{is_line_end, lines_of, without_return, weight_of, capped, is_comment, entry_of_line};
 
 use crate::entry::{Entry, Weight};
-use crate::words::{HUGE, next_word, number};
+use crate::words::{HUGE, blank, leading_number, next_word, number};
 
 /// How long the first line is, without its line feed.
 fn line_len(bytes: &[u8]) -> usize
@@ -86,4 +86,36 @@ pub fn read_line(line: &[u8]) -> Entry
         Some(_) => Entry::Malformed,
         None => Entry::from_numbers(number(from), number(to), weight(last)),
     }
+}
+
+/// What a line of two numbers with one blank between them says, as most lines are, and what stands behind
+/// its line feed. Nothing is said of other lines.
+fn plain_line(bytes: &[u8]) -> Option<(Entry, &[u8])>
+    ensures entries { IfSome result (λ found. map entry_of_line (lines_of bytes.now) ≡ found.0 ∷ map entry_of_line (lines_of found.1.now)) }
+    ensures shorter { IfSome result (λ found. length found.1.now < length bytes.now) }
+{
+    let (from, rest) = leading_number(bytes)?;
+    let (separator, rest) = rest.split_first()?;
+    if !blank(*separator) {
+        return None;
+    }
+    let (to, rest) = leading_number(rest)?;
+    let (end, rest) = rest.split_first()?;
+    if *end != b'\n' {
+        return None;
+    }
+    let entry = Entry::from_numbers(Some(from), Some(to), Some(Weight::ONE));
+    Some((entry, rest))
+}
+
+/// What the first line says, where there is one, and what stands behind it.
+pub fn next_entry(bytes: &[u8]) -> Option<(Entry, &[u8])>
+    ensures entries { MatchOption result (lines_of bytes.now ≡ []) (λ found. map entry_of_line (lines_of bytes.now) ≡ found.0 ∷ map entry_of_line (lines_of found.1.now)) }
+    ensures shorter { IfSome result (λ found. length found.1.now < length bytes.now) }
+{
+    if let Some(found) = plain_line(bytes) {
+        return Some(found);
+    }
+    let (line, rest) = next_line(bytes)?;
+    Some((read_line(line), rest))
 }

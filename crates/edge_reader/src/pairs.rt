@@ -8,7 +8,7 @@ use crate::fault::EdgeFault;
 use crate::gather::{add, refusal, vertex_count};
 use byteorder::{ByteOrder, LittleEndian};
 use std::alloc::Global;
-use vert_base::limits::GRAPH_BYTES;
+use vert_base::limits::{EDGES, GRAPH_BYTES};
 use vert_base::{Edge, VertexId};
 
 /// The bytes of a source and a target.
@@ -57,6 +57,12 @@ fn read_unit(unit: &[u8], weighted: bool) -> Entry
     })
 }
 
+/// How many edges so many units give, and no more than a graph has.
+fn most_edges(units: usize, both: bool) -> usize {
+    let each = if both { 2 } else { 1 };
+    units.saturating_mul(each).min(EDGES as usize)
+}
+
 /// Reads a binary edge list: units of a source and a target as little-endian `u32`, and with `weighted`
 /// a weight as little-endian `i32`. With `both`, each edge is followed by its reversal.
 pub fn read_pairs(
@@ -81,7 +87,7 @@ pub fn read_pairs(
             at: (bytes.len() - broken) as u64,
         });
     }
-    let mut list = Vec::new(alloc);
+    let mut list = Vec::with_capacity(alloc, most_edges(bytes.len() / size, both))?;
     let mut rest = bytes;
     let mut number = 0usize;
     while let Some((unit, after)) = next_unit(rest, size) {

@@ -6,7 +6,7 @@ ghost use Rattle.edge_reader.specs.Gives.{Gives};
 use crate::edges::Edges;
 use crate::fault::EdgeFault;
 use crate::gather::{add, refusal, vertex_count};
-use crate::line::{next_line, read_line};
+use crate::line::next_entry;
 use std::alloc::Global;
 use vert_base::limits::{GRAPH_BYTES, VERTICES};
 
@@ -30,8 +30,7 @@ pub fn read_text(
     let mut list = Vec::new(alloc);
     let mut rest = bytes;
     let mut number = 1u32;
-    while let Some((line, after)) = next_line(rest) {
-        let entry = read_line(line);
+    while let Some((entry, after)) = next_entry(rest) {
         if let Some(code) = refusal(entry, list.len(), vertices, both) {
             return Err(EdgeFault::Line { code, line: number });
         }

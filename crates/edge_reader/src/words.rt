@@ -1,14 +1,14 @@
-ghost use Rattle.std.specs.Prelude.{◌≡◌, ◌≤◌, [], ◌∷◌, length, min, MatchOption};
+ghost use Rattle.std.specs.Prelude.{◌≡◌, ◌≤◌, [], ◌∷◌, length, min, IfSome, MatchOption};
 ghost use Rattle.std.specs.List.{position_or_len};
 ghost use Rattle.std.specs.Option.{option_map};
-ghost use Rattle.edge_reader.specs.Words.{is_blank, is_word_byte, words_of, number_of};
+ghost use Rattle.edge_reader.specs.Words.{BeginsWith, is_blank, is_word_byte, words_of, number_of};
 
 /// Above every number that a file may hold. Larger ones are read as this one.
 pub const HUGE: u64 = 1 << 40;
 
 /// A space or a tab.
 #[inline]
-fn blank(byte: u8) -> bool
+pub fn blank(byte: u8) -> bool
     ensures { result ≡ is_blank byte }
 {
     byte == b' ' || byte == b'\t'
@@ -66,4 +66,21 @@ pub fn number(word: &[u8]) -> Option<u64>
         value = (value * 10 + u64::from(*byte - b'0')).min(HUGE);
     }
     Some(value)
+}
+
+/// The digits in front, where there are some and a byte behind them, as a number, and what stands behind.
+pub fn leading_number(text: &[u8]) -> Option<(u64, &[u8])>
+    ensures { IfSome result (λ found. BeginsWith text.now found.0 found.1.now) }
+{
+    let mut value = 0u64;
+    for (i, byte) in text.iter().enumerate() {
+        if !byte.is_ascii_digit() {
+            if i == 0 {
+                return None;
+            }
+            return Some((value, &text[i..]));
+        }
+        value = (value * 10 + u64::from(*byte - b'0')).min(HUGE);
+    }
+    None
 }

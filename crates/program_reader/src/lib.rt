@@ -8,4 +8,3 @@ mod refusal;
 pub use laws::accepted_once;
 pub use reader::read_program;
 pub use refusal::{ProgramFault, Refusal, Stage};
-

@@ -53,12 +53,7 @@ fn print_let(out: &mut String, line: Line, name: &str, class: Class) -> Result<(
     }
 }
 
-fn print_carried(
-    out: &mut String,
-    keyword: &str,
-    name: &str,
-    class: Class,
-) -> Result<(), Want>
+fn print_carried(out: &mut String, keyword: &str, name: &str, class: Class) -> Result<(), Want>
     ensures { OnOk result (string_bytes out.new ≡ string_bytes out.old ++ carried_line keyword.now name.now class) }
 {
     match class {
@@ -71,12 +66,7 @@ fn print_carried(
     }
 }
 
-fn print_reduced(
-    out: &mut String,
-    keyword: &str,
-    name: &str,
-    class: Class,
-) -> Result<(), Want>
+fn print_reduced(out: &mut String, keyword: &str, name: &str, class: Class) -> Result<(), Want>
     ensures { OnOk result (string_bytes out.new ≡ string_bytes out.old ++ reduced_line keyword.now name.now class) }
 {
     match class {
