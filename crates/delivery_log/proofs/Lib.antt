@@ -1,0 +1,4 @@
+pub mod LineLaws
+pub mod PlainLaws
+pub mod TakeLaws
+pub mod ReadLaws

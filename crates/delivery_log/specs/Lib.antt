@@ -1,0 +1,3 @@
+pub mod ScheduleTexts
+pub mod Says
+pub mod LineReading
