@@ -20,7 +20,7 @@ fn real_files(rt: HostRuntime) -> Result<(), Fail> {
     let taken = input.take(&mut bytes);
     let end = input.take(&mut bytes[6..]);
     let removed = fs::remove_file(&rt, NAME);
-    assert!(&rt; matches!(loaded, Ok(bytes) if bytes.as_slice() == b"stored".as_slice()));
+    assert!(&rt; matches!(&loaded, Ok(bytes) if bytes.as_slice() == b"stored".as_slice()));
     assert_eq!(&rt; taken, Ok(6));
     assert_eq!(&rt; &bytes[..6], b"stored".as_slice());
     assert_eq!(&rt; end, Ok(0));
