@@ -10,7 +10,7 @@ use Rattle.dep_layout.specs.Judgement.{is_set}
 use Rattle.body_shape.specs.Fit.{bits_of, bits_in}
 use Rattle.body_shape.specs.Places.{set_count, flags_of}
 use Rattle.body_shape.specs.Push.{bytes_with, flags_in, padded}
-use Rattle.body_shape.proofs.PlaceLaws.{flags_of-mask_l, mask_l-flags_of}
+use Rattle.body_shape.proofs.PlaceLaws.{flags_of-mask_l, mask_l-flags_of, high_bits, low_bit}
 
 -- ---- bits that are judged, as flags
 
@@ -95,18 +95,6 @@ no_bits : (k : ℕ) → flags_of k 0 ≡ replicate k false
 no_bits zero = refl
 no_bits (suc k) = ap (λ fs. false ∷ fs) (no_bits k)
 
-bit_back : (b : Bool) (m : ℕ) → not (eqb ((cond b 1 0 + 2 * m) % 2) 0) ≡ b
-bit_back false m =
-    let e : (0 + 2 * m) % 2 ≡ 0 = omega arith in
-    ap (λ n. not (eqb n 0)) e
-bit_back true m =
-    let e : (1 + 2 * m) % 2 ≡ 1 = omega arith in
-    ap (λ n. not (eqb n 0)) e
-
-half_back : (b : Bool) (m : ℕ) → (cond b 1 0 + 2 * m) / 2 ≡ m
-half_back false m = omega arith
-half_back true m = omega arith
-
 -- the bits of the number of flags are the flags and falses
 wide_flags : (k : ℕ) (flags : List Bool) → length flags ≤ k → (j : ℕ) × (flags_of k (mask_l flags) ≡ flags ++ replicate j false)
 wide_flags k [] room = (k, no_bits k)
@@ -114,8 +102,8 @@ wide_flags zero (flag ∷ flags) room = absurd (omega arith)
 wide_flags (suc k) (flag ∷ flags) room =
     let rest = wide_flags k flags (omega arith) in (
       rest.0,
-      ap (λ b. b ∷ flags_of k ((cond flag 1 0 + 2 * mask_l flags) / 2)) (bit_back flag (mask_l flags))
-          ∙ ap (λ n. flag ∷ flags_of k n) (half_back flag (mask_l flags))
+      ap (λ b. b ∷ flags_of k ((cond flag 1 0 + 2 * mask_l flags) / 2)) (low_bit flag (mask_l flags))
+          ∙ ap (λ n. flag ∷ flags_of k n) (high_bits flag (mask_l flags))
           ∙ ap (λ fs. flag ∷ fs) rest.1,
     )
 

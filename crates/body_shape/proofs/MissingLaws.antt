@@ -9,6 +9,7 @@ use Rattle.std.proofs.lemmas.List.{length-replicate}
 use borrow.Author.Rules.{sfits_of}
 use Rattle.dep_layout.specs.Spelling.{are_typed}
 use Rattle.dep_layout.specs.Judgement.{word_of, words_in, rows_in}
+use Rattle.dep_layout.proofs.StateLaws.{fits_zeros}
 use Rattle.vert_base.specs.declared.value.Ruling.TheVariants.{Stop}
 use Rattle.body_shape.specs.Fit.{bit_len, number_of}
 use Rattle.body_shape.specs.Places.{there, mask_of, set_count, placed, flags_of}
@@ -37,10 +38,6 @@ no_rows width (suc n) =
     ∙ ap (λ bytes. replicate width (pos 0) ∷ rows_in width n bytes) (drop-nil (8 * width))
     ∙ ap (λ rows. replicate width (pos 0) ∷ rows) (no_rows width n)
 
-zeros_fit : (n : ℕ) → AllByRecursion (FitsSigned w64) (replicate n (pos 0))
-zeros_fit zero = tt
-zeros_fit (suc n) = (sfits_of (lit< tt), zeros_fit n)
-
 each_same : {X : Type 0} (P : X → Type 0) (x : X) (n : ℕ) → P x → AllByRecursion P (replicate n x)
 each_same P x zero p = tt
 each_same P x (suc n) p = (p, each_same P x n p)
@@ -67,7 +64,7 @@ pub refresh_missing : RefreshMissing
 refresh_missing count width bools =
     let same = rows_are width count in
     let P : List PlainRow → Type 0 = λ rows. SuitsRefresh count width bools rows in
-    let still : IsRow width bools (still_row width) = ((length-replicate width (pos 0), zeros_fit width), zeros_typed width bools) in
+    let still : IsRow width bools (still_row width) = ((length-replicate width (pos 0), fits_zeros width), zeros_typed width bools) in
     (same, subst P (sym same) (length-replicate count (still_row width), each_same (IsRow width bools) (still_row width) count still))
 
 -- ---- update

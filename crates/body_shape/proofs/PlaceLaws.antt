@@ -40,7 +40,7 @@ pub length-flags_of : (k n : ℕ) → length (flags_of k n) ≡ k
 length-flags_of zero n = refl
 length-flags_of (suc k) n = ap suc (length-flags_of k (n / 2))
 
-low_bit : (b : Bool) (m : ℕ) → not (eqb ((cond b 1 0 + 2 * m) % 2) 0) ≡ b
+pub low_bit : (b : Bool) (m : ℕ) → not (eqb ((cond b 1 0 + 2 * m) % 2) 0) ≡ b
 low_bit false m =
     let e : (0 + 2 * m) % 2 ≡ 0 = omega arith in
     ap (λ n. not (eqb n 0)) e
@@ -48,7 +48,7 @@ low_bit true m =
     let e : (1 + 2 * m) % 2 ≡ 1 = omega arith in
     ap (λ n. not (eqb n 0)) e
 
-high_bits : (b : Bool) (m : ℕ) → (cond b 1 0 + 2 * m) / 2 ≡ m
+pub high_bits : (b : Bool) (m : ℕ) → (cond b 1 0 + 2 * m) / 2 ≡ m
 high_bits false m = omega arith
 high_bits true m = omega arith
 

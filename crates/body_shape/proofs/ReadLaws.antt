@@ -13,7 +13,8 @@ use Rattle.dep_layout.proofs.WordLaws.{further, length-words_in}
 use Rattle.body_shape.specs.Fit.{bit_len, number_of}
 use Rattle.body_shape.specs.Places.{flags_of, placed, set_count}
 use Rattle.body_shape.specs.Push.{PushInPlace, flags_in, padded, senders}
-use Rattle.body_shape.specs.Refresh.{bool_of_word, flag_at, row_of}
+use Rattle.body_shape.specs.Refresh.{flag_at, row_of}
+use Rattle.vert_base.specs.Truth.{is_set}
 use Rattle.body_shape.specs.Update.{behind_values, sent_at, values_in}
 use Rattle.body_shape.proofs.FlagLaws.{length-padded}
 use Rattle.body_shape.proofs.MissingLaws.{no_values}
@@ -73,13 +74,13 @@ fields_of : (width : ℕ) (bytes : List ℕ) → take width (words_in (suc width
 fields_of zero bytes = refl
 fields_of (suc width) bytes = ap (λ ws. word_of (take 8 bytes) ∷ ws) (fields_of width (drop 8 bytes))
 
-flag_of : (width : ℕ) (bytes : List ℕ) → flag_at width (words_in (suc width) bytes) ≡ bool_of_word (word_of (take 8 (drop (8 * width) bytes)))
+flag_of : (width : ℕ) (bytes : List ℕ) → flag_at width (words_in (suc width) bytes) ≡ is_set (word_of (take 8 (drop (8 * width) bytes)))
 flag_of zero bytes = refl
-flag_of (suc width) bytes = flag_of width (drop 8 bytes) ∙ ap (λ bs. bool_of_word (word_of (take 8 bs))) (sym (further width bytes))
+flag_of (suc width) bytes = flag_of width (drop 8 bytes) ∙ ap (λ bs. is_set (word_of (take 8 bs))) (sym (further width bytes))
 
 -- the row that is spelled at the front of bytes
 pub row_parts : (width : ℕ) (bytes : List ℕ) →
-    row_of width (words_in (suc width) bytes) ≡ record { fields = words_in width bytes; active = bool_of_word (word_of (take 8 (drop (8 * width) bytes))) }
+    row_of width (words_in (suc width) bytes) ≡ record { fields = words_in width bytes; active = is_set (word_of (take 8 (drop (8 * width) bytes))) }
 row_parts width bytes =
     let fields = fields_of width bytes in
     let active = flag_of width bytes in

@@ -13,10 +13,11 @@ use borrow.Author.Rules.{sfits_of}
 use Rattle.vert_base.specs.declared.value.ValueType.TheVariants as kind
 use Rattle.dep_layout.proofs.SpellingLaws.{below_from_All}
 use Rattle.body_shape.specs.Shapes.{bool_bits}
-use Rattle.body_shape.specs.Refresh.{IsWords, HasFields, words_bytes, rows_bytes, PlainRow, word_of_bool, bool_of_word, row_words, refresh_body, flag_at, row_of, IsRow, is_flagged, RefreshReadsBack, RefreshInPlace, RefreshGrows, FormIsFlagged, RefreshFits, RefreshSuits, RefreshIsSpelled}
+use Rattle.body_shape.specs.Refresh.{IsWords, HasFields, words_bytes, rows_bytes, PlainRow, row_words, refresh_body, flag_at, row_of, IsRow, is_flagged, RefreshReadsBack, RefreshInPlace, RefreshGrows, FormIsFlagged, RefreshFits, RefreshSuits, RefreshIsSpelled}
+use Rattle.vert_base.specs.Truth.{word_of_bool, is_set}
 use Rattle.body_shape.proofs.RowLaws.{rows_whole, length-rows_bytes, bytes_whole, length-rows_in, each-rows_in}
 
-bool_again : (b : Bool) → bool_of_word (word_of_bool b) ≡ b
+bool_again : (b : Bool) → is_set (word_of_bool b) ≡ b
 bool_again false = refl
 bool_again true = refl
 
@@ -28,7 +29,7 @@ Bool_no : false ≡ true → ⊥
 Bool_no e = cc
 
 -- a word that is a Bool is that of its truth
-word_again : (word : ℤ) → is_bool word ≡ true → word_of_bool (bool_of_word word) ≡ word
+word_again : (word : ℤ) → is_bool word ≡ true → word_of_bool (is_set word) ≡ word
 word_again (pos zero) e = refl
 word_again (pos (suc zero)) e = refl
 word_again (pos (suc (suc n))) e = absurd (omega (arith, ltb-true (suc (suc n)) 2 e))

@@ -8,6 +8,7 @@ use Rattle.std.specs.Simd.Lanes.{mask_l}
 use Rattle.std.proofs.lemmas.Bool.{and_parts, and_from, eqb-true, ltb-true, lt-ltb, leb-true, le-leb}
 use Rattle.std.proofs.lemmas.List.{append_assoc, length-append, length-drop, length-map, drop-drop, drop_at}
 use Rattle.std.proofs.lemmas.Simd.{mask_l-lt}
+use Rattle.std.proofs.lemmas.Option.{cond_some}
 use Rattle.dep_layout.specs.Judgement.{words_in}
 use Rattle.dep_layout.proofs.WordLaws.{AreBelow, drop_below, bytes-words_in, words_again, length-words_bytes, length-words_in, fits-words_in}
 use Rattle.dep_layout.proofs.SpellingLaws.{below_from_All}
@@ -116,10 +117,6 @@ sent_fits slots reduced s rest is =
 
 -- ---- an update that is judged first
 
-chosen : (b : Bool) (x y : List ℕ) → cond b (Some x) None ≡ Some y → (b ≡ true) × (x ≡ y)
-chosen true x y e = let same : x ≡ y = cc in (refl, same)
-chosen false x y e = absurd (cc)
-
 record IsFirst (slots reduced : ℕ) (bytes others : List ℕ) : Type 0 where
   behind : behind_sent slots reduced bytes ≡ others
   spelled : sent_bytes (sent_at slots reduced bytes) ++ others ≡ bytes
@@ -130,7 +127,7 @@ first_sent : (slots reduced : ℕ) (bytes others : List ℕ) → AreBelow bytes 
 first_sent slots reduced [] others fits found = absurd (cc)
 first_sent slots reduced (low ∷ []) others fits found = absurd (cc)
 first_sent slots reduced (low ∷ high ∷ bytes) others fits found =
-    let test = chosen (is_mask slots low && (is_mask reduced high && leb (words_len low high) (length bytes))) (drop (words_len low high) bytes) others found in
+    let test = cond_some (is_mask slots low && (is_mask reduced high && leb (words_len low high) (length bytes))) (drop (words_len low high) bytes) others found in
     let one = and_parts (is_mask slots low) (is_mask reduced high && leb (words_len low high) (length bytes)) test.0 in
     let two = and_parts (is_mask reduced high) (leb (words_len low high) (length bytes)) one.1 in
     let low_below : low < 2 ^ slots = ltb-true _ _ one.0 in
@@ -160,7 +157,7 @@ first_sent slots reduced (low ∷ high ∷ bytes) others fits found =
       fits = subst Q test.1 (drop_below (words_len low high) bytes inner);
     }
 
-some_from_test : (f : List ℕ → Bool) (o : Option (List ℕ)) → option_map_or f o false ≡ true → (rest : List ℕ) × (o ≡ Some rest) × (f rest ≡ true)
+pub some_from_test : (f : List ℕ → Bool) (o : Option (List ℕ)) → option_map_or f o false ≡ true → (rest : List ℕ) × (o ≡ Some rest) × (f rest ≡ true)
 some_from_test f None e = absurd (cc)
 some_from_test f (Some rest) e = (rest, refl, e)
 

@@ -10,6 +10,7 @@ use Rattle.body_shape.specs.declared.shape.BodyShape.TheVariants.{Refresh}
 use Rattle.vert_base.specs.declared.value.Row.{Row}
 use Rattle.vert_base.specs.declared.value.ValueType.{ValueType}
 use Rattle.vert_base.specs.declared.value.ValueType.TheVariants as kind
+use Rattle.vert_base.specs.Truth.{is_set, word_of_bool}
 use Rattle.body_shape.specs.Shapes.{bool_bits}
 use Rattle.body_shape.specs.Fit.{is_fit}
 
@@ -28,15 +29,6 @@ pub record PlainRow : Type 0 where
   pub fields : List ℤ
   pub active : Bool
 
-abbrev pub word_of_bool : Bool → ℤ
-word_of_bool false = pos 0
-word_of_bool true = pos 1
-
-abbrev pub bool_of_word : ℤ → Bool
-bool_of_word (pos zero) = false
-bool_of_word (pos (suc n)) = true
-bool_of_word (negsuc n) = true
-
 -- the fields, then the flag
 abbrev pub row_words : PlainRow → List ℤ
 row_words row = row.fields ++ word_of_bool row.active ∷ []
@@ -50,7 +42,7 @@ refresh_body rows = rows_bytes (map row_words rows)
 -- the flag behind so many fields
 abbrev pub flag_at : ℕ → List ℤ → Bool
 flag_at width [] = false
-flag_at zero (word ∷ words) = bool_of_word word
+flag_at zero (word ∷ words) = is_set word
 flag_at (suc width) (word ∷ words) = flag_at width words
 
 abbrev pub row_of : ℕ → List ℤ → PlainRow

@@ -1,5 +1,6 @@
 ghost use Rattle.std.specs.Prelude.{◌≡◌, ◌≤◌, ◌<◌, ◌+◌, ◌*◌, ◌^◌, ◌++◌, length, vec_capacity, vec_len, IsOk, OnErr, OnOk};
-ghost use Rattle.body_shape.specs.Refresh.{bool_of_word, plain_row, row_at, row_bytes, word_of_bool};
+ghost use Rattle.body_shape.specs.Refresh.{plain_row, row_at, row_bytes};
+ghost use Rattle.vert_base.specs.Truth.{is_set, word_of_bool};
 
 use crate::words::{lay, read_words, word_at};
 use vert_base::{Row, Want};
@@ -11,8 +12,8 @@ fn word_of_bool(flag: bool) -> i64
 }
 
 #[inline]
-fn bool_of_word(word: i64) -> bool
-    ensures { result ≡ bool_of_word word }
+fn is_set(word: i64) -> bool
+    ensures { result ≡ is_set word }
 {
     match word {
         0 => false,
@@ -46,5 +47,5 @@ pub fn read_row(body: &[u8], width: usize, place: usize, row: &mut Row)
 {
     let start = 8 * (width + 1) * place;
     read_words(body, start, width, &mut row.words);
-    row.active = bool_of_word(word_at(body, start + 8 * width));
+    row.active = is_set(word_at(body, start + 8 * width));
 }

@@ -8,7 +8,7 @@ use Rattle.std.proofs.lemmas.Bool.{cases_lt, cases_eq}
 use Rattle.vert_base.specs.declared.graph.Edge.{Edge}
 use Rattle.edge_reader.specs.EdgeList.{Graph}
 use Rattle.graph_table.specs.Tables.{IsTableOf}
-use Rattle.chunk_split.specs.Chunks.{start_of}
+use Rattle.vert_base.specs.Ends.{start_of}
 use Rattle.chunk_split.specs.Bounds.{AreBounds, IsLeast, cost_of, costs_of, ends_from, ends_of, reach}
 use Rattle.chunk_split.proofs.ReachLaws.{reach_fewest, sum_step}
 use Rattle.chunk_split.proofs.EndLaws.{ends_length}

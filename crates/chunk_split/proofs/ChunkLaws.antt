@@ -6,7 +6,8 @@ use Rattle.std.specs.List.Sorted.{IsNonDecreasing, IsPartitionPoint}
 use Rattle.std.proofs.lemmas.Bool.{cases_lt, true≢false}
 use Rattle.std.proofs.lemmas.Bool.Decides.{nat_tests}
 use Rattle.vert_base.specs.Neighbours.{turn_of}
-use Rattle.chunk_split.specs.Chunks.{AreEnds, Holds, start_of, vertices_of}
+use Rattle.chunk_split.specs.Chunks.{AreEnds, Holds, vertices_of}
+use Rattle.vert_base.specs.Ends.{start_of}
 
 -- the ends up to one of them aren't above v, and those from it on are
 pub record Parts (ends : List ℕ) (v m : ℕ) : Type 0 where

@@ -4,7 +4,7 @@ use Rattle.std.specs.Int.{div_ceil}
 use Rattle.std.specs.List.{range_with_len}
 use Rattle.vert_base.specs.declared.graph.Edge.{Edge}
 use Rattle.vert_base.specs.Neighbours.{outs_of}
-use Rattle.chunk_split.specs.Chunks.{start_of}
+use Rattle.vert_base.specs.Ends.{start_of}
 
 -- the cost of vertex v among p machines: 8 for each other machine, and 1 for each edge that leaves it
 abbrev pub cost_of : ℕ → ℕ → List Edge → ℕ → ℕ

@@ -1,15 +1,11 @@
 -- Chunks side by side from vertex 0 on, as the list of their ends.
 use Rattle.std.specs.Prelude.{ℕ, zero, suc, ◌-◌, ◌<◌, ◌≤◌, List, length, slice_index}
 use Rattle.std.specs.List.Sorted.{IsNonDecreasing}
+use Rattle.vert_base.specs.Ends.{start_of}
 
 -- at least one end and no more than `most`, and none is below an earlier one
 abbrev pub AreEnds : ℕ → List ℕ → Type 0
 AreEnds most ends = (1 ≤ length ends) × (length ends ≤ most) × IsNonDecreasing ends
-
--- where chunk m begins: where the one before it ends
-abbrev pub start_of : List ℕ → ℕ → ℕ
-start_of ends zero = 0
-start_of ends (suc m) = slice_index ends m
 
 -- how many vertices the chunks hold: up to the last end
 abbrev pub vertices_of : List ℕ → ℕ

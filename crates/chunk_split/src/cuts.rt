@@ -1,6 +1,7 @@
 ghost use Rattle.std.specs.Prelude.{◌≡◌, ℕ, ◌<◌, ◌≤◌, ◌↔◌, IsSome, IfSome, length, slice_index};
 ghost use Rattle.vert_base.specs.Neighbours.{turn_of};
-ghost use Rattle.chunk_split.specs.Chunks.{AreEnds, Holds, start_of, vertices_of};
+ghost use Rattle.chunk_split.specs.Chunks.{AreEnds, Holds, vertices_of};
+ghost use Rattle.vert_base.specs.Ends.{start_of};
 
 use arrayvec::ArrayVec;
 use std::marker::Model;

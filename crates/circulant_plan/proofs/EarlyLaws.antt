@@ -5,7 +5,8 @@ use Rattle.std.proofs.lemmas.Bool.{or_left, or_right, cases_Bool, cases_lt}
 use Rattle.std.proofs.lemmas.List.Elements.{filter-append}
 use Rattle.vert_base.specs.declared.graph.Edge.{Edge}
 use Rattle.vert_base.specs.Neighbours.{source, ins_of, neighbours_of}
-use Rattle.circulant_plan.specs.Ring.{AreEndsUpTo, order_of, start_of, lies_in, lies_early, members_with, members_by_steps}
+use Rattle.circulant_plan.specs.Ring.{AreEndsUpTo, order_of, lies_in, lies_early, members_with, members_by_steps}
+use Rattle.vert_base.specs.Ends.{start_of}
 use Rattle.circulant_plan.specs.Laws.{ReadsEarlyOnes}
 use Rattle.circulant_plan.proofs.SpanLaws.{rises_far}
 use Rattle.circulant_plan.proofs.CircleLaws.{order_once}

@@ -9,7 +9,8 @@ use Rattle.std.proofs.lemmas.List.Concat.{flat_map-append}
 use Rattle.std.proofs.Math.Nat.{mod-lt}
 use Rattle.vert_base.specs.declared.graph.Edge.{Edge}
 use Rattle.vert_base.specs.Neighbours.{source, target, ins_of, turned, turn_of, neighbours_of}
-use Rattle.circulant_plan.specs.Ring.{AreEndsUpTo, order_of, start_of, lies_in, IsInChunk, members_with, members_by_steps}
+use Rattle.circulant_plan.specs.Ring.{AreEndsUpTo, order_of, lies_in, IsInChunk, members_with, members_by_steps}
+use Rattle.vert_base.specs.Ends.{start_of}
 use Rattle.circulant_plan.specs.Laws.{TurnsAtItsEnd, ReadsInTurn, ReadsByParts}
 use Rattle.circulant_plan.proofs.SpanLaws.{span, by_machines, by_machines_is, rises_far, range_split, flat_map_shift, is_below, span_to_end, span_from_start}
 

@@ -4,6 +4,7 @@ use Rattle.std.specs.List.Sorted.{IsNonDecreasing}
 use Rattle.std.specs.List.{filter, flat_map, range_with_len}
 use Rattle.vert_base.specs.declared.graph.Edge.{Edge}
 use Rattle.vert_base.specs.Neighbours.{source}
+use Rattle.vert_base.specs.Ends.{start_of}
 
 -- the machine that works on chunk d in step s, of p machines
 abbrev pub order_of : ℕ → ℕ → ℕ → ℕ
@@ -28,11 +29,6 @@ cut_of a b = a + (b - a + 1) / 2
 abbrev pub half_of : ℕ → ℕ → ℕ → ℕ × ℕ
 half_of a b zero = (a, cut_of a b)
 half_of a b (suc h) = (cut_of a b, b)
-
--- where chunk m starts, given the ends of the chunks: where the chunk before it ends
-abbrev pub start_of : List ℕ → ℕ → ℕ
-start_of ends zero = 0
-start_of ends (suc m) = slice_index ends m
 
 -- these are the ends of p chunks that stand side by side up to vertex n
 pub record AreEndsUpTo (n p : ℕ) (ends : List ℕ) : Type 0 where

@@ -14,7 +14,7 @@ use Rattle.dep_layout.proofs.WordLaws.{AreBelow, drop_below}
 use Rattle.dep_layout.proofs.StateLaws.{pairs_from, bytes-states_in, states_again, length-sent, typed-sent, none_both, states-states_in, length-states_in, marks-states_in}
 
 -- a test that didn't refuse
-passed : {X : Type 0} (b : Bool) (fault : X) (rest : Option X) → cond b (Some fault) rest ≡ None → (b ≡ false) × (rest ≡ None)
+pub passed : {X : Type 0} (b : Bool) (fault : X) (rest : Option X) → cond b (Some fault) rest ≡ None → (b ≡ false) × (rest ≡ None)
 passed true fault rest e = cc
 passed false fault rest e = (refl, e)
 

@@ -158,7 +158,7 @@ typed_zeros : (n bools : ℕ) → are_typed bools (replicate n (pos 0)) ≡ true
 typed_zeros zero bools = refl
 typed_zeros (suc n) bools = and_from _ _ (or_right (eqb (bools % 2) 0) true refl) (typed_zeros n (bools / 2))
 
-fits_zeros : (n : ℕ) → AllByRecursion (FitsSigned w64) (replicate n (pos 0))
+pub fits_zeros : (n : ℕ) → AllByRecursion (FitsSigned w64) (replicate n (pos 0))
 fits_zeros zero = tt
 fits_zeros (suc n) = (sfits_of (lit< tt), fits_zeros n)
 

@@ -7,10 +7,12 @@ use Rattle.std.proofs.lemmas.List.{length-drop, length-take}
 use Rattle.std.proofs.lemmas.List.Elements.{All-head, All-tail, All-drop}
 use Rattle.std.proofs.lemmas.List.Sums.{count_by-le-length}
 use Rattle.std.proofs.lemmas.Nat.{mul-le, ones-le}
+use Rattle.std.proofs.lemmas.Option.{cond_some}
 use Rattle.dep_layout.specs.Judgement.{is_set, mark_len, pairs_in, refusal_of, started}
-use Rattle.dep_layout.proofs.SpellingLaws.{sound_parts}
+use Rattle.dep_layout.proofs.SpellingLaws.{sound_parts, passed}
 use Rattle.body_shape.specs.declared.shape.BodyShape.TheVariants.{Refresh, Dep, Update, Push, Tally, Verdict}
 use Rattle.body_shape.specs.Fit.{are_rows, are_updates, behind_update, bit_len, bits_in, is_mask, is_push, is_ruling, is_tally, is_verdict, words_len}
+use Rattle.body_shape.proofs.UpdateLaws.{some_from_test}
 use Rattle.dep_message.specs.Laws.{AreBytes, FitIsBounded}
 
 none_from_test : {X : Type 0} (o : Option X) → is_none o ≡ true → o ≡ None
@@ -29,11 +31,6 @@ count-le p n xs = omega (arith, count_by-le-length p (take n xs), length-take n 
 mask_bits : (place bits : ℕ) → bits < 256 → is_mask place bits ≡ true → count_ones bits ≤ min place 8
 mask_bits place bits byte mask = omega (arith, ones-le place bits (ltb-true _ _ mask), ones-le 8 bits byte)
 
--- a test that gave a value
-chosen : (b : Bool) (x y : List ℕ) → cond b (Some x) None ≡ Some y → (b ≡ true) × (x ≡ y)
-chosen true x y e = let same : x ≡ y = cc in (refl, same)
-chosen false x y e = absurd (cc)
-
 pub record IsBehind (slots reduced : ℕ) (bytes others : List ℕ) : Type 0 where
   pub bound : length bytes ≤ (2 + 8 * min slots 8 + 8 * min reduced 8) + length others
   pub fits : AreBytes others
@@ -47,7 +44,7 @@ update-le slots reduced (low ∷ high ∷ bytes) rest fits found =
     let low_byte : low < 256 = All-head P low (high ∷ bytes) fits in
     let others = All-tail P low (high ∷ bytes) fits in
     let high_byte : high < 256 = All-head P high bytes others in
-    let test = chosen (is_mask slots low && (is_mask reduced high && leb size (length bytes))) (drop size bytes) rest found in
+    let test = cond_some (is_mask slots low && (is_mask reduced high && leb size (length bytes))) (drop size bytes) rest found in
     let first = and_parts (is_mask slots low) (is_mask reduced high && leb size (length bytes)) test.0 in
     let second = and_parts (is_mask reduced high) (leb size (length bytes)) first.1 in
     let enough : words_len low high ≤ length bytes = leb-true _ _ second.1 in
@@ -55,10 +52,6 @@ update-le slots reduced (low ∷ high ∷ bytes) rest fits found =
       bound = omega (arith, mask_bits slots low low_byte first.0, mask_bits reduced high high_byte second.0, enough, length-drop size bytes, ap length test.1);
       fits = subst (λ (bs : List ℕ). AreBytes bs) test.1 (All-drop P size bytes (All-tail P high bytes others));
     }
-
-some_from_test : (f : List ℕ → Bool) (o : Option (List ℕ)) → option_map_or f o false ≡ true → (rest : List ℕ) × (o ≡ Some rest) × (f rest ≡ true)
-some_from_test f None e = absurd (cc)
-some_from_test f (Some rest) e = (rest, refl, e)
 
 updates-le : (slots reduced vertices : ℕ) (bytes : List ℕ) → AreBytes bytes → are_updates slots reduced vertices bytes ≡ true → length bytes ≤ (2 + 8 * min slots 8 + 8 * min reduced 8) * vertices
 updates-le slots reduced zero bytes fits fit = omega (arith, eqb-true _ _ fit)
@@ -84,10 +77,6 @@ push-le vertices words bools body fit =
     let marks = take (bit_len vertices) body in
     let count = count_by is_set (take vertices (bits_in marks)) in
     marked-le (bit_len vertices) words vertices count body (leb-true _ _ whole.0) (length-rows count words bools _ parts.1) (count-le is_set vertices (bits_in marks))
-
-passed : {X : Type 0} (b : Bool) (fault : X) (rest : Option X) → cond b (Some fault) rest ≡ None → (b ≡ false) × (rest ≡ None)
-passed true fault rest e = absurd (cc)
-passed false fault rest e = (refl, e)
 
 dep-le : (vertices words bools : ℕ) (body : List ℕ) → refusal_of words vertices bools body ≡ None → length body ≤ mark_len vertices + 8 * words * vertices
 dep-le vertices words bools body accepted =

@@ -14,11 +14,10 @@ use Rattle.dep_message.specs.declared.header.Header.{Header}
 use Rattle.dep_message.specs.Laws.{AcceptedIsSpelled, AreBytes, HeaderIsRead, SpelledOnce, SpellingIsCounted}
 use Rattle.vert_base.specs.HeaderBytes.{HasSpelling, code_of, four_bytes, kind_of, name_with, number_of_four, spelled_header, spelled_message}
 use Rattle.dep_message.specs.Messages.{header_in, refusal_of, refusal_of_named}
+use Rattle.dep_layout.proofs.SpellingLaws.{passed, below_from_All}
+use Rattle.dep_layout.proofs.WordLaws.{AreBelow}
 
 -- ---- four bytes
-
-abbrev pub AreBelow : List ℕ → Type 0
-AreBelow bytes = (i : ℕ) → get_or bytes i 0 < 256
 
 below_here : (start : ℕ) (bytes : List ℕ) → AreBelow bytes → AreBelow (take 4 (drop start bytes))
 below_here start bytes fits i =
@@ -90,10 +89,6 @@ named f None x e = absurd (cc)
 named f (Some kind) x e = let same : f kind ≡ x = cc in (kind, refl, same)
 
 -- ---- what isn't refused
-
-passed : {X : Type 0} (b : Bool) (fault : X) (rest : Option X) → cond b (Some fault) rest ≡ None → (b ≡ false) × (rest ≡ None)
-passed true fault rest e = absurd (cc)
-passed false fault rest e = (refl, e)
 
 pub record IsWhole (bytes : List ℕ) : Type 0 where
   pub long : 13 ≤ length bytes
@@ -228,19 +223,11 @@ read_from_accepted forms bytes x fits accepted name =
       spelled = spelled_from_whole bytes x fits whole.long whole.size name;
     }
 
-below_from_bytes : (bytes : List ℕ) → AreBytes bytes → AreBelow bytes
-below_from_bytes bytes fits i =
-    let P : ℕ → Type 0 = λ byte. byte < 256 in
-    elim (cases_lt i (length bytes)) [
-      | inl inside ↦ All-get_or P bytes i 0 inside fits
-      | inr past ↦ subst P (sym (get_or_past bytes i 0 past)) (omega arith)
-    ]
-
 pub accepted_law : AcceptedIsSpelled
 accepted_law forms bytes fits accepted =
     let whole = whole_from_accepted forms bytes accepted in
     let name = some_name forms _ (drop 13 bytes) (sym (refusal_of-whole forms bytes whole) ∙ accepted) in
-    let read = read_from_accepted forms bytes name.0 (below_from_bytes bytes fits) accepted name.1 in
+    let read = read_from_accepted forms bytes name.0 (below_from_All bytes fits) accepted name.1 in
     (name.0, drop 13 bytes, read.has_spelling, read.judged, read.spelled)
 
 -- the bytes behind the header, as a slice of all bytes

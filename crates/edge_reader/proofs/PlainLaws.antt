@@ -7,7 +7,8 @@ use Rattle.std.proofs.lemmas.Bool.Decides.{nat_tests}
 use Rattle.std.proofs.lemmas.List.{append-nil, append_assoc}
 use Rattle.edge_reader.specs.declared.entry.Entry.{Entry}
 use Rattle.edge_reader.specs.Lines.{is_line_end, lines_of, join_line, without_return, entry_of_line, entry_of_numbers, is_comment, one}
-use Rattle.edge_reader.specs.Words.{BeginsWith, is_blank, is_digit, is_number, join_byte, value_of, words_of}
+use Rattle.edge_reader.specs.Words.{BeginsWith, is_blank, is_number, join_byte, value_of, words_of}
+use Rattle.vert_base.specs.Digits.{is_digit}
 use Rattle.edge_reader.proofs.EntryLaws.{numbers_capped}
 use Rattle.edge_reader.proofs.WordLaws.{join_blank}
 

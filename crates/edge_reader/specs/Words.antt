@@ -1,6 +1,7 @@
 -- Words between blanks, and the numbers that they say.
 use Rattle.std.specs.Prelude.{◌≡◌, ◌==◌, ℕ, ◌+◌, ◌-◌, ◌*◌, nat_le, Bool, false, true, not, ◌&&◌, ◌||◌, if◌then◌else◌, List, [], ◌∷◌, ◌++◌, min, Option, Some, None}
 use Rattle.std.specs.List.{fold, list_all}
+use Rattle.vert_base.specs.Digits.{is_digit}
 
 -- a space or a tab
 abbrev pub is_blank : ℕ → Bool
@@ -20,10 +21,6 @@ join_byte byte (next ∷ rest) (word ∷ words) = if is_blank next then (byte �
 abbrev pub words_of : List ℕ → List (List ℕ)
 words_of [] = []
 words_of (byte ∷ rest) = if is_blank byte then words_of rest else join_byte byte rest (words_of rest)
-
--- a digit from 0 to 9
-abbrev pub is_digit : ℕ → Bool
-is_digit byte = nat_le 48 byte && nat_le byte 57
 
 -- one digit or more
 abbrev pub is_number : List ℕ → Bool

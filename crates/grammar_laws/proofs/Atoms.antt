@@ -1,6 +1,7 @@
 -- Expressions that begin with a token and end with a token of their own: literals, words, names and draws.
 use Rattle.std.proofs.Common.{◌≡◌, ℕ, ℤ, pos, Bool, true, false, cond, List, [], ◌∷◌, ◌++◌, Option, refl, sym, ap, subst, ◌∙◌, inl, inr, ◌⊎◌}
 use Rattle.std.specs.Prelude.{IsTrue, ◌&&◌, ◌||◌}
+use Rattle.std.proofs.lemmas.Bool.{or_cases}
 use Rattle.vert_base.specs.declared.text.Span.{Span}
 use Rattle.vert_lex.specs.declared.marks.TheConstants as mark
 use Rattle.vert_lex.specs.declared.words.TheConstants as word
@@ -41,12 +42,8 @@ number_is (Mark m) e = absurd cc
 number_is (Number m) e = refl
 number_is (Name m) e = absurd cc
 
-or_true : (a b : Bool) → (a || b) ≡ true → (a ≡ true) ⊎ (b ≡ true)
-or_true true b e = inl refl
-or_true false b e = inr e
-
 pub truth_is : (k : Kind) → is_truth k ≡ true → k ≡ Reserved (truth_word (is_word word.TRUE k))
-truth_is k e = elim (or_true (is_word word.TRUE k) (is_word word.FALSE k) e) [
+truth_is k e = elim (or_cases (is_word word.TRUE k) (is_word word.FALSE k) e) [
   | inl h ↦ same-true k (Reserved word.TRUE) h ∙ ap (λ v. Reserved (truth_word v)) (sym h)
   | inr h ↦ (let q = same-true k (Reserved word.FALSE) h in subst (λ x. x ≡ Reserved (truth_word (is_word word.TRUE x))) (sym q) refl)
 ]
@@ -54,8 +51,8 @@ truth_is k e = elim (or_true (is_word word.TRUE k) (is_word word.FALSE k) e) [
 pub builtin_is : (k : Kind) → is_builtin k ≡ true → k ≡ Reserved (builtin_word (builtin_of (word_in k)))
 unfolding builtin_of
 builtin_is k e =
-    at word.ID refl (or_true _ _ e) (λ e. at word.N refl (or_true _ _ e) (λ e. at word.ROUND refl (or_true _ _ e) (λ e. at word.INDEG refl (or_true _ _ e) (λ e. at word.OUTDEG refl (or_true _ _ e)
-    (λ e. at word.ACTIVE refl (or_true _ _ e) (λ e. at word.W refl (inl e) (λ f. f)))))))
+    at word.ID refl (or_cases _ _ e) (λ e. at word.N refl (or_cases _ _ e) (λ e. at word.ROUND refl (or_cases _ _ e) (λ e. at word.INDEG refl (or_cases _ _ e) (λ e. at word.OUTDEG refl (or_cases _ _ e)
+    (λ e. at word.ACTIVE refl (or_cases _ _ e) (λ e. at word.W refl (inl e) (λ f. f)))))))
   where
     at : {Q : Type 0} (w : ℕ) → Reserved w ≡ Reserved (builtin_word (builtin_of w)) → (is_word w k ≡ true) ⊎ Q → (Q → k ≡ Reserved (builtin_word (builtin_of (word_in k)))) → k ≡ Reserved (builtin_word (builtin_of (word_in k)))
     at w is (inl h) go = let q = same-true k (Reserved w) h in subst (λ x. x ≡ Reserved (builtin_word (builtin_of (word_in x)))) (sym q) is
@@ -120,7 +117,7 @@ member_one = record {
 }
   where
     member_is : (k : Kind) → is_member k ≡ true → k ≡ Reserved (member_word (is_word word.GOT k))
-    member_is k e = elim (or_true (is_word word.GOT k) (is_word word.VALUE k) e) [
+    member_is k e = elim (or_cases (is_word word.GOT k) (is_word word.VALUE k) e) [
       | inl h ↦ same-true k (Reserved word.GOT) h ∙ ap (λ v. Reserved (member_word v)) (sym h)
       | inr h ↦ (let q = same-true k (Reserved word.VALUE) h in subst (λ x. x ≡ Reserved (member_word (is_word word.GOT x))) (sym q) refl)
     ]

@@ -13,7 +13,8 @@ use Rattle.vert_grammar.specs.Grammar.{Limits, Reads, left_of}
 use Rattle.vert_grammar.specs.Reading.{Stop, Parser, ◌>>=◌, stop, rest, is_comparison, turn, chain, climb, tree_at}
 use Rattle.vert_grammar.specs.Signs.{token, layer, layer_of, mark_of, operator}
 use Rattle.grammar_laws.specs.Notions.{deep, inside, SameHead, Took, Sound, Complete, Fault, First}
-use Rattle.grammar_laws.proofs.Readers.{bind_ok, bind_err, chosen, ok_is, err_is, grows_covers, grows_inside, carry}
+use Rattle.grammar_laws.proofs.Readers.{bind_err, chosen, ok_is, err_is, grows_covers, grows_inside, carry}
+use Rattle.vert_grammar.proofs.Steps.{bind_ok, layer_is, chain_turn, chain_twice, chain_deep, chain_inside}
 use Rattle.grammar_laws.proofs.Operators.{operator_back, layer_back, marks_operator}
 use Rattle.grammar_laws.specs.Expressions.{Ends}
 use Rattle.grammar_laws.proofs.Trees.{Ends-tighter, tree_notion, tree_run, depth_pos, Reads-looser, leaf, leaf_tokens, leaf_reads}
@@ -121,15 +122,6 @@ module _ (lim : Limits) (b k : ℕ) (below : Parser Tree) (lt : k < 5) where
 
 -- ---- a chain is read to its end
 
--- one turn with an operand
-pub chain_turn : (b k f : ℕ) (below : Parser Tree) (left x : Tree) (t : Placed) (ts r : List Placed) → layer t.kind ≡ suc k → (eqb (suc k) 3 && is_comparison left) ≡ false → depth left ≤ b → below ts ≡ Ok (x, r)
-    → chain b (suc k) below (suc f) left (t ∷ ts) ≡ chain b (suc k) below f (Pair (start left) (operator t.kind) left x) r
-unfolding chain turn
-chain_turn b k f below left x t ts r l c d e =
-    let p = eq-eqb (layer t.kind) (suc k) l in
-    let q = le-ltb b (depth left) d in
-    rw (p, c, q, e) refl
-
 -- no more turns
 pub chain_ends : (b k f : ℕ) (below : Parser Tree) (left : Tree) (r : List Placed) → Ends (suc k) r → chain b (suc k) below f left r ≡ Ok (left, r)
 unfolding chain turn
@@ -143,11 +135,6 @@ pub record Reached (b k : ℕ) (t : Tree) (u r : List Placed) : Type 0 where
   pub turns : ℕ
   pub enough : suc b ≤ turns + depth t
   pub goes : tree_at (suc b) (suc k) (u ++ r) ≡ chain b (suc k) (tree_at b k) turns t r
-
--- the next layer: what binds tighter, and then its chain
-pub layer_is : (b k : ℕ) (ts : List Placed) → k < 5 → tree_at (suc b) (suc k) ts ≡ (tree_at (suc b) k ts >>= λ x. chain b (suc k) (tree_at b k) b x.0 x.1)
-unfolding tree_at climb
-layer_is b k ts lt = let p : eqb k 5 ≡ false = ne_eqb k 5 (λ e. omega arith) in rw p refl
 
 module _ (lim : Limits) (b k : ℕ) (lt : k < 5) (here : Complete (tree_notion k) (deep lim (suc b)) (tree_at (suc b) k)) (inner : Complete (tree_notion k) (deep lim b) (tree_at b k)) where
   at_once : (t : Tree) (u r : List Placed) → Reads k t u → depth t ≤ suc b → Ends k r → Reached b k t u r
@@ -214,22 +201,6 @@ module _ (lim : Limits) (b k : ℕ) (lt : k < 5) (here : Complete (tree_notion k
       g.goes ∙ chain_ends b k g.turns (tree_at b k) t r f
 
 -- ---- the first fault in a chain
-
--- where the tests of a turn stop it, and where its operand does
-pub chain_twice : (b k f : ℕ) (below : Parser Tree) (left : Tree) (t : Placed) (ts : List Placed) → layer t.kind ≡ suc k → (eqb (suc k) 3 && is_comparison left) ≡ true → chain b (suc k) below f left (t ∷ ts) ≡ stop Unexpected (t ∷ ts)
-unfolding chain turn
-chain_twice b k zero below left t ts l c = let p = eq-eqb (layer t.kind) (suc k) l in rw (p, c) refl
-chain_twice b k (suc f) below left t ts l c = let p = eq-eqb (layer t.kind) (suc k) l in rw (p, c) refl
-
-pub chain_deep : (b k f : ℕ) (below : Parser Tree) (left : Tree) (t : Placed) (ts : List Placed) → layer t.kind ≡ suc k → (eqb (suc k) 3 && is_comparison left) ≡ false → b < depth left → chain b (suc k) below f left (t ∷ ts) ≡ stop TooDeep (t ∷ ts)
-unfolding chain turn
-chain_deep b k zero below left t ts l c d = let p = eq-eqb (layer t.kind) (suc k) l in let q = lt-ltb b (depth left) d in rw (p, c, q) refl
-chain_deep b k (suc f) below left t ts l c d = let p = eq-eqb (layer t.kind) (suc k) l in let q = lt-ltb b (depth left) d in rw (p, c, q) refl
-
-pub chain_inside : (b k f : ℕ) (below : Parser Tree) (left : Tree) (t : Placed) (ts : List Placed) (s : Stop) → layer t.kind ≡ suc k → (eqb (suc k) 3 && is_comparison left) ≡ false → depth left ≤ b → below ts ≡ Err s → chain b (suc k) below f left (t ∷ ts) ≡ Err s
-unfolding chain turn
-chain_inside b k zero below left t ts s l c d e = let p = eq-eqb (layer t.kind) (suc k) l in let q = le-ltb b (depth left) d in rw (p, c, q, e) refl
-chain_inside b k (suc f) below left t ts s l c d e = let p = eq-eqb (layer t.kind) (suc k) l in let q = le-ltb b (depth left) d in rw (p, c, q, e) refl
 
 module _ (lim : Limits) (b k : ℕ) (lt : k < 5) (sound : Sound (tree_notion k) (deep lim b) (tree_at b k)) (complete : (c : ℕ) → Complete (tree_notion k) (deep lim c) (tree_at c k)) (first : 1 ≤ b → First (tree_notion k) (tree_run k) (deep lim b)) where
   abbrev Outer : List Placed → Stop → Type 0

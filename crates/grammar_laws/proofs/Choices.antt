@@ -13,7 +13,8 @@ use Rattle.vert_grammar.specs.Grammar.{Limits, Reads}
 use Rattle.vert_grammar.specs.Reading.{Stop, Parser, ◌>>=◌, stop, both, made, rest, the_mark, choice, climb, tree_at}
 use Rattle.vert_grammar.specs.Signs.{token, is_mark, layer}
 use Rattle.grammar_laws.specs.Notions.{deep, inside, SameHead, Notion, Took, Sound, Complete, Fault, First, Follows, HasWord, both_notion}
-use Rattle.grammar_laws.proofs.Readers.{bind_ok, bind_err, chosen, ok_is, err_is, grows_covers, grows_inside, carry, both_sound, both_complete, both_first}
+use Rattle.grammar_laws.proofs.Readers.{bind_err, chosen, ok_is, err_is, grows_covers, grows_inside, carry, both_sound, both_complete, both_first}
+use Rattle.vert_grammar.proofs.Steps.{bind_ok, six_is}
 use Rattle.grammar_laws.proofs.Signs.{same-true, same-refl, is_token, sign_notion, expect_reader}
 use Rattle.grammar_laws.proofs.Operators.{layer_question, question_six, layer_of_five}
 use Rattle.grammar_laws.specs.Expressions.{Ends}
@@ -108,10 +109,6 @@ choice_sound lim b ih c a (t ∷ ts) x r h d f e =
             subst (λ (w : Tree × List Placed). Took (tree_notion 6) (deep lim (suc b)) (a ++ t ∷ ts) w.0 w.1) (ok_is _ _ s.2) g
       ]
     ]
-
-pub six_is : (b : ℕ) (ts : List Placed) → tree_at (suc b) 6 ts ≡ (tree_at (suc b) 5 ts >>= λ x. choice b (tree_at b 6) x.0 x.1)
-unfolding tree_at climb
-six_is b ts = refl
 
 choice_ends : (b : ℕ) (c : Tree) (r : List Placed) → Ends 6 r → choice b (tree_at b 6) c r ≡ Ok (c, r)
 unfolding choice

@@ -10,7 +10,8 @@ use Rattle.vert_grammar.specs.Faults.{Why, Unexpected, TooDeep}
 use Rattle.vert_grammar.specs.Reading.{Stop, Parser, stop, begins, if_begins, unless, maybe, node}
 use Rattle.vert_grammar.specs.Signs.{token, same}
 use Rattle.grammar_laws.specs.Notions.{Covers, deep, inside, SameHead, Notion, Took, Sound, Complete, Front, Any, Fault, First, HasWord, IsReader, only, IsNode, SoundWhere, FirstWhere}
-use Rattle.grammar_laws.proofs.Readers.{bind_ok, bind_err, chosen, ok_is, err_is, not_ok, same_behind, begins_same, grows_covers, grows_inside, carry}
+use Rattle.grammar_laws.proofs.Readers.{bind_err, chosen, ok_is, err_is, not_ok, same_behind, begins_same, grows_covers, grows_inside, carry}
+use Rattle.vert_grammar.proofs.Steps.{bind_ok}
 use Rattle.grammar_laws.proofs.Signs.{same-true}
 
 -- ---- a choice by the first token

@@ -5,11 +5,12 @@ use Rattle.vert_lex.specs.Text.{Placed}
 use Rattle.vert_grammar.specs.Grammar.{Limits}
 use Rattle.vert_grammar.specs.Reading.{Stop, chain, choice, tree_at}
 use Rattle.grammar_laws.specs.Notions.{deep, Took, Sound, Complete, Fault, First, IsReader}
-use Rattle.grammar_laws.proofs.Readers.{bind_ok, bind_err, grows_covers, carry}
+use Rattle.grammar_laws.proofs.Readers.{bind_err, grows_covers, carry}
+use Rattle.vert_grammar.proofs.Steps.{bind_ok, six_is, layer_is}
 use Rattle.grammar_laws.proofs.Trees.{tree_notion, tree_run, depth_pos, Reads-looser, leaf, leaf_tokens, leaf_reads}
 use Rattle.grammar_laws.proofs.Unary.{unary_sound, unary_complete, unary_first}
-use Rattle.grammar_laws.proofs.Chains.{layer_is, chain_sound, chain_complete, chain_first}
-use Rattle.grammar_laws.proofs.Choices.{six_is, choice_sound, choice_complete, choice_first}
+use Rattle.grammar_laws.proofs.Chains.{chain_sound, chain_complete, chain_first}
+use Rattle.grammar_laws.proofs.Choices.{choice_sound, choice_complete, choice_first}
 
 -- a layer past the first is a chain or the conditional
 five_or : (k : ℕ) → suc k ≤ 6 → (k < 5) ⊎ (k ≡ 5)

@@ -5,7 +5,8 @@ use Rattle.vert_lex.specs.Tokens.{Kind}
 use Rattle.vert_grammar.specs.Grammar.{Limits}
 use Rattle.vert_grammar.specs.Reading.{Parser, both_by, both, made, begins, up_to, many}
 use Rattle.grammar_laws.specs.Notions.{Covers, Mono, Notion, Took, Sound, Complete, First, IsReader, FollowsBy, Follows, both_by_notion, both_notion, IsImage, IsInto}
-use Rattle.grammar_laws.proofs.Readers.{covers_refl, grows_covers, bind_ok, bind_err, ok_is, carry, both_sound, both_complete, both_first}
+use Rattle.grammar_laws.proofs.Readers.{covers_refl, grows_covers, bind_err, ok_is, carry, both_sound, both_complete, both_first}
+use Rattle.vert_grammar.proofs.Steps.{bind_ok}
 use Rattle.grammar_laws.proofs.Lists.{list_notion, up_to_sound, up_to_complete, up_to_first}
 use Rattle.grammar_laws.proofs.Many.{all_notion, many_sound, many_complete, many_first}
 

@@ -8,7 +8,8 @@ use Rattle.vert_grammar.specs.Grammar.{Then, Each, Limits}
 use Rattle.vert_grammar.specs.Faults.{Why, TooMany}
 use Rattle.vert_grammar.specs.Reading.{Stop, Parser, stop, both, made, begins, if_begins, up_to}
 use Rattle.grammar_laws.specs.Notions.{Covers, Mono, Notion, Took, Sound, Complete, Fault, First, Follows, both_notion}
-use Rattle.grammar_laws.proofs.Readers.{bind_ok, bind_err, chosen, ok_is, err_is, same_behind, begins_same, grows_covers, carry, both_sound, both_complete, both_first}
+use Rattle.grammar_laws.proofs.Readers.{bind_err, chosen, ok_is, err_is, same_behind, begins_same, grows_covers, carry, both_sound, both_complete, both_first}
+use Rattle.vert_grammar.proofs.Steps.{bind_ok}
 
 pub all_wider : {A : Type 0} (N : Notion A) (xs : List A) (l m : Limits) → Covers l m → AllByRecursion (N.within l) xs → AllByRecursion (N.within m) xs
 all_wider N [] l m c h = tt

@@ -6,13 +6,10 @@ use Rattle.vert_lex.specs.Text.{Placed}
 use Rattle.vert_lex.specs.Tokens.{Kind}
 use Rattle.vert_grammar.specs.Grammar.{Form, Each, Limits}
 use Rattle.vert_grammar.specs.Reading.{Stop, Res, Parser, ◌>>=◌, both, made, begins, many_from, many}
+use Rattle.vert_grammar.proofs.Steps.{in_front}
 use Rattle.grammar_laws.specs.Notions.{SameHead, Notion, Took, Sound, Complete, Fault, First, Front, Any}
 use Rattle.grammar_laws.proofs.Readers.{ok_is, err_is, same_behind, begins_same, grows_covers, carry}
 use Rattle.grammar_laws.proofs.Lists.{all_wider, all_weaker}
-
--- a further item in front of what was read
-abbrev pub in_front : {A : Type 0} → A → Res (List A) → Res (List A)
-in_front {A = A} y q = made {A = A × List A} (λ x. x.0 ∷ x.1) (λ ts. q >>= λ z. Ok ((y, z.0), z.1)) []
 
 -- what is read is never nothing
 abbrev pub Shrinks : {A : Type 0} → Parser A → Type 0

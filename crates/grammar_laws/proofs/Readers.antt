@@ -5,12 +5,8 @@ use Rattle.vert_lex.specs.Tokens.{Kind}
 use Rattle.vert_grammar.specs.Grammar.{Limits}
 use Rattle.vert_grammar.specs.Faults.{Why, Unexpected, TooDeep, TooMany}
 use Rattle.vert_grammar.specs.Reading.{Stop, Parser, ◌>>=◌, stop, both_by, begins}
+use Rattle.vert_grammar.proofs.Steps.{bind_ok}
 use Rattle.grammar_laws.specs.Notions.{Covers, Grows, inside, SameHead, Notion, Took, Sound, Complete, Front, Any, Beyond, Fault, First, HasWord, FollowsBy, both_by_notion}
-
--- the value of a step that did not fail
-pub bind_ok : {A B : Type 0} (r : Result A Stop) (f : A → Result B Stop) (y : B) → (r >>= f) ≡ Ok y → (x : A) × (r ≡ Ok x) × (f x ≡ Ok y)
-bind_ok (Ok x) f y e = (x, refl, e)
-bind_ok (Err d) f y e = absurd cc
 
 -- where a step failed: at once, or in what follows
 pub bind_err : {A B : Type 0} (r : Result A Stop) (f : A → Result B Stop) (s : Stop) → (r >>= f) ≡ Err s → (r ≡ Err s) ⊎ ((x : A) × (r ≡ Ok x) × (f x ≡ Err s))

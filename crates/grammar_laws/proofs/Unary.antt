@@ -14,6 +14,7 @@ use Rattle.vert_grammar.specs.Faults.{Unexpected}
 use Rattle.vert_grammar.specs.Grammar.{Form, Then, TheMark, Limits, Reads}
 use Rattle.vert_grammar.specs.Reading.{Res, Parser, ◌>>=◌, stop, both, begins, if_begins, unless, single, the_mark, node, is_atom, atom_of, member_of, named_at, other_of, other_at, draw_at, draw_of, grouped, two_of, prefixed, unary, climb, tree_at}
 use Rattle.vert_grammar.specs.Signs.{token, is_mark, is_word, is_name, builtin_of, builtin_word, truth_word}
+use Rattle.vert_grammar.proofs.Steps.{unary_is}
 use Rattle.grammar_laws.specs.Notions.{Covers, deep, SameHead, Notion, Sound, Complete, First, HasWord, Follows, both_notion, free_notion, IsInto, IsNode, SoundWhere, FirstWhere}
 use Rattle.grammar_laws.proofs.Readers.{begins_same, both_sound, both_complete, both_first}
 use Rattle.grammar_laws.proofs.Signs.{sign_notion, expect_reader}
@@ -587,11 +588,6 @@ module _ (l : Limits) (b : ℕ) (ih : (k : ℕ) → k ≤ 6 → Complete (tree_n
       ∙ node_goes two_notion prefix_notion (Reserved word.MAX) greatest_of greatest_node b (two_of (tree_at b)) (token s (Reserved word.MAX)) (h.back ++ r) (two_parts left right h.back g) r (let p = depth_pos left in omega arith) (two left right h.back r g w)
   prefix_complete (Pair s op left right) u r h w f = absurd (let p = layer_of_pos op in let q = h.0 in omega arith)
   prefix_complete (Choice s test held otherwise) u r h w f = absurd (let q = h.0 in omega arith)
-
--- ---- no dot may follow
-pub unary_is : (b : ℕ) (ts : List Placed) → tree_at (suc b) 0 ts ≡ unary b (tree_at b) ts
-unfolding tree_at climb
-unary_is b ts = refl
 
 unary_unless : (b : ℕ) (ts : List Placed) → unary b (tree_at b) ts ≡ unless (is_mark mark.DOT) (prefixed b (tree_at b)) ts
 unfolding unary

@@ -8,13 +8,12 @@ use Rattle.vert_tree.specs.declared.program.Decl.{Decl}
 use Rattle.vert_tree.specs.declared.program.Program.{Program}
 use Rattle.vert_tree.specs.Kinds.{is_kinded}
 use Rattle.vert_tree.specs.Limits.{is_limited, is_shallow, mode_stands, names_stand, version_stands}
-use Rattle.vert_tree.specs.Places.{Counts, body_placed, dense_placed, expr_placed, is_placed, lets_placed, loop_rights, no_counts, option_all, round_counts, row_counts}
+use Rattle.vert_tree.specs.Places.{Counts, body_placed, dense_placed, expr_placed, is_placed, lets_placed, loop_rights, no_counts, option_all, round_counts, row_counts, lets_in}
 use Rattle.vert_tree.specs.Readable.{declares_once, is_readable, totals_combine}
 use Rattle.vert_tree.specs.Typed.{is_typed}
 use Rattle.carry_analysis.specs.Classes.{Mark, body_marks, let_classes}
 use Rattle.instrument.specs.declared.split.SplitLoop.{SplitLoop}
 use Rattle.instrument.specs.Loops.{loop_split}
-use Rattle.instrument.specs.Segments.{lets_in}
 
 pub limited : (p : Program) → is_typed p ≡ true → is_limited p ≡ true
 limited p typed =

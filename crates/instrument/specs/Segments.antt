@@ -9,11 +9,6 @@ use Rattle.vert_eval.specs.declared.environment.Env.{Env}
 use Rattle.vert_eval.specs.Rounds.{with_lets}
 use Rattle.instrument.specs.declared.split.SplitLoop.{SplitLoop}
 
--- the lets of a dense block that may be missing
-abbrev pub lets_in : Option Dense → List Decl
-lets_in None = []
-lets_in (Some d) = d.lets.items
-
 -- the word of a let, given the words received for it and those behind it
 abbrev pub received_word : Class → List ℤ → ℤ → ℤ
 received_word Carried (w ∷ ws) x = w

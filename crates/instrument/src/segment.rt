@@ -1,11 +1,11 @@
 ghost use Rattle.std.specs.Prelude.{IsTrue, ◌≡◌, ◌≤◌, ◌<◌, ◌+◌, ◌++◌, All, FitsSigned, length};
 ghost use Rattle.std.specs.Option.{option_copied};
 ghost use Rattle.std.specs.Int.{w64};
-ghost use Rattle.vert_tree.specs.Places.{lets_placed};
+ghost use Rattle.vert_tree.specs.Places.{lets_in, lets_placed};
 ghost use Rattle.slot_merge.specs.Combine.{neutral};
 ghost use Rattle.vert_eval.specs.Rounds.{with_lets};
 ghost use Rattle.vert_eval.specs.Values.{CanDraw, counts_of};
-ghost use Rattle.instrument.specs.Segments.{carried_word, left_after, lets_in, only_lets, received_over, received_word, reset_word, with_neutral, with_received};
+ghost use Rattle.instrument.specs.Segments.{carried_word, left_after, only_lets, received_over, received_word, reset_word, with_neutral, with_received};
 
 use crate::split::SplitLoop;
 use arrayvec::ArrayVec;

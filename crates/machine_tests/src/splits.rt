@@ -1,7 +1,7 @@
 //! How loops are split: the classes of their lets, what is shown of it, and what segments begin with and give.
 
 ghost use Rattle.std.specs.Prelude.{◌≡◌};
-ghost use Rattle.instrument.specs.Segments.{lets_in};
+ghost use Rattle.vert_tree.specs.Places.{lets_in};
 
 use super::programs::{split, typed};
 use super::steps::are_placed;

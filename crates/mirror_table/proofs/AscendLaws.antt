@@ -7,7 +7,9 @@ use Rattle.std.proofs.lemmas.Bool.{and_parts}
 use Rattle.vert_base.specs.declared.graph.Edge.{Edge}
 use Rattle.vert_base.specs.Neighbours.{source, target}
 use Rattle.chunk_split.specs.Chunks.{AreEnds, vertices_of}
-use Rattle.circulant_plan.specs.Ring.{lies_in, start_of}
+use Rattle.circulant_plan.specs.Ring.{lies_in}
+use Rattle.vert_base.specs.Ends.{start_of}
+use Rattle.vert_base.proofs.Chains.{and_second}
 use Rattle.symple_face.specs.Parts.{chunk_vertices, degree_in, edges_between, refresh_list}
 use Rattle.mirror_table.specs.Laws.{DegreesAscend}
 use Rattle.symple_face.specs.PartsOf.{known_of}
@@ -15,10 +17,7 @@ use Rattle.symple_face.proofs.ChunkLaws.{chunk_rises, lies_high, lies_low}
 use Rattle.graph_table.proofs.FilterLaws.{all_append, all_filter, all_passes, all_range, all_weaker, map-map, map_itself}
 use Rattle.mirror_table.proofs.MovedLaws.{passes_from_any}
 use Rattle.mirror_table.proofs.RangeLaws.{flat_map_more}
-
-abbrev Ascends : List ℕ → Type 0
-Ascends [] = Unit {0}
-Ascends (x ∷ xs) = AllByRecursion (λ y. x < y) xs × Ascends xs
+use Rattle.mirror_table.proofs.MetLaws.{Ascends}
 
 -- ascending numbers from lo up to hi
 record Between (lo hi : ℕ) (xs : List ℕ) : Type 0 where
@@ -59,9 +58,6 @@ increasing [] up = λ k lt. absurd (omega arith)
 increasing (x ∷ []) up = λ k lt. absurd (omega arith)
 increasing (x ∷ y ∷ ys) up = next_above x y ys up.0.0 (increasing (y ∷ ys) up.1)
 
-and_last : (a b : Bool) → (a && b) ≡ true → b ≡ true
-and_last a b h = (and_parts a b h).1
-
 module _ (most : ℕ) (ends : List ℕ) (edges : List Edge) (are : AreEnds most ends) (m : ℕ) where
   own_between : (k : ℕ) → k < length ends → Between (start_of ends k) (slice_index ends k) (chunk_vertices ends k)
   own_between k lt =
@@ -76,7 +72,7 @@ module _ (most : ℕ) (ends : List ℕ) (edges : List Edge) (are : AreEnds most 
       let between : List Edge = edges_between ends m k edges in
       let there : AllByRecursion (λ e. lies_in ends k (target e) ≡ true) between =
       all_weaker (λ e. (lies_in ends m (source e) && lies_in ends k (target e)) ≡ true) (λ e. lies_in ends k (target e) ≡ true)
-      (λ e h. and_last (lies_in ends m (source e)) (lies_in ends k (target e)) h) between (all_passes (λ e. lies_in ends m (source e) && lies_in ends k (target e)) edges) in
+      (λ e h. and_second (lies_in ends m (source e)) (lies_in ends k (target e)) h) between (all_passes (λ e. lies_in ends m (source e) && lies_in ends k (target e)) edges) in
       record {
         up = filter_ascends (λ v. list_any (λ e. target e == v) between) (range_with_len 0 (vertices_of ends)) (range_ascends 0 (vertices_of ends));
         all = all_weaker (λ v. list_any (λ e. target e == v) between ≡ true) (λ v. (start_of ends k ≤ v) × (v < slice_index ends k))

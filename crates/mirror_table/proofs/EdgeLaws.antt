@@ -9,7 +9,8 @@ use Rattle.std.proofs.lemmas.List.Sorted.{IsPermutation-append, IsPermutation-fi
 use Rattle.vert_base.specs.declared.graph.Edge.{Edge}
 use Rattle.vert_base.specs.Neighbours.{AreBelow, source, target}
 use Rattle.chunk_split.specs.Chunks.{AreEnds, vertices_of}
-use Rattle.circulant_plan.specs.Ring.{lies_in, start_of}
+use Rattle.circulant_plan.specs.Ring.{lies_in}
+use Rattle.vert_base.specs.Ends.{start_of}
 use Rattle.mirror_table.specs.Laws.{PushesHoldEach, ScansHoldEach}
 use Rattle.symple_face.specs.PartsOf.{push_of, scan_of}
 use Rattle.symple_face.proofs.ChunkLaws.{chunk_rises}

@@ -3,7 +3,8 @@ use Rattle.std.proofs.Common.{◌≡◌, ℕ, ◌<◌, ◌≢◌, true, false, L
 use Rattle.std.specs.Prelude.{slice_index}
 use Rattle.std.proofs.lemmas.Bool.{cases_Bool}
 use Rattle.chunk_split.specs.Chunks.{AreEnds, Holds}
-use Rattle.circulant_plan.specs.Ring.{lies_in, start_of}
+use Rattle.circulant_plan.specs.Ring.{lies_in}
+use Rattle.vert_base.specs.Ends.{start_of}
 use Rattle.symple_face.proofs.ChunkLaws.{lies_is, one_chunk, same_start}
 
 pub owner_lies : (ends : List ℕ) (v m : ℕ) → Holds ends v m → lies_in ends m v ≡ true

@@ -11,7 +11,8 @@ use Rattle.vert_base.specs.declared.limits.TheConstants.{EDGES, VERTICES}
 use Rattle.vert_base.specs.Neighbours.{AreBelow, source, target, in_order}
 use Rattle.graph_table.proofs.OrderLaws.{All-in_order, bucket-in_order, filter-in_order, in_order_by_buckets, in_order_twice}
 use Rattle.chunk_split.specs.Chunks.{AreEnds, vertices_of}
-use Rattle.circulant_plan.specs.Ring.{lies_in, start_of}
+use Rattle.circulant_plan.specs.Ring.{lies_in}
+use Rattle.vert_base.specs.Ends.{start_of}
 use Rattle.circulant_plan.proofs.SpanLaws.{range_split}
 use Rattle.symple_face.specs.Parts.{IsPart, chunk_vertices, degree_in, edges_between, for_others, push_list, refresh_list}
 use Rattle.symple_face.proofs.ListLaws.{filter_few}

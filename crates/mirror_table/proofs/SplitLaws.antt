@@ -7,7 +7,7 @@ use Rattle.std.proofs.lemmas.Bool.Decides.{nat_tests}
 use Rattle.std.proofs.lemmas.List.Elements.{All-filter, filter_agree, recursion_from_All}
 use Rattle.std.proofs.lemmas.List.FromFn.{map-range_with_len_more}
 use Rattle.std.proofs.lemmas.List.Kept.{IsNonDecreasingBy-filter}
-use Rattle.circulant_plan.specs.Ring.{start_of}
+use Rattle.vert_base.specs.Ends.{start_of}
 use Rattle.vert_base.proofs.Orders.{Rises}
 use Rattle.graph_table.proofs.FilterLaws.{all_true, filter_all, filter_filter, filter_none, map-append}
 

@@ -18,7 +18,8 @@ use Rattle.vert_tree.specs.Places.{all_true, option_all}
 use Rattle.vert_eval.specs.Rounds.{slot_ops}
 use Rattle.order_laws.specs.OrderFree.{is_first as is_first_op, level_no_first, names_first, no_first, program_no_first, stmt_no_first}
 use Rattle.instrument.specs.Loops.{any_true, body_emits, is_slot_at, level_emits, stmt_emits}
-use Rattle.order_free.specs.Emits.{dense_emits, first_slot, is_first, least_first, neighbour_emits, sparse_emits}
+use Rattle.order_free.specs.Emits.{dense_emits, first_slot, least_first, neighbour_emits, sparse_emits}
+use Rattle.slot_merge.specs.Combine.{is_first}
 
 module _ (test : ℕ → Bool) where
   here_fails : (op : Combine) (b : Bool) (at : ℕ) (rest : Option ℕ) →

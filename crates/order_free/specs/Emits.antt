@@ -7,10 +7,7 @@ use Rattle.vert_tree.specs.declared.program.Program.{Program}
 use Rattle.vert_tree.specs.declared.program.SlotDecl.{SlotDecl}
 use Rattle.vert_tree.specs.declared.program.Sparse.{Sparse}
 use Rattle.instrument.specs.Loops.{body_emits}
-
-abbrev pub is_first : Combine → Bool
-is_first First = true
-is_first _ = false
+use Rattle.slot_merge.specs.Combine.{is_first}
 
 abbrev pub dense_emits : ℕ → Option Dense → Bool
 dense_emits slot None = false

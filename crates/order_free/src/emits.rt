@@ -2,7 +2,8 @@
 #![tactic(auto)]
 
 ghost use Rattle.std.specs.Prelude.{◌≡◌, ◌≤◌, length};
-ghost use Rattle.order_free.specs.Emits.{first_slot, is_first, neighbour_emits};
+ghost use Rattle.order_free.specs.Emits.{first_slot, neighbour_emits};
+ghost use Rattle.slot_merge.specs.Combine.{is_first};
 
 use instrument::body_emits;
 use vert_base::Combine;

@@ -13,6 +13,7 @@ use Rattle.vert_tree.specs.Trees.{Named, Tree, Literal, Truth, Word, Variable, G
 use Rattle.vert_grammar.specs.Grammar.{Form, Sign, TheName, Reads, left_of, Rights, ReadsOp, ReadsStatement, ReadsBlock, ReadsDeclaration, ReadsSlot, ReadsTotal, ReadsDense, ReadsSparse, ReadsUpdate, ReadsStart, ReadsStop, ReadsHeader, ReadsNames, ReadsBlocks, ReadsProgram, InTwo, loop_rights, tail_rights, sparse_rights, update_rights}
 use Rattle.vert_grammar.specs.Signs.{token, is_version, truth_word, builtin_word, layer_of, mark_of, type_word, combine_word, mode_word, total_text, stop_text}
 use Rattle.vert_grammar.specs.Spelling.{spelled, spelled_op, spelled_statement, spelled_block, spelled_declaration, spelled_slot, spelled_total, spelled_dense, spelled_sparse, spelled_update, spelled_start, spelled_stop, spelled_maybe, spelled_header}
+use Rattle.vert_grammar.specs.Reading.{DeclaredNames, ProgramBlocks}
 use Rattle.print_law.proofs.Spelled.{grouped_kinds}
 use Rattle.print_law.proofs.Found.{Fixed, fixed_sign, fixed_then, fixed_under, Found, AsPlain, found_is, found_then, found_behind, found_before, found_as, found_nothing, found_each, found_maybe}
 
@@ -208,21 +209,15 @@ header_again p u h =
     (found_behind (fixed_word word.MODE) (found_then (found_is (Reserved (mode_word p.mode))) (found_behind (fixed_mark mark.SEMICOLON)
     (found_behind (fixed_word word.LIMIT) (found_before (found_is (Number p.limit)) (fixed_mark mark.SEMICOLON))))))))
 
-abbrev Names : Type 0
-Names = List Declaration × (List SlotDeclaration × List TotalDeclaration)
-
-abbrev Blocks : Type 0
-Blocks = Option DenseBlock × (Option SparseBlock × (Statements × Option Tree))
-
 names_again : (p : ProgramTree) (u : List Placed) → ReadsNames p.version p.fields p.slots p.totals u
-    → Found (flat_map (spelled_declaration word.FIELD) p.fields ++ (flat_map spelled_slot p.slots ++ flat_map spelled_total p.totals)) Names (λ z. ReadsNames p.version z.0 z.1.0 z.1.1)
+    → Found (flat_map (spelled_declaration word.FIELD) p.fields ++ (flat_map spelled_slot p.slots ++ flat_map spelled_total p.totals)) DeclaredNames (λ z. ReadsNames p.version z.0 z.1.0 z.1.1)
     (λ z. (AsPlain (map plain_declaration) p.fields z.0) × ((AsPlain (map plain_slot) p.slots z.1.0) × (AsPlain (map plain_total) p.totals z.1.1)))
 names_again p u h =
     found_then (found_each plain_declaration (declaration_again word.FIELD) p.fields h.front h.first)
     (found_then (found_each plain_slot slot_again p.slots h.second.front h.second.first) (found_each plain_total (total_again p.version) p.totals h.second.back h.second.second))
 
 blocks_again : (p : ProgramTree) (u : List Placed) → ReadsBlocks p.version p.dense p.sparse p.update p.stop u
-    → Found (spelled_maybe spelled_dense p.dense ++ (spelled_maybe spelled_sparse p.sparse ++ (spelled_update p.update ++ spelled_maybe spelled_stop p.stop))) Blocks (λ z. ReadsBlocks p.version z.0 z.1.0 z.1.1.0 z.1.1.1)
+    → Found (spelled_maybe spelled_dense p.dense ++ (spelled_maybe spelled_sparse p.sparse ++ (spelled_update p.update ++ spelled_maybe spelled_stop p.stop))) ProgramBlocks (λ z. ReadsBlocks p.version z.0 z.1.0 z.1.1.0 z.1.1.1)
     (λ z. (AsPlain (option_map plain_dense) p.dense z.0) × ((AsPlain (option_map plain_sparse) p.sparse z.1.0) × ((AsPlain plain_block p.update z.1.1.0) × (AsPlain (option_map plain) p.stop z.1.1.1))))
 blocks_again p u h =
     found_then (found_maybe plain_dense dense_again p.dense h.front h.first)
@@ -230,7 +225,7 @@ blocks_again p u h =
     (found_then (update_again p.update h.second.second.front h.second.second.first) (found_maybe plain (stop_again p.version) p.stop h.second.second.back h.second.second.second)))
 
 abbrev Parts : Type 0
-Parts = (Span × Span) × (Names × (Tree × Blocks))
+Parts = (Span × Span) × (DeclaredNames × (Tree × ProgramBlocks))
 
 -- a program with other parts
 abbrev made_of : ProgramTree → Parts → ProgramTree

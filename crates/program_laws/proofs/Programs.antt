@@ -20,7 +20,8 @@ use Rattle.grammar_laws.proofs.Lists.{list_notion, all_wider}
 use Rattle.grammar_laws.proofs.Laws.{both_reader, both_by_reader, made_reader, up_to_reader}
 use Rattle.grammar_laws.proofs.Either.{MaybeEnds, maybe_notion, maybe_reader, maybe_ahead, given_wider}
 use Rattle.program_laws.proofs.Parts.{Reader, sign, then, sign_then, keeps, signs, then_map, known, signed, then_values, begins_front}
-use Rattle.program_laws.proofs.Words.{and_second, a_version, a_mode, a_number, PlacedMode}
+use Rattle.program_laws.proofs.Words.{a_version, a_mode, a_number, PlacedMode}
+use Rattle.vert_base.proofs.Chains.{and_second}
 use Rattle.program_laws.proofs.Declarations.{opens_with, reopened, declaration_notion, slot_notion, slot_reader, total_notion, total_reader}
 use Rattle.program_laws.proofs.Sections.{declarations, dense_notion, dense_reader, sparse_notion, sparse_block_reader, update_notion, update_block_reader, test_notion, start_reader, stop_reader}
 use Rattle.program_laws.proofs.Versions.{chain_notion, chain_reader, two_notion, two_reader, no_list_reader, no_option_reader}

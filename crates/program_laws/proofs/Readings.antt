@@ -8,7 +8,8 @@ use Rattle.vert_grammar.specs.Grammar.{Limits, limits, ReadsProgram, IsSmall}
 use Rattle.vert_grammar.specs.Faults.{Why, Unexpected, TooDeep, TooMany, IsReading, IsAny, IsFront, IsCause, IsRefused}
 use Rattle.vert_grammar.specs.Reading.{Stop, Res, is_stop, program_at, ended, all_of, reading}
 use Rattle.grammar_laws.specs.Refusals.{CauseOf, IsBounded}
-use Rattle.grammar_laws.proofs.Readers.{bind_ok, bind_err, ok_is, err_is, not_ok}
+use Rattle.grammar_laws.proofs.Readers.{bind_err, ok_is, err_is, not_ok}
+use Rattle.vert_grammar.proofs.Steps.{bind_ok}
 use Rattle.grammar_laws.proofs.Either.{MaybeEnds}
 use Rattle.grammar_laws.proofs.Refusals.{whole_read, fault_refuses, one_value}
 use Rattle.program_laws.specs.Readings.{ReadsSoundly, ReadsFully, IsReadOnce, RefusesSoundly, RefusesFully, IsJudged, StopsAtFault}

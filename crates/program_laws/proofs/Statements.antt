@@ -21,7 +21,7 @@ use Rattle.grammar_laws.proofs.Trees.{tree_notion, tree_run, depth_pos, leaf, le
 use Rattle.grammar_laws.proofs.Either.{either_sound, either_first, none_sound, none_first, node_sound, node_goes, node_first}
 use Rattle.grammar_laws.proofs.Laws.{made_reader, many_reader}
 use Rattle.program_laws.proofs.Parts.{trees, keeps, then_map, then_assoc, then_joined, then_none, none_then, opened, opening, signing}
-use Rattle.program_laws.proofs.Words.{and_first}
+use Rattle.vert_base.proofs.Chains.{and_first}
 use Rattle.program_laws.proofs.Simple.{StatementEnds, statement_notion, sort, sort_notion, assign_reader, active_reader, emit_reader, break_reader}
 use Rattle.program_laws.proofs.Blocks.{empty_block, empty_reads, next, opens, solid, items, block_notion, block_image, braced_notion, else_notion, braced_sound, else_sound, braced_complete, else_complete, braced_first, else_first}
 

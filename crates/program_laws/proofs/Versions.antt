@@ -6,7 +6,8 @@ use Rattle.vert_lex.specs.Tokens.{Kind}
 use Rattle.vert_grammar.specs.Grammar.{Form, Limits, Each, Maybe, InTwo}
 use Rattle.vert_grammar.specs.Reading.{Parser, ◌>>=◌, both, begins, up_to, maybe}
 use Rattle.grammar_laws.specs.Notions.{Mono, SameHead, Notion, Took, Sound, First, IsReader, FollowsBy, both_by_notion}
-use Rattle.grammar_laws.proofs.Readers.{bind_ok, ok_is, carry, both_complete, both_first}
+use Rattle.grammar_laws.proofs.Readers.{ok_is, carry, both_complete, both_first}
+use Rattle.vert_grammar.proofs.Steps.{bind_ok}
 use Rattle.grammar_laws.proofs.Lists.{list_notion, up_to_zero, up_to_suc}
 use Rattle.grammar_laws.proofs.Either.{maybe_notion}
 

@@ -9,6 +9,7 @@ use Rattle.vert_base.specs.declared.value.Mode.{Mode}
 use Rattle.vert_base.specs.declared.value.Mode.TheVariants as modes
 use Rattle.vert_base.specs.declared.value.ValueType.{ValueType}
 use Rattle.vert_base.specs.declared.value.ValueType.TheVariants as types
+use Rattle.vert_base.proofs.Chains.{and_first, and_second}
 use Rattle.vert_lex.specs.declared.marks.TheConstants as mark
 use Rattle.vert_lex.specs.declared.words.TheConstants as word
 use Rattle.vert_lex.specs.Text.{Placed}
@@ -24,14 +25,6 @@ use Rattle.grammar_laws.proofs.Atoms.{PlacedNumber, number_one}
 use Rattle.grammar_laws.proofs.Laws.{made_reader}
 use Rattle.grammar_laws.proofs.Either.{either_reader}
 use Rattle.program_laws.proofs.Parts.{Reader, sign, then}
-
-pub and_first : (a b : Bool) → (a && b) ≡ true → a ≡ true
-and_first true b e = refl
-and_first false b e = e
-
-pub and_second : (a b : Bool) → (a && b) ≡ true → b ≡ true
-and_second true b e = e
-and_second false b e = absurd cc
 
 -- what holds of a kind holds of a token of that kind
 at_kind : (P : Kind → Type 0) (k m : Kind) → same k m ≡ true → P m → P k

@@ -7,21 +7,16 @@ use Rattle.std.proofs.lemmas.Int.{ints, clamps, int_wrap-add_left, int_wrap-add_
 use Rattle.std.proofs.lemmas.List.Sums.{fold-append}
 use Rattle.vert_base.specs.declared.value.Combine.{Combine}
 use Rattle.vert_base.specs.declared.value.Combine.TheVariants.{Min, Max, Sum, First}
-use Rattle.slot_merge.specs.Combine.{combined_of, combined, neutral, total_of}
-
--- whether it is `First`
-abbrev has_keys : Combine → Bool
-has_keys First = true
-has_keys _ = false
+use Rattle.slot_merge.specs.Combine.{combined_of, combined, neutral, total_of, is_first}
 
 pub Min≢First : Min ≢ First
-Min≢First e = true≢false (sym (ap has_keys e))
+Min≢First e = true≢false (sym (ap is_first e))
 
 pub Max≢First : Max ≢ First
-Max≢First e = true≢false (sym (ap has_keys e))
+Max≢First e = true≢false (sym (ap is_first e))
 
 pub Sum≢First : Sum ≢ First
-Sum≢First e = true≢false (sym (ap has_keys e))
+Sum≢First e = true≢false (sym (ap is_first e))
 
 sum-assoc : (x y z : ℤ) → (x +ℤ y) +ℤ z ≡ x +ℤ (y +ℤ z)
 sum-assoc x y z = omega (arith, ints)

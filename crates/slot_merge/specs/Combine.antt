@@ -17,6 +17,11 @@ abbrev pub combined : Combine → List ℤ → Option ℤ
 combined op [] = None
 combined op (x ∷ xs) = Some (fold (combined_of op) x xs)
 
+-- First alone depends on the order of its words
+abbrev pub is_first : Combine → Bool
+is_first First = true
+is_first _ = false
+
 -- what a total begins with
 abbrev pub neutral : Combine → ℤ
 neutral Min = pos (2 ^ 63 - 1)

@@ -6,7 +6,8 @@ use Rattle.std.proofs.lemmas.Bool.Decides.{nat_tests}
 use Rattle.chunk_split.specs.Chunks.{AreEnds, Holds, vertices_of}
 use Rattle.chunk_split.specs.Chunks as chunks
 use Rattle.chunk_split.proofs.ChunkLaws.{holder_parts, parts_alone, start_rises}
-use Rattle.circulant_plan.specs.Ring.{lies_in, start_of}
+use Rattle.circulant_plan.specs.Ring.{lies_in}
+use Rattle.vert_base.specs.Ends.{start_of}
 
 -- the two crates say alike where a chunk starts
 pub same_start : (ends : List ℕ) (m : ℕ) → start_of ends m ≡ chunks.start_of ends m
@@ -16,10 +17,10 @@ same_start ends (suc m) = refl
 pub lies_is : (a b v : ℕ) → a ≤ v → v < b → (nat_le a v && nat_lt v b) ≡ true
 lies_is a b v low high = grind (arith, nat_tests)
 
-lies_not_below : (a b v : ℕ) → v < a → (nat_le a v && nat_lt v b) ≡ false
+pub lies_not_below : (a b v : ℕ) → v < a → (nat_le a v && nat_lt v b) ≡ false
 lies_not_below a b v low = grind (arith, nat_tests)
 
-lies_not_above : (a b v : ℕ) → b ≤ v → (nat_le a v && nat_lt v b) ≡ false
+pub lies_not_above : (a b v : ℕ) → b ≤ v → (nat_le a v && nat_lt v b) ≡ false
 lies_not_above a b v high = grind (arith, nat_tests)
 
 pub lies_low : (ends : List ℕ) (m v : ℕ) → lies_in ends m v ≡ true → start_of ends m ≤ v

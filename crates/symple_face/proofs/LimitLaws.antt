@@ -5,31 +5,22 @@ use Rattle.std.proofs.lemmas.Bool.{and_parts, leb-true}
 use Rattle.vert_tree.specs.declared.program.Program.{Program}
 use Rattle.vert_tree.specs.declared.program.Sparse.{Sparse}
 use Rattle.vert_tree.specs.Limits.{is_limited}
-use Rattle.vert_tree.specs.Places.{is_placed, option_all}
+use Rattle.vert_tree.specs.Places.{is_placed, option_all, sends_in}
 use Rattle.vert_tree.specs.Kinds.{is_kinded}
 use Rattle.vert_tree.specs.Typed.{is_typed}
-use Rattle.symple_face.specs.Shapes.{sends_in}
-
--- the parts of a test that is a chain
-second : (a b : Bool) → (a && b) ≡ true → b ≡ true
-second a b h = (and_parts a b h).1
-
-first : (a b : Bool) → (a && b) ≡ true → a ≡ true
-first a b h = (and_parts a b h).0
-
-pub limited : (p : Program) → is_typed p ≡ true → is_limited p ≡ true
-limited p h = first (is_limited p) _ (second (is_kinded p) _ (second (is_placed p) _ h))
+use Rattle.instrument.proofs.TypedLaws.{limited}
+use Rattle.vert_base.proofs.Chains.{and_first, and_second}
 
 pub few_fields : (p : Program) → is_typed p ≡ true → length p.fields.items ≤ 16
-few_fields p h = leb-true _ _ (first (nat_le (length p.fields.items) 16) _ (second (nat_le p.limit 10000) _ (limited p h)))
+few_fields p h = leb-true _ _ (and_first (nat_le (length p.fields.items) 16) _ (and_second (nat_le p.limit 10000) _ (limited p h)))
 
 pub few_slots : (p : Program) → is_typed p ≡ true → length p.slots.items ≤ 8
 few_slots p h =
-    leb-true _ _ (first (nat_le (length p.slots.items) 8) _ (second (nat_le (length p.fields.items) 16) _ (second (nat_le p.limit 10000) _ (limited p h))))
+    leb-true _ _ (and_first (nat_le (length p.slots.items) 8) _ (and_second (nat_le (length p.fields.items) 16) _ (and_second (nat_le p.limit 10000) _ (limited p h))))
 
 pub few_totals : (p : Program) → is_typed p ≡ true → length p.totals.items ≤ 4
 few_totals p h =
-    leb-true _ _ (first (nat_le (length p.totals.items) 4) _ (second (nat_le (length p.slots.items) 8) _ (second (nat_le (length p.fields.items) 16) _ (second (nat_le p.limit 10000) _ (limited p h)))))
+    leb-true _ _ (and_first (nat_le (length p.totals.items) 4) _ (and_second (nat_le (length p.slots.items) 8) _ (and_second (nat_le (length p.fields.items) 16) _ (and_second (nat_le p.limit 10000) _ (limited p h)))))
 
 sends_few : (s : Option Sparse) → option_all (λ s. nat_le (length s.sends.items) 8) s ≡ true → length (sends_in s) ≤ 8
 sends_few None h = omega arith
@@ -37,4 +28,4 @@ sends_few (Some s) h = leb-true _ _ h
 
 pub few_sends : (p : Program) → is_typed p ≡ true → length (sends_in p.sparse) ≤ 8
 few_sends p h =
-    sends_few p.sparse (second (option_all (λ d. nat_le (length d.lets.items) 8) p.dense) _ (second (nat_le (length p.totals.items) 4) _ (second (nat_le (length p.slots.items) 8) _ (second (nat_le (length p.fields.items) 16) _ (second (nat_le p.limit 10000) _ (limited p h))))))
+    sends_few p.sparse (and_second (option_all (λ d. nat_le (length d.lets.items) 8) p.dense) _ (and_second (nat_le (length p.totals.items) 4) _ (and_second (nat_le (length p.slots.items) 8) _ (and_second (nat_le (length p.fields.items) 16) _ (and_second (nat_le p.limit 10000) _ (limited p h))))))

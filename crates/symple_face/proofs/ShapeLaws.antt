@@ -1,7 +1,7 @@
 -- Sender and receiver see one form of a message's body.
 use Rattle.std.proofs.Common.{◌≡◌, ℕ, ◌<◌, ◌≢◌, Bool, true, false, cond, not, ◌&&◌, ◌||◌, List, [], ◌∷◌, ◌++◌, length, refl, ap, sym, ◌∙◌, Some, None}
 use Rattle.std.specs.Prelude.{◌==◌, if◌then◌else◌, nat_lt, slice_index_or}
-use Rattle.std.proofs.lemmas.Bool.{and_parts, eq-eqb, ne_eqb, true≢false}
+use Rattle.std.proofs.lemmas.Bool.{and_parts, eq-eqb, ne_eqb, true≢false, or_right, or_left}
 use Rattle.vert_base.specs.declared.graph.Edge.{Edge}
 use Rattle.vert_base.specs.declared.message.Name.{Name}
 use Rattle.vert_base.specs.declared.message.NameKind.{NameKind}
@@ -13,25 +13,19 @@ use Rattle.body_shape.specs.declared.shape.BodyShape.TheVariants as shape
 use Rattle.symple_face.specs.Parts.{push_list, refresh_list}
 use Rattle.symple_face.specs.Plans.{blocks_of, concerns, goes_by_plan, is_in_range, is_planned, ring_of, serves}
 use Rattle.body_shape.specs.Shapes.{bool_bits}
-use Rattle.symple_face.specs.Shapes.{count_within, form_of, half_in, pushed, reduced_in, refreshed, sends_in, types_of, updated}
+use Rattle.symple_face.specs.Shapes.{count_within, form_of, half_in, pushed, reduced_in, refreshed, types_of, updated}
+use Rattle.vert_tree.specs.Places.{sends_in}
 use Rattle.symple_face.specs.PartsOf.{ShapesAgree, part_of}
 use Rattle.symple_face.proofs.ListLaws.{other_list}
 
 same_self : (a : ℕ) → (a == a) ≡ true
 same_self a = eq-eqb a a refl
 
-first_of_two : (a b : Bool) → a ≡ true → (a || b) ≡ true
-first_of_two a b e = ap (λ x. x || b) e
-
-second_of_two : (a b : Bool) → b ≡ true → (a || b) ≡ true
-second_of_two true b e = refl
-second_of_two false b e = e
-
 -- both or neither take part
 planned_same : (split : Split) (p : ℕ) (x : Name) → is_planned split p x.from x ≡ is_planned split p x.to x
 planned_same split p x =
     let here : ((x.from == x.from) || (x.to == x.from)) ≡ ((x.from == x.to) || (x.to == x.to)) =
-    first_of_two (x.from == x.from) (x.to == x.from) (same_self x.from) ∙ sym (second_of_two (x.from == x.to) (x.to == x.to) (same_self x.to)) in
+    or_left (x.from == x.from) (x.to == x.from) (same_self x.from) ∙ sym (or_right (x.from == x.to) (x.to == x.to) (same_self x.to)) in
     ap (λ b. (nat_lt x.from p && (nat_lt x.to p && (not (x.from == x.to) && b))) && (goes_by_plan (ring_of split p) x.kind x && (serves (blocks_of split) x.kind && is_in_range (blocks_of split).limit x.kind x.round))) here
 
 module _ (split : Split) (ends : List ℕ) (draws : ℕ) (edges : List Edge) (x : Name) (from : x.from < length ends) (to : x.to < length ends) (apart : x.from ≢ x.to) where

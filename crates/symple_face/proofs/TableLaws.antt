@@ -2,7 +2,7 @@
 use Rattle.std.proofs.Common.{◌≡◌, ◌≢◌, ◌⊎◌, ℕ, zero, suc, ◌+◌, ◌-◌, ◌<◌, ◌≤◌, Bool, true, false, cond, not, List, [], ◌∷◌, map, refl, ap, sym, subst, ◌∙◌, inl, inr, arith, ⊎_elim}
 use Rattle.std.specs.Prelude.{◌==◌, ◌&&◌, ◌||◌, nat_le, nat_lt, is_some}
 use Rattle.std.specs.List.{Contains}
-use Rattle.std.proofs.lemmas.Bool.{and_parts, cases_eq, cases_lt, eq-eqb, eqb-true, leb-true, ltb-true, ne_eqb, true≢false}
+use Rattle.std.proofs.lemmas.Bool.{and_parts, cases_eq, cases_lt, eq-eqb, eqb-true, leb-true, ltb-true, ne_eqb, true≢false, and_from, or_left, or_right, or_cases}
 use Rattle.std.proofs.lemmas.Bool.Decides.{nat_tests}
 use Rattle.vert_base.specs.declared.message.Name.{Name}
 use Rattle.vert_base.specs.declared.message.NameKind.{NameKind}
@@ -31,20 +31,6 @@ use Rattle.circulant_plan.proofs.StandingLaws.{below_false, below_true, is_zero,
 use Rattle.instrument.specs.declared.split.Split.{Split}
 use Rattle.symple_face.specs.Planned.{HasInSomeRound, HasMessage, PlansByTable, has_block}
 use Rattle.symple_face.specs.Plans.{blocks_of, concerns, goes_by_plan, is_half, is_in_range, is_planned, is_whole, ring_of, serves}
-
-and_true : (a b : Bool) → a ≡ true → b ≡ true → (a && b) ≡ true
-and_true a b e f = ap (λ q. q && b) e ∙ f
-
-or_left : (a b : Bool) → a ≡ true → (a || b) ≡ true
-or_left a b e = ap (λ q. q || b) e
-
-or_right : (a b : Bool) → b ≡ true → (a || b) ≡ true
-or_right true b e = refl
-or_right false b e = e
-
-or_cases : (a b : Bool) → (a || b) ≡ true → (a ≡ true) ⊎ (b ≡ true)
-or_cases true b e = inl refl
-or_cases false b e = inr e
 
 same_self : (a : ℕ) → (a == a) ≡ true
 same_self a = eq-eqb a a refl
@@ -96,7 +82,7 @@ module _ (ring : Ring) (blocks : Blocks) where
       subst (λ (y : Name). Goes ring blocks y) c.2 (record { plan = refl; block = block })
 
   halves : (s h : ℕ) → s < ring.machines - 1 → h ≤ 1 → (nat_lt s (ring.machines - 1) && nat_le h 1) ≡ true
-  halves s h early half = and_true (nat_lt s (ring.machines - 1)) (nat_le h 1) (below_true s (ring.machines - 1) early) (grind (arith, nat_tests))
+  halves s h early half = and_from (nat_lt s (ring.machines - 1)) (nat_le h 1) (below_true s (ring.machines - 1) early) (grind (arith, nat_tests))
 
   scan_goes : (m r s h : ℕ) (x : Name) → blocks.dense ≡ true → h ≤ 1 → Has (gives_of ring m (Scan r s h) Dense) x → Goes ring blocks x
   scan_goes m r s h x block half has =
@@ -108,13 +94,13 @@ module _ (ring : Ring) (blocks : Blocks) where
       ⊎_elim
       (λ (e : update_name r s h m (chunk_of m s p) ≡ x).
       subst (λ (y : Name). Goes ring blocks y) e (record {
-        plan = and_true (nat_lt s (p - 1) && nat_le h 1) (chunk_of m s p == chunk_of m s p) (halves s h early half) (same_self (chunk_of m s p));
+        plan = and_from (nat_lt s (p - 1) && nat_le h 1) (chunk_of m s p == chunk_of m s p) (halves s h early half) (same_self (chunk_of m s p));
         block = block;
       }))
       (λ more.
       let c = has_name_if_cases ring.carry (dep_name r s h m (after_machine m p)) x more in
       subst (λ (y : Name). Goes ring blocks y) c.1 (record {
-        plan = and_true (nat_lt s (p - 1) && nat_le h 1) _ (halves s h early half) (and_true ring.carry (after_machine m p == after_machine m p) c.0 (same_self (after_machine m p)));
+        plan = and_from (nat_lt s (p - 1) && nat_le h 1) _ (halves s h early half) (and_from ring.carry (after_machine m p == after_machine m p) c.0 (same_self (after_machine m p)));
         block = block;
       }))
       listed)
@@ -139,7 +125,7 @@ concerns_is p m x from to apart one =
     let other : not (x.from == x.to) ≡ true = ap not (ne_eqb x.from x.to apart) in
     let here : ((x.from == m) || (x.to == m)) ≡ true =
     ⊎_elim (λ (e : x.from ≡ m). or_left (x.from == m) (x.to == m) (eq-eqb x.from m e)) (λ (e : x.to ≡ m). or_right (x.from == m) (x.to == m) (eq-eqb x.to m e)) one in
-    and_true (nat_lt x.from p) _ (below_true x.from p from) (and_true (nat_lt x.to p) _ (below_true x.to p to) (and_true (not (x.from == x.to)) _ other here))
+    and_from (nat_lt x.from p) _ (below_true x.from p from) (and_from (nat_lt x.to p) _ (below_true x.to p to) (and_from (not (x.from == x.to)) _ other here))
 
 -- what the table says is planned
 planned_from_table : (split : Split) (p m : ℕ) (x : Name) → p ≤ 64 → m < p → HasInSomeRound split p m x → is_in_range (blocks_of split).limit x.kind x.round ≡ true → is_planned split p m x ≡ true
@@ -154,13 +140,13 @@ planned_from_table split p m x small within h range =
     (λ (sent : Contains (gives_of ring m message.0 ruling) x).
     let later = sent_is_needed ring m ruling message.0 x within small going message.1 sent in
     let goes = sent_goes ring blocks m ruling message.0 x block message.1 (has_from_contains (gives_of ring m message.0 ruling) x sent) in
-    and_true (concerns p m x) _ (concerns_is p m x (subst (λ (q : ℕ). q < p) (sym later.from) within) later.to (λ e. later.other (sym e ∙ later.from)) (inl later.from))
-    (and_true (goes_by_plan ring x.kind x) _ goes.plan (and_true (serves blocks x.kind) _ goes.block range)))
+    and_from (concerns p m x) _ (concerns_is p m x (subst (λ (q : ℕ). q < p) (sym later.from) within) later.to (λ e. later.other (sym e ∙ later.from)) (inl later.from))
+    (and_from (goes_by_plan ring x.kind x) _ goes.plan (and_from (serves blocks x.kind) _ goes.block range)))
     (λ (needed : Contains (needs_of ring m message.0) x).
     let before = needed_is_sent ring m ruling message.0 x within small going message.1 needed in
     let goes = sent_goes ring blocks x.from ruling _ x block before.has (has_from_contains _ x before.sent) in
-    and_true (concerns p m x) _ (concerns_is p m x before.from (subst (λ (q : ℕ). q < p) (sym before.to) within) (λ e. before.other (e ∙ before.to)) (inr before.to))
-    (and_true (goes_by_plan ring x.kind x) _ goes.plan (and_true (serves blocks x.kind) _ goes.block range)))
+    and_from (concerns p m x) _ (concerns_is p m x before.from (subst (λ (q : ℕ). q < p) (sym before.to) within) (λ e. before.other (e ∙ before.to)) (inr before.to))
+    (and_from (goes_by_plan ring x.kind x) _ goes.plan (and_from (serves blocks x.kind) _ goes.block range)))
     message.2
 
 -- a name by its fields

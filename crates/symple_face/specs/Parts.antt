@@ -10,7 +10,8 @@ use Rattle.vert_base.specs.Neighbours.{source, target, in_order}
 use Rattle.vert_base.specs.Position.{Position}
 use Rattle.graph_table.specs.Tables.{by_target}
 use Rattle.chunk_split.specs.Chunks.{vertices_of}
-use Rattle.circulant_plan.specs.Ring.{start_of, lies_in}
+use Rattle.circulant_plan.specs.Ring.{lies_in}
+use Rattle.vert_base.specs.Ends.{start_of}
 use Rattle.symple_face.specs.declared.degree.Degree.{Degree}
 
 -- the vertices of chunk m

@@ -9,8 +9,10 @@ use Rattle.vert_base.specs.declared.value.ValueType.TheVariants.{Int, Bool}
 use Rattle.vert_tree.specs.declared.program.Decl.{Decl}
 use Rattle.vert_tree.specs.declared.program.Dense.{Dense}
 use Rattle.vert_tree.specs.declared.program.Sparse.{Sparse}
+use Rattle.vert_tree.specs.Places.{lets_in, sends_in}
 use Rattle.carry_analysis.specs.declared.carry.Carry.{Carry}
-use Rattle.circulant_plan.specs.Ring.{chunk_of, half_of, start_of}
+use Rattle.circulant_plan.specs.Ring.{chunk_of, half_of}
+use Rattle.vert_base.specs.Ends.{start_of}
 use Rattle.circulant_plan.specs.Skeleton.{may_rule}
 use Rattle.instrument.specs.declared.split.Split.{Split}
 use Rattle.instrument.specs.declared.split.SplitLoop.{SplitLoop}
@@ -22,15 +24,6 @@ use Rattle.symple_face.specs.Plans.{blocks_of, is_planned, loop_carry}
 
 abbrev pub types_of : List Decl → List ValueType
 types_of decls = map (λ d. d.kind) decls
-
--- the lets of a dense block
-abbrev pub lets_in : Option Dense → List Decl
-lets_in None = []
-lets_in (Some dense) = dense.lets.items
-
-abbrev pub sends_in : Option Sparse → List Decl
-sends_in None = []
-sends_in (Some sparse) = sparse.sends.items
 
 abbrev pub carried_in : Option SplitLoop → List ℕ
 carried_in None = []

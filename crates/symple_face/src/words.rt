@@ -2,7 +2,8 @@
 ghost use Rattle.std.specs.Prelude.{◌≡◌, ◌<◌, ◌≤◌, ◌+◌, ◌*◌, ◌^◌, ◌∷◌, ◌++◌, if◌then◌else◌, List, length, slice_index_or};
 ghost use Rattle.vert_base.specs.declared.value.ValueType.{ValueType};
 ghost use Rattle.body_shape.specs.Shapes.{bool_bits};
-ghost use Rattle.symple_face.specs.Shapes.{carried_in, lets_in, reduced_in, sends_in, types_at, types_of, words_in};
+ghost use Rattle.symple_face.specs.Shapes.{carried_in, reduced_in, types_at, types_of, words_in};
+ghost use Rattle.vert_tree.specs.Places.{lets_in, sends_in};
 ghost use Rattle.symple_face.specs.Plans.{blocks_of, loop_carry};
 ghost use Rattle.vert_base.specs.declared.value.Ruling.TheVariants as ruling;
 ghost use Rattle.circulant_plan.specs.Skeleton.{may_rule};

@@ -6,7 +6,7 @@ use Rattle.array_text.specs.Rounds.{round_text}
 use Rattle.array_text.specs.Tables.{bytes_of, table_text}
 use Rattle.circulant_plan.specs.Ring.{chunk_of}
 use Rattle.chunk_split.specs.Bounds.{ends_of}
-use Rattle.chunk_split.specs.Chunks.{start_of}
+use Rattle.vert_base.specs.Ends.{start_of}
 use Rattle.edge_reader.specs.EdgeList as edges
 use Rattle.order_free.specs.declared.freedom.Freedom.{Freedom}
 use Rattle.order_free.specs.declared.freedom.Freedom.TheVariants.{NoLoop, Reductions, FoundOne, ReachACount, FirstSlot, OtherLoop}

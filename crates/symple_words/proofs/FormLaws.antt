@@ -7,6 +7,7 @@ use Rattle.std.specs.Str.{bytes_eq}
 use Rattle.std.specs.String.{string_bytes}
 use Rattle.std.proofs.lemmas.Slice.Eq.{bytes_eq-Decides}
 use Rattle.std.proofs.lemmas.Grind.{common_steps}
+use Rattle.std.proofs.lemmas.Bool.{or_right, and_parts}
 use Rattle.clap.specs.Matches.{found_of}
 use Rattle.clap.specs.Walk.{rows_of, first_of, one_of}
 use Rattle.clap.specs.Simple.{is_simple, matches_of}
@@ -24,10 +25,6 @@ use Rattle.symple_words.specs.declared.verb.Verb.TheVariants as verb
 use Rattle.symple_words.proofs.StepLaws.{IsForm}
 use Rattle.symple_words.proofs.EndLaws.{simple, right_takes, right_value, right_flag, nothing_there}
 
-ands : (a b : Bool) → (a && b) ≡ true → (a ≡ true) × (b ≡ true)
-ands true b h = (refl, h)
-ands false b h = absurd (true≢false (sym h))
-
 is_false : (b : Bool) → not b ≡ true → b ≡ false
 is_false true e = absurd (true≢false (sym e))
 is_false false e = refl
@@ -35,10 +32,10 @@ is_false false e = refl
 -- a name that is in the list passes what all pass
 passes_in : (p : Text → Bool) (n : Text) (xs : List Text) → list_all p xs ≡ true → has n xs ≡ true → p n ≡ true
 passes_in p n [] all e = absurd (true≢false (sym e))
-passes_in p n (x ∷ xs) all e = go (bytes_eq x n) (λ h. (bytes_eq-Decides x n).0 h) e (λ h. passes_in p n xs (ands (p x) (list_all p xs) all).1 h)
+passes_in p n (x ∷ xs) all e = go (bytes_eq x n) (λ h. (bytes_eq-Decides x n).0 h) e (λ h. passes_in p n xs (and_parts (p x) (list_all p xs) all).1 h)
   where
     go : (b : Bool) → (b ≡ true → x ≡ n) → (b || has n xs) ≡ true → (has n xs ≡ true → p n ≡ true) → p n ≡ true
-    go true is h later = ap p (sym (is refl)) ∙ (ands (p x) (list_all p xs) all).0
+    go true is h later = ap p (sym (is refl)) ∙ (and_parts (p x) (list_all p xs) all).0
     go false is h later = later h
 
 same_some : (a b : Text) → Some a ≡ Some b → a ≡ b
@@ -46,10 +43,6 @@ same_some a b h = ap (λ o. unwrap_or o a) h
 
 same_text : (t : Text) → bytes_eq t t ≡ true
 same_text t = (bytes_eq-Decides t t).1 refl
-
-or_right : (a b : Bool) → b ≡ true → (a || b) ≡ true
-or_right true b e = refl
-or_right false b e = e
 
 has_at : (ps : List Text) (k : ℕ) (n : Text) → slice_get ps k ≡ Some n → has n ps ≡ true
 has_at [] k n e = absurd (true≢false (ap is_some (sym e)))
@@ -72,10 +65,10 @@ distinct_at : (ps : List Text) (j k : ℕ) (m n : Text) → is_distinct ps ≡ t
 distinct_at [] j k m n d lt a b = absurd (true≢false (ap is_some (sym a)))
 distinct_at (p ∷ ps) zero zero m n d lt a b = absurd (omega arith)
 distinct_at (p ∷ ps) zero (suc k) m n d lt a b =
-    let alone = is_false _ (ands (not (has p ps)) (is_distinct ps) d).0 in
+    let alone = is_false _ (and_parts (not (has p ps)) (is_distinct ps) d).0 in
     ap (λ x. bytes_eq x n) (sym (same_some p m a)) ∙ not_among p n ps alone (has_at ps k n b)
 distinct_at (p ∷ ps) (suc j) zero m n d lt a b = absurd (omega arith)
-distinct_at (p ∷ ps) (suc j) (suc k) m n d lt a b = distinct_at ps j k m n (ands (not (has p ps)) (is_distinct ps) d).1 (omega arith) a b
+distinct_at (p ∷ ps) (suc j) (suc k) m n d lt a b = distinct_at ps j k m n (and_parts (not (has p ps)) (is_distinct ps) d).1 (omega arith) a b
 
 -- a list of which no name passes a test
 refused_in : (p : Text → Bool) (n : Text) (xs : List Text) → list_all (λ x. not (p x)) xs ≡ true → p n ≡ true → has n xs ≡ false
@@ -95,17 +88,17 @@ no_such_flag n xs all absent = go (has n xs) refl
 first_parts : (p q : Text → Bool) (xs : List Text) → list_all (λ x. p x && q x) xs ≡ true → (list_all p xs ≡ true) × (list_all q xs ≡ true)
 first_parts p q [] e = (refl, refl)
 first_parts p q (x ∷ xs) e =
-    let h = ands (p x && q x) (list_all (λ y. p y && q y) xs) e in
-    let here = ands (p x) (q x) h.0 in
+    let h = and_parts (p x && q x) (list_all (λ y. p y && q y) xs) e in
+    let here = and_parts (p x) (q x) h.0 in
     let later = first_parts p q xs h.1 in
     (rw (here.0, later.0) refl, rw (here.1, later.1) refl)
 
 pub form_from : (f : Form) → is_form f ≡ true → IsForm f
 form_from f e =
-    let few = ands (nat_lt (length f.positionals) 999) _ e in
-    let distinct = ands (is_distinct f.positionals) _ few.1 in
-    let places = ands (list_all (λ n. not (has n flag_names)) f.positionals) _ distinct.1 in
-    let rest = ands (list_all (λ n. not (has n f.positionals) && not (has n flag_names)) f.options) _ places.1 in
+    let few = and_parts (nat_lt (length f.positionals) 999) _ e in
+    let distinct = and_parts (is_distinct f.positionals) _ few.1 in
+    let places = and_parts (list_all (λ n. not (has n flag_names)) f.positionals) _ distinct.1 in
+    let rest = and_parts (list_all (λ n. not (has n f.positionals) && not (has n flag_names)) f.options) _ places.1 in
     let options = first_parts (λ n. not (has n f.positionals)) (λ n. not (has n flag_names)) f.options rest.0 in
     let named : (n : Text) → has n f.flags ≡ true → has n flag_names ≡ true = λ n h. passes_in (λ x. has x flag_names) n f.flags rest.1 h in
     record {

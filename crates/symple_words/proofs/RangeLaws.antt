@@ -4,6 +4,7 @@ use Rattle.std.specs.Prelude.{option_map, option_and_then, unwrap_or}
 use Rattle.std.specs.Option.{ForSome}
 use Rattle.std.specs.Str.Parse.{digits_value}
 use Rattle.std.proofs.lemmas.Grind.{common_steps}
+use Rattle.std.proofs.lemmas.Bool.{and_parts}
 use Rattle.vert_base.specs.declared.limits.TheConstants.{MACHINES, VERTICES}
 use Rattle.symple_words.specs.Texts.{Text}
 use Rattle.symple_words.specs.Spelling.{Given, value_at, has_given}
@@ -13,10 +14,6 @@ use Rattle.symple_words.specs.Ranges.{AreMachines, IsGraphForm, IsWithin}
 use Rattle.symple_words.specs.declared.line.GraphForm.{GraphForm}
 use Rattle.symple_words.specs.declared.verb.Verb.{Verb}
 use Rattle.symple_words.specs.declared.verb.Verb.TheVariants as verb
-
-ands : (a b : Bool) → (a && b) ≡ true → (a ≡ true) × (b ≡ true)
-ands true b h = (refl, h)
-ands false b h = absurd (true≢false (sym h))
 
 -- None is no Some
 never : {X : Type 0} {P : Type 0} (x : X) → None ≡ Some x → P
@@ -35,7 +32,7 @@ in_range low high text n e = go (is_number text && (nat_le low value && nat_le v
         → cond b (Some (digits_value 10 text)) None ≡ Some n → (low ≤ n) × (n ≤ high)
     go false h e' = never n e'
     go true h e' =
-        let parts = ands (nat_le low (digits_value 10 text)) (nat_le (digits_value 10 text) high) (ands (is_number text) _ h).1 in
+        let parts = and_parts (nat_le low (digits_value 10 text)) (nat_le (digits_value 10 text) high) (and_parts (is_number text) _ h).1 in
         subst (λ v. (low ≤ v) × (v ≤ high)) (same _ n e') (grind (arith, common_steps), grind (arith, common_steps))
 
 are_machines : (given : Given) (n : ℕ) → machines_from given ≡ Some n → AreMachines n

@@ -4,6 +4,7 @@ use Rattle.std.specs.Prelude.{slice_get}
 use Rattle.std.specs.Str.{bytes_eq}
 use Rattle.std.proofs.lemmas.Slice.Eq.{bytes_eq-Decides}
 use Rattle.std.proofs.lemmas.List.{map-append}
+use Rattle.std.proofs.lemmas.Bool.{or_right}
 use Rattle.clap.specs.Lexer.{long_of, short_of, usize_max}
 use Rattle.clap.specs.Walk.{Held, Row, Rule, Waiting, Walk, idle, option, after_step, arg_by_id, arg_by_index, arg_by_long, at_row, with_values, without, settled, walked, has_row, reading_by, long_or_other, more_values, settled_rows, used}
 use Rattle.clap.specs.Simple.{Shape}
@@ -126,10 +127,6 @@ pub turn_word : (s : Shape) (h : Held) (w : Waiting) (position : ℕ) (word : Te
     ≡ (flag_word_passes s.rules s.args_override_self (long_of word) word h
     && step_passes s position (long_or_other s.rules w word (long_of word) h).0 (long_or_other s.rules w word (long_of word) h).1)
 turn_word s h w position word other none = rw (none, other) refl
-
-or_right : (a b : Bool) → b ≡ true → (a || b) ≡ true
-or_right true b e = refl
-or_right false b e = e
 
 and_false : (a : Bool) → (a && false) ≡ false
 and_false true = refl

@@ -6,6 +6,7 @@ use Rattle.std.specs.Str.{bytes_eq}
 use Rattle.std.proofs.lemmas.Slice.Eq.{bytes_eq-Decides}
 use Rattle.std.proofs.lemmas.List.{map-append}
 use Rattle.std.proofs.lemmas.List.Folds.{list_any-append, list_all-append}
+use Rattle.std.proofs.lemmas.Bool.{or_right}
 use Rattle.clap.specs.Walk.{Held, Walk, idle, option, walked}
 use Rattle.clap.specs.Takes.{walk_passes}
 use Rattle.symple_words.specs.Texts.{Text, is_plain, option_of, has}
@@ -73,10 +74,6 @@ more_option f given count name value form s is =
       flags = true_more f given name value s.flags (not_in_flags f name value (form.options name is).1);
       outside = λ id p o g. not_given id name value given (s.outside id p o g) (differs f.options name id is o);
     }
-
-or_right : (a b : Bool) → b ≡ true → (a || b) ≡ true
-or_right true b e = refl
-or_right false b e = e
 
 more_flag : (f : Form) (given : Given) (count : ℕ) (name : Text) → IsForm f → Sound f given count → has name f.flags ≡ true → Sound f (given ++ (name, codes "true") ∷ []) count
 more_flag f given count name form s is =

@@ -3,9 +3,7 @@ use Rattle.std.specs.Prelude.{ℕ, ◌&&◌, Bool, Option, Some, None, length, i
 use Rattle.std.specs.List.{list_all}
 use Rattle.std.specs.Str.Parse.{digits_value}
 use Rattle.symple_words.specs.Texts.{Text}
-
-abbrev pub is_digit : ℕ → Bool
-is_digit byte = nat_le 48 byte && nat_le byte 57
+use Rattle.vert_base.specs.Digits.{is_digit}
 
 abbrev pub is_number : Text → Bool
 is_number text = nat_le 1 (length text) && (nat_le (length text) 20 && list_all is_digit text)

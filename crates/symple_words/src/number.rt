@@ -1,6 +1,7 @@
 ghost use Rattle.std.specs.Prelude.{◌≡◌, option_map};
 ghost use Rattle.std.specs.List.{list_all};
-ghost use Rattle.symple_words.specs.Numbers.{is_digit, is_number, number_in, number_if, number_or};
+ghost use Rattle.symple_words.specs.Numbers.{is_number, number_in, number_if, number_or};
+ghost use Rattle.vert_base.specs.Digits.{is_digit};
 
 /// The most digits of a number.
 const DIGITS: usize = 20;

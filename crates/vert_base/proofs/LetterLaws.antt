@@ -113,7 +113,7 @@ kind_back Verdict = refl
 pub same_kind : (j k : NameKind) → kind_place j ≡ kind_place k → j ≡ k
 same_kind j k e = sym (kind_back j) ∙ ap kind_of e ∙ kind_back k
 
-abbrev name_of : NameKind → ℕ → ℕ → ℕ → ℕ → ℕ → Name
+abbrev pub name_of : NameKind → ℕ → ℕ → ℕ → ℕ → ℕ → Name
 name_of k r s h f t = record { kind = k; round = r; step = s; half = h; from = f; to = t }
 
 pub names_law : NamesAreTheirNumbers

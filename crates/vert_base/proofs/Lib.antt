@@ -1,3 +1,4 @@
+pub mod Chains
 pub mod NameOrder
 pub mod LetterLaws
 pub mod TextLaws

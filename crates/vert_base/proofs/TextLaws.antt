@@ -13,6 +13,7 @@ use Rattle.vert_base.specs.declared.message.NameKind.TheVariants.{Refresh, Dep, 
 use Rattle.vert_base.specs.HeaderBytes.{has_steps}
 use Rattle.vert_base.specs.NameTexts.{IsName, kind_text, number_text, numbers_text, numbers_behind}
 use Rattle.vert_base.specs.NameReading.{EndsNumber, are_proper, letter_of, steps_text}
+use Rattle.vert_base.proofs.LetterLaws.{name_of}
 
 -- ---- where a number ends
 pub space_ends : (bytes : List ℕ) → EndsNumber (32 ∷ bytes)
@@ -128,9 +129,6 @@ from_behind x kind text is same e = (
   ap (λ k. are_proper k x.step x.half) (sym same) ∙ is.proper,
   sym e ∙ (behind_is x ∙ ap (λ k. steps_text k x.step x.half ++ behind_text x) same),
 )
-
-abbrev name_of : NameKind → ℕ → ℕ → ℕ → ℕ → ℕ → Name
-name_of k r s h f t = record { kind = k; round = r; step = s; half = h; from = f; to = t }
 
 pub same_parts :
     (x : Name) (kind : NameKind) (round step half from to : ℕ) →

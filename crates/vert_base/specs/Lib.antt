@@ -1,3 +1,6 @@
+pub mod Truth
+pub mod Digits
+pub mod Ends
 pub mod Neighbours
 pub mod Position
 pub mod Names

@@ -7,6 +7,7 @@ use Rattle.vert_eval.specs.declared.environment.Flow.TheVariants.{Going, Broke}
 use Rattle.slot_merge.specs.Combine.{Emission}
 use Rattle.vert_eval.specs.Runs.{Act, Ran, after, followed_by, leaves}
 use Rattle.vert_eval.specs.Words.{is_set}
+use Rattle.vert_eval.proofs.RunLaws.{after_followed, after_assoc, followed_assoc}
 use Rattle.vert_code.specs.declared.instr.Instr.{Instr}
 use Rattle.vert_code.specs.declared.instr.Instr.TheVariants.{Jump, JumpUnless}
 use Rattle.vert_code.specs.Listing.{Piece, choice, just, nothing, only_if, chain}
@@ -140,26 +141,6 @@ choice_value t p q test v w a b c =
     works_as (choice t p q) (λ r. value test (fork (value v) (value w) r)) (value (λ env. if is_set (test env) then v env else w env))
     (λ r stack env. value_if (is_set (test env)) (v env) (w env) r stack env)
     (works_choice t p q (value test) (value v) (value w) a b c)
-
--- ---- acts
-after_assoc : (a b c : Ran) → after a (after b c) ≡ after (after a b) c
-after_assoc a b c =
-    ap (λ es. record c { emitted = es; reads = a.reads ++ (b.reads ++ c.reads) }) (sym (append_assoc a.emitted b.emitted c.emitted))
-    ∙ ap (λ us. record c { emitted = (a.emitted ++ b.emitted) ++ c.emitted; reads = us }) (sym (append_assoc a.reads b.reads c.reads))
-
-after_followed : (a : Ran) (env : Env) (es : List Emission) (us : List ℕ) (flow : Flow) (next : Act) →
-    let r : Ran = record { env = env; emitted = es; reads = us; flow = flow } in
-    after a (followed_by r next) ≡ followed_by (after a r) next
-after_followed a env es us Broke next = refl
-after_followed a env es us Going next = after_assoc a (record { env = env; emitted = es; reads = us; flow = Going }) (next env)
-
-followed_assoc : (env : Env) (es : List Emission) (us : List ℕ) (flow : Flow) (f g : Act) →
-    let r : Ran = record { env = env; emitted = es; reads = us; flow = flow } in
-    followed_by r (λ e. followed_by (f e) g) ≡ followed_by (followed_by r f) g
-followed_assoc env es us Broke f g = refl
-followed_assoc env es us Going f g =
-    let q = f env in
-    after_followed (record { env = env; emitted = es; reads = us; flow = Going }) q.env q.emitted q.reads q.flow g
 
 act_if : (b : Bool) (f g : Ran) (r : Act) → (if b then followed_by f r else followed_by g r) ≡ followed_by (if b then f else g) r
 act_if true f g r = refl

@@ -12,7 +12,7 @@ use Rattle.vert_tree.specs.declared.statement.Stmt.{Stmt, Stmt-F}
 use Rattle.vert_tree.specs.declared.statement.Stmt.TheOpen as level
 use Rattle.vert_tree.specs.declared.statement.Stmt.TheViews.{roll-Stmt}
 use Rattle.vert_tree.specs.declared.statement.Stmt.TheFolds.{fold-roll-Stmt, ind-Stmt, map-Stmt}
-use Rattle.vert_tree.specs.Places.{Counts, Rights, body_placed, expr_placed, is_slot, is_target, level_placed, stmt_placed}
+use Rattle.vert_tree.specs.Places.{Counts, Rights, body_placed, expr_placed, is_slot, is_target, level_placed, stmt_placed, no_counts}
 use Rattle.vert_eval.specs.declared.environment.Env.{Env}
 use Rattle.vert_eval.specs.declared.environment.Flow.{Flow}
 use Rattle.vert_eval.specs.declared.environment.Flow.TheVariants.{Going, Broke}
@@ -187,7 +187,7 @@ next_frame : (flow : Flow) (env : Env) (a b : Ran) → SameFrame env a.env → S
 next_frame Broke env a b p q = p
 next_frame Going env a b p q = SameFrame-trans env a.env b.env p q
 
-next_reads : (flow : Flow) (a b : Ran) → a.reads ≡ [] → b.reads ≡ [] → (by_flow flow a (after a b)).reads ≡ []
+pub next_reads : (flow : Flow) (a b : Ran) → a.reads ≡ [] → b.reads ≡ [] → (by_flow flow a (after a b)).reads ≡ []
 next_reads Broke a b p q = p
 next_reads Going a b p q = ap (λ us. us ++ b.reads) p ∙ q
 
@@ -331,15 +331,12 @@ module _ (r : Rights) (c : Counts) where
 abbrev no_rights : Rights
 no_rights = record { locals = false; fields = false; active = false; emits = false; breaks = false }
 
-abbrev nothing_placed : Counts
-nothing_placed = record { fields = 0; locals = 0; sends = 0; slots = 0; totals = 0; other_fields = 0 }
-
 pub run_keeps : (body : List Stmt) (env : Env) → SameFrame env (run body env).env
-run_keeps body env = (run_tame no_rights nothing_placed body).frame env
+run_keeps body env = (run_tame no_rights no_counts body).frame env
 
 -- a run of statements reads no neighbour, only the loop does
 pub run_reads : (body : List Stmt) (env : Env) → (run body env).reads ≡ []
-run_reads body env = (run_tame no_rights nothing_placed body).reads env
+run_reads body env = (run_tame no_rights no_counts body).reads env
 
 next_beside : (flow : Flow) (env : Env) (a b : Ran) → SameFrame (beside env a.env) a.env → SameFrame (beside a.env b.env) b.env →
     SameFrame (beside env (by_flow flow a (after a b)).env) (by_flow flow a (after a b)).env

@@ -18,18 +18,18 @@ followed-Going r next goes = ap (λ f. by_flow f r (after r (next r.env))) goes
 pub followed-Broke : (r : Ran) (next : Act) → r.flow ≡ Broke → followed_by r next ≡ r
 followed-Broke r next broke = ap (λ f. by_flow f r (after r (next r.env))) broke
 
-after_assoc : (a b c : Ran) → after a (after b c) ≡ after (after a b) c
+pub after_assoc : (a b c : Ran) → after a (after b c) ≡ after (after a b) c
 after_assoc a b c =
     ap (λ es. record c { emitted = es; reads = a.reads ++ (b.reads ++ c.reads) }) (sym (append_assoc a.emitted b.emitted c.emitted))
     ∙ ap (λ us. record c { emitted = (a.emitted ++ b.emitted) ++ c.emitted; reads = us }) (sym (append_assoc a.reads b.reads c.reads))
 
-after_followed : (a : Ran) (env : Env) (es : List Emission) (us : List ℕ) (flow : Flow) (next : Act) →
+pub after_followed : (a : Ran) (env : Env) (es : List Emission) (us : List ℕ) (flow : Flow) (next : Act) →
     let r : Ran = record { env = env; emitted = es; reads = us; flow = flow } in
     after a (followed_by r next) ≡ followed_by (after a r) next
 after_followed a env es us Broke next = refl
 after_followed a env es us Going next = after_assoc a (record { env = env; emitted = es; reads = us; flow = Going }) (next env)
 
-followed_assoc : (env : Env) (es : List Emission) (us : List ℕ) (flow : Flow) (f g : Act) →
+pub followed_assoc : (env : Env) (es : List Emission) (us : List ℕ) (flow : Flow) (f g : Act) →
     let r : Ran = record { env = env; emitted = es; reads = us; flow = flow } in
     followed_by r (λ e. followed_by (f e) g) ≡ followed_by (followed_by r f) g
 followed_assoc env es us Broke f g = refl

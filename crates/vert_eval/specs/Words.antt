@@ -6,20 +6,11 @@ use Rattle.vert_tree.specs.declared.expression.BinOp.{BinOp}
 use Rattle.vert_tree.specs.declared.expression.BinOp.TheVariants.{Add, Sub, Mul, Div, Rem, Eq, Ne, Lt, Le, Gt, Ge, And, Or}
 use Rattle.vert_tree.specs.declared.statement.AssignOp.{AssignOp}
 use Rattle.vert_tree.specs.declared.statement.AssignOp.TheVariants as assign
+pub use Rattle.vert_base.specs.Truth.{is_set, word_of_bool as word_of}
 
 -- the number that is left in 64 bits
 abbrev pub wrapped : ℤ → ℤ
 wrapped z = int_wrap w64 z
-
-abbrev pub word_of : Bool → ℤ
-word_of true = pos 1
-word_of false = pos 0
-
--- every word but 0 is true
-abbrev pub is_set : ℤ → Bool
-is_set (pos zero) = false
-is_set (pos (suc n)) = true
-is_set (negsuc n) = true
 
 -- rounded toward zero, and 0 where the divisor is 0
 abbrev pub quotient : ℤ → ℤ → ℤ

@@ -7,6 +7,7 @@ use Rattle.vert_lex.specs.Text.{Placed}
 use Rattle.vert_lex.specs.Tokens.{Kind}
 use Rattle.vert_grammar.specs.Faults.{TooMany}
 use Rattle.vert_grammar.specs.Reading.{Res, Parser, ◌>>=◌, stop, made, begins, up_to, many_from, many}
+use Rattle.vert_grammar.proofs.Steps.{in_front}
 use Rattle.vert_parse.specs.declared.fault.Halt.{Halt}
 use Rattle.vert_parse.specs.declared.fault.Halt.TheVariants as halts
 use Rattle.vert_parse.specs.Signs.{Fails, plain, plain_why}
@@ -14,10 +15,6 @@ use Rattle.vert_parse.specs.Signs.{Fails, plain, plain_why}
 -- what was read before, and what is still read
 abbrev pub with_front : {A : Type 0} → List A → Res (List A) → Res (List A)
 with_front front q = q >>= λ x. Ok (front ++ x.0, x.1)
-
--- a further item in front of what is read
-abbrev in_front : {A : Type 0} → A → Res (List A) → Res (List A)
-in_front {A = A} y q = made {A = A × List A} (λ x. x.0 ∷ x.1) (λ ts. q >>= λ z. Ok ((y, z.0), z.1)) []
 
 regroup : {A : Type 0} (front : List A) (y : A) (q : Res (List A)) → with_front front (in_front y q) ≡ with_front (front ++ y ∷ []) q
 regroup front y (Ok x) = ap (λ l. Ok (l, x.1)) (sym (append_assoc front (y ∷ []) x.0))

@@ -14,14 +14,11 @@ use Rattle.vert_grammar.specs.Faults.{Why, Unexpected, TooDeep}
 use Rattle.vert_grammar.specs.Grammar.{Rights}
 use Rattle.vert_grammar.specs.Reading.{Stop, Res, Parser, ◌>>=◌, stop, both, both_by, made, begins, if_begins, unless, maybe, place, kind, rest, single, expect, the_mark, the_word, name_at, many_from, many, node, is_atom, atom_of, is_member, member_of, named_at, is_other_at, other_in, other_of, other_at, draw_of, draw_at, grouped, two_of, prefixed, unary, turn, chain, choice, after, climb, tree_at, is_comparison, ended_by, block_of, is_large_op, large_op, is_small_op, small_op, op_at, assign_at, set_active_at, emit_at, break_at, choose, goes_on, braced, else_of, statement_at}
 use Rattle.vert_grammar.specs.Signs.{is_mark, is_name, is_number, is_word, layer, number_in, operator, same, text_in}
+use Rattle.vert_grammar.proofs.Steps.{bind_ok}
 
 -- at least d tokens are read
 abbrev pub Shrinks : {A : Type 0} → ℕ → Parser A → Type 0
 Shrinks {A = A} d p = (ts : List Placed) (x : A) (r : List Placed) → p ts ≡ Ok (x, r) → length r + d ≤ length ts
-
-bind_ok : {A B : Type 0} (r : Result A Stop) (f : A → Result B Stop) (y : B) → (r >>= f) ≡ Ok y → (x : A) × (r ≡ Ok x) × (f x ≡ Ok y)
-bind_ok (Ok x) f y e = (x, refl, e)
-bind_ok (Err s) f y e = absurd cc
 
 abbrev okay : {A : Type 0} → A → List Placed → Res A
 okay x r = Ok (x, r)

@@ -11,6 +11,7 @@ use Rattle.vert_tree.specs.Trees.{Tree, Literal, Truth, Word, Variable, Got, Val
 use Rattle.vert_grammar.specs.Faults.{Unexpected, TooDeep}
 use Rattle.vert_grammar.specs.Reading.{Stop, Res, Parser, ◌>>=◌, stop, both, made, begins, the_mark, kind, rest, layer_ahead, unary, chain, turn, choice, climb, tree_at, two_of, is_comparison}
 use Rattle.vert_grammar.specs.Signs.{is_mark, layer, operator}
+use Rattle.vert_grammar.proofs.Steps.{unary_is, six_is, layer_is, chain_turn, chain_twice, chain_deep, chain_inside}
 use Rattle.vert_parse.specs.declared.fault.Halt.{Halt}
 use Rattle.vert_parse.specs.declared.fault.Halt.TheVariants as halts
 use Rattle.vert_parse.specs.Parts.{pair_at}
@@ -40,23 +41,11 @@ depth_pos (Group s inner) = omega arith
 pub again : (room k : ℕ) → 0 < room → tree_at (room - 1 + 1) k ≡ tree_at room k
 again room k lt = let e : room - 1 + 1 ≡ room = omega arith in ap (λ n. tree_at n k) e
 
-unary_is : (b : ℕ) (ts : List Placed) → tree_at (suc b) 0 ts ≡ unary b (tree_at b) ts
-unfolding tree_at climb
-unary_is b ts = refl
-
 pub unary_step : (room : ℕ) (ts : List Placed) → tree_at (room + 1) 0 ts ≡ unary room (tree_at room) ts
 unary_step room ts = rw add-one (unary_is room ts)
 
-six_is : (b : ℕ) (ts : List Placed) → tree_at (suc b) 6 ts ≡ (tree_at (suc b) 5 ts >>= λ x. choice b (tree_at b 6) x.0 x.1)
-unfolding tree_at climb
-six_is b ts = refl
-
 pub choice_step : (room : ℕ) (ts : List Placed) → tree_at (room + 1) 6 ts ≡ (tree_at (room + 1) 5 ts >>= λ x. choice room (tree_at room 6) x.0 x.1)
 choice_step room ts = rw add-one (six_is room ts)
-
-layer_is : (b k : ℕ) (ts : List Placed) → k < 5 → tree_at (suc b) (suc k) ts ≡ (tree_at (suc b) k ts >>= λ x. chain b (suc k) (tree_at b k) b x.0 x.1)
-unfolding tree_at climb
-layer_is b k ts lt = let p : eqb k 5 ≡ false = ne_eqb k 5 (λ e. omega arith) in rw p refl
 
 -- ---- two expressions in parentheses
 module _ (b : ℕ) (s : Span) (ts : List Placed) where
@@ -73,30 +62,6 @@ module _ (b : ℕ) (s : Span) (ts : List Placed) where
       go : (r : Res (Span × (Tree × (Span × (Tree × Span))))) → made (λ x. Greatest s x.1.0 x.1.1.1.0) (λ _. r) ts ≡ made (λ x. Greatest s x.0 x.1) (made {B = Tree × Tree} (λ x. (x.1.0, x.1.1.1.0)) (λ _. r)) ts
       go (Ok x) = refl
       go (Err e) = refl
-
--- ---- chains
-chain_turn : (b k f : ℕ) (below : Parser Tree) (left x : Tree) (t : Placed) (ts r : List Placed) → layer t.kind ≡ suc k → (eqb (suc k) 3 && is_comparison left) ≡ false → depth left ≤ b → below ts ≡ Ok (x, r)
-    → chain b (suc k) below (suc f) left (t ∷ ts) ≡ chain b (suc k) below f (Pair (start left) (operator t.kind) left x) r
-unfolding chain turn
-chain_turn b k f below left x t ts r l c d e =
-    let p = eq-eqb (layer t.kind) (suc k) l in
-    let q = le-ltb b (depth left) d in
-    rw (p, c, q, e) refl
-
-chain_twice : (b k f : ℕ) (below : Parser Tree) (left : Tree) (t : Placed) (ts : List Placed) → layer t.kind ≡ suc k → (eqb (suc k) 3 && is_comparison left) ≡ true → chain b (suc k) below f left (t ∷ ts) ≡ stop Unexpected (t ∷ ts)
-unfolding chain turn
-chain_twice b k zero below left t ts l c = let p = eq-eqb (layer t.kind) (suc k) l in rw (p, c) refl
-chain_twice b k (suc f) below left t ts l c = let p = eq-eqb (layer t.kind) (suc k) l in rw (p, c) refl
-
-chain_deep : (b k f : ℕ) (below : Parser Tree) (left : Tree) (t : Placed) (ts : List Placed) → layer t.kind ≡ suc k → (eqb (suc k) 3 && is_comparison left) ≡ false → b < depth left → chain b (suc k) below f left (t ∷ ts) ≡ stop TooDeep (t ∷ ts)
-unfolding chain turn
-chain_deep b k zero below left t ts l c d = let p = eq-eqb (layer t.kind) (suc k) l in let q = lt-ltb b (depth left) d in rw (p, c, q) refl
-chain_deep b k (suc f) below left t ts l c d = let p = eq-eqb (layer t.kind) (suc k) l in let q = lt-ltb b (depth left) d in rw (p, c, q) refl
-
-chain_inside : (b k f : ℕ) (below : Parser Tree) (left : Tree) (t : Placed) (ts : List Placed) (s : Stop) → layer t.kind ≡ suc k → (eqb (suc k) 3 && is_comparison left) ≡ false → depth left ≤ b → below ts ≡ Err s → chain b (suc k) below f left (t ∷ ts) ≡ Err s
-unfolding chain turn
-chain_inside b k zero below left t ts s l c d e = let p = eq-eqb (layer t.kind) (suc k) l in let q = le-ltb b (depth left) d in rw (p, c, q, e) refl
-chain_inside b k (suc f) below left t ts s l c d e = let p = eq-eqb (layer t.kind) (suc k) l in let q = le-ltb b (depth left) d in rw (p, c, q, e) refl
 
 -- the loop over a chain: what was read is the left operand
 pub record IsChain (room layer : ℕ) (tokens : List Placed) (left : Tree) (d : ℕ) (rest : List Placed) : Type 0 where

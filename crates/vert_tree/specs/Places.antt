@@ -16,6 +16,15 @@ use Rattle.vert_tree.specs.declared.program.Dense.{Dense}
 use Rattle.vert_tree.specs.declared.program.Sparse.{Sparse}
 use Rattle.vert_tree.specs.declared.program.Program.{Program}
 
+-- the lets of a dense block and the sends of a sparse one, where there is such a block
+abbrev pub lets_in : Option Dense → List Decl
+lets_in None = []
+lets_in (Some dense) = dense.lets.items
+
+abbrev pub sends_in : Option Sparse → List Decl
+sends_in None = []
+sends_in (Some sparse) = sparse.sends.items
+
 -- how many names of each kind have a place
 pub record Counts : Type 0 where
   pub fields : ℕ

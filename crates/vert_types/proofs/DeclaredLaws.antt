@@ -18,7 +18,8 @@ use Rattle.vert_tree.specs.declared.program.TotalDecl.{TotalDecl}
 use Rattle.vert_tree.specs.Trees.{ProgramTree, TotalDeclaration}
 use Rattle.vert_tree.specs.Views.{view_declaration, view_dense, view_name, view_program, view_slot, view_sparse, view_total}
 use Rattle.vert_types.specs.declared.scope.Meaning.{Meaning}
-use Rattle.vert_types.specs.Tables.{Typed, all_items, items_from, lets_in, sends_in, typed_decl, typed_slot, typed_total}
+use Rattle.vert_types.specs.Tables.{Typed, all_items, items_from, typed_decl, typed_slot, typed_total}
+use Rattle.vert_tree.specs.Places.{sends_in, lets_in}
 use Rattle.vert_types.specs.Typing.{Defined, Entry, all_entries, definitions, dictionary, entries, lets_of, placed_from, sends_of, slot_entries, stands_for, total_entries}
 use Rattle.vert_types.proofs.Definitions.{define, enter, or_else}
 use Rattle.vert_types.proofs.PartLaws.{IsListed}

@@ -5,7 +5,7 @@ use Rattle.std.specs.List.{list_all}
 use Rattle.std.specs.Global.{Vec}
 use Rattle.std.specs.declared.alloc.Global.{Global}
 use Rattle.std.specs.declared.string.String.{String}
-use Rattle.std.proofs.lemmas.Bool.{and_parts}
+use Rattle.std.proofs.lemmas.Bool.{and_parts, and_from}
 use Rattle.std.proofs.lemmas.List.{take_more_set, length-set}
 use Rattle.std.proofs.lemmas.List.Folds.{list_all-append, list_all-map}
 use Rattle.vert_base.specs.declared.text.Span.{Span}
@@ -22,10 +22,6 @@ use Rattle.vert_tree.specs.Views.{if_of, view, view_block, view_statement}
 use Rattle.vert_tree.proofs.Rows.{view-If, view-If_else}
 use Rattle.vert_types.specs.Filled.{body_filled, expr_filled, level_filled, stmt_filled}
 
-pub both : (a b : Bool) → a ≡ true → b ≡ true → (a && b) ≡ true
-both true b p q = q
-both false b p q = p
-
 -- ---- lists
 module _ {X : Type 0} (p : X → Bool) where
   pub all_at : (xs : List X) (i : ℕ) (d : X) → i < length xs → list_all p xs ≡ true → p (get_or xs i d) ≡ true
@@ -36,7 +32,7 @@ module _ {X : Type 0} (p : X → Bool) where
   pub all_with : (xs : List X) (i : ℕ) (x : X) → i < length xs → list_all p (take i xs) ≡ true → p x ≡ true → list_all p (take (i + 1) (set xs i x)) ≡ true
   all_with xs i x lt before here =
       ap (list_all p) (take_more_set xs i x lt) ∙ list_all-append p (take i xs) (x ∷ [])
-      ∙ both (list_all p (take i xs)) (p x && true) before (both (p x) true here refl)
+      ∙ and_from (list_all p (take i xs)) (p x && true) before (and_from (p x) true here refl)
 
 -- from i on, the second list is the first
 abbrev pub IsUnvisited : {X : Type 0} → ℕ → List X → List X → Type 0
@@ -89,7 +85,7 @@ module _ (w : ℕ → Option What) where
       stmt_filled w (statements.If s test held otherwise) ≡ true
   if_filled s test held None tests helds others =
       ap (stmt_filled w) (sym (rolls-If s test held None)) ∙ fold-roll-Stmt Bool (level_filled w) (level.If s test held None)
-      ∙ both _ _ tests (both _ _ (list_all-map (λ b. b) (stmt_filled w) held.items ∙ helds) refl)
+      ∙ and_from _ _ tests (and_from _ _ (list_all-map (λ b. b) (stmt_filled w) held.items ∙ helds) refl)
   if_filled s test held (Some otherwise) tests helds others =
       ap (stmt_filled w) (sym (rolls-If s test held (Some otherwise))) ∙ fold-roll-Stmt Bool (level_filled w) (level.If s test held (Some otherwise))
-      ∙ both _ _ tests (both _ _ (list_all-map (λ b. b) (stmt_filled w) held.items ∙ helds) (list_all-map (λ b. b) (stmt_filled w) otherwise.items ∙ others))
+      ∙ and_from _ _ tests (and_from _ _ (list_all-map (λ b. b) (stmt_filled w) held.items ∙ helds) (list_all-map (λ b. b) (stmt_filled w) otherwise.items ∙ others))

@@ -5,7 +5,7 @@ use Rattle.std.specs.List.{list_all}
 use Rattle.std.specs.Prelude.{if◌then◌else◌, nat_lt}
 use Rattle.std.specs.declared.alloc.Global.{Global}
 use Rattle.std.specs.declared.string.String.{String}
-use Rattle.std.proofs.lemmas.Bool.{and_parts}
+use Rattle.std.proofs.lemmas.Bool.{and_parts, and_from}
 use Rattle.std.proofs.lemmas.List.Folds.{list_all-map}
 use Rattle.vert_base.specs.declared.text.Span.{Span}
 use Rattle.vert_base.specs.declared.value.ValueType.{ValueType}
@@ -31,7 +31,6 @@ use Rattle.vert_types.specs.declared.fault.Finding.{Finding}
 use Rattle.vert_types.specs.Filled.{body_filled, expr_filled, level_filled, name_filled, stmt_filled, what_of}
 use Rattle.vert_types.specs.Findings.{unless}
 use Rattle.vert_types.specs.Typing.{Dictionary, Place, block_faults, faults_as, faults_of, kind_of, kind_of_use, same_faults, statement_faults, target_faults, use_faults, value_faults}
-use Rattle.vert_types.proofs.FillLaws.{both}
 use Rattle.vert_types.proofs.GoodLaws.{Agrees, good, good_as, good_expr, has_own, name_said, none_left, none_right, none_unless, right_kind, used}
 
 -- what may be assigned to has a place
@@ -94,21 +93,21 @@ module _ (d : Dictionary) (names : List (String Global)) (r : Rights) (p : Place
       let is = right_kind kind.Int t target.span none in (
         j.placed,
         fold-roll-Stmt Bool (level_read p.words) (level.Assign target assign.Add e) ∙ j.read,
-        both _ _ (ap (λ x. has_kind kind.Int (Some x)) is) (ap (has_kind kind.Int) j.kinded),
+        and_from _ _ (ap (λ x. has_kind kind.Int (Some x)) is) (ap (has_kind kind.Int) j.kinded),
       )
   assign_ok assign.Least t target e filled none h =
       let j = good_expr d names p k agrees kind.Int e filled h in
       let is = right_kind kind.Int t target.span none in (
         j.placed,
         fold-roll-Stmt Bool (level_read p.words) (level.Assign target assign.Least e) ∙ j.read,
-        both _ _ (ap (λ x. has_kind kind.Int (Some x)) is) (ap (has_kind kind.Int) j.kinded),
+        and_from _ _ (ap (λ x. has_kind kind.Int (Some x)) is) (ap (has_kind kind.Int) j.kinded),
       )
   assign_ok assign.Greatest t target e filled none h =
       let j = good_expr d names p k agrees kind.Int e filled h in
       let is = right_kind kind.Int t target.span none in (
         j.placed,
         fold-roll-Stmt Bool (level_read p.words) (level.Assign target assign.Greatest e) ∙ j.read,
-        both _ _ (ap (λ x. has_kind kind.Int (Some x)) is) (ap (has_kind kind.Int) j.kinded),
+        and_from _ _ (ap (λ x. has_kind kind.Int (Some x)) is) (ap (has_kind kind.Int) j.kinded),
       )
 
   fine_assign : (target : Ident) (op : AssignOp) (e : Expr) → IsFine (roll-Stmt (level.Assign target op e))
@@ -131,7 +130,7 @@ module _ (d : Dictionary) (names : List (String Global)) (r : Rights) (p : Place
         (sym (ap (λ x. value_faults d p op x (view names e)) told) ∙ none_right T V rest) in
         let kinded : name_kind k target.what ≡ Some m.0.kind = ap (name_kind k) is ∙ agrees.named (text_of names target.name) m.0 m.1 (target_named r p.names m.0.what m.2) in
         record {
-          placed = fold-roll-Stmt Bool (level_placed r p.names) z ∙ both _ _ (ap (is_target r p.names) is ∙ m.2) ok.0;
+          placed = fold-roll-Stmt Bool (level_placed r p.names) z ∙ and_from _ _ (ap (is_target r p.names) is ∙ m.2) ok.0;
           read = ok.1;
           typed = fold-roll-Stmt Bool (level_typed k) z ∙ ap (λ x. assign_typed op x (node_kind k e.node)) kinded ∙ ok.2;
         };
@@ -146,7 +145,7 @@ module _ (d : Dictionary) (names : List (String Global)) (r : Rights) (p : Place
         let A : List Finding = faults_as d p kind.Bool (view names e) in
         let h : U ++ A ≡ [] = sym (ap (λ x. S (view_statement names x)) (rolls-SetActive s e)) ∙ none in
         let j = good_expr d names p k agrees kind.Bool e (filled_roll z filled) (none_right U A h) in
-        fine_roll z (both _ _ (none_unless r.active _ s (none_left U A h)) j.placed) j.read (ap (has_kind kind.Bool) j.kinded);
+        fine_roll z (and_from _ _ (none_unless r.active _ s (none_left U A h)) j.placed) j.read (ap (has_kind kind.Bool) j.kinded);
   }
 
   fine_emit : (s : Span) (slot : Ident) (e : Expr) → IsFine (roll-Stmt (level.Emit s slot e))
@@ -163,7 +162,7 @@ module _ (d : Dictionary) (names : List (String Global)) (r : Rights) (p : Place
         let m = used (is_slot p.names) o slot.span (none_left N A rest) in
         let is = name_said d names slot m.0 f.0 m.1 in
         let j = good_expr d names p k agrees kind.Int e f.1 (none_right N A rest) in
-        fine_roll z (both _ _ (none_unless r.emits _ s (none_left U (N ++ A) h)) (both _ _ (ap (is_slot p.names) is ∙ m.2) j.placed)) j.read (ap (has_kind kind.Int) j.kinded);
+        fine_roll z (and_from _ _ (none_unless r.emits _ s (none_left U (N ++ A) h)) (and_from _ _ (ap (is_slot p.names) is ∙ m.2) j.placed)) j.read (ap (has_kind kind.Int) j.kinded);
   }
 
   fine_break : (s : Span) → IsFine (roll-Stmt (level.Break s))
@@ -192,9 +191,9 @@ module _ (d : Dictionary) (names : List (String Global)) (r : Rights) (p : Place
         let j = good_expr d names p k agrees kind.Bool test f.0 (none_left A B h) in
         let all = helds.by (each_back (stmt_filled w) held.items e.0) (none_right A B h) in
         fine_roll z
-        (both _ _ j.placed (both _ _ (each (stmt_placed r p.names) held.items all.placed) refl))
-        (both _ _ j.read (both _ _ (each (stmt_read p.words) held.items all.read) refl))
-        (both _ _ (ap (has_kind kind.Bool) j.kinded) (both _ _ (each (stmt_typed k) held.items all.typed) refl));
+        (and_from _ _ j.placed (and_from _ _ (each (stmt_placed r p.names) held.items all.placed) refl))
+        (and_from _ _ j.read (and_from _ _ (each (stmt_read p.words) held.items all.read) refl))
+        (and_from _ _ (ap (has_kind kind.Bool) j.kinded) (and_from _ _ (each (stmt_typed k) held.items all.typed) refl));
   }
 
   fine_if_else : (s : Span) (test : Expr) (held otherwise : Vec Stmt) → AreFine held.items → AreFine otherwise.items → IsFine (roll-Stmt (level.If s test held (Some otherwise)))
@@ -214,9 +213,9 @@ module _ (d : Dictionary) (names : List (String Global)) (r : Rights) (p : Place
         let one = helds.by (each_back (stmt_filled w) held.items e.0) (none_left B C rest) in
         let two = others.by (each_back (stmt_filled w) otherwise.items e.1) (none_right B C rest) in
         fine_roll z
-        (both _ _ j.placed (both _ _ (each (stmt_placed r p.names) held.items one.placed) (each (stmt_placed r p.names) otherwise.items two.placed)))
-        (both _ _ j.read (both _ _ (each (stmt_read p.words) held.items one.read) (each (stmt_read p.words) otherwise.items two.read)))
-        (both _ _ (ap (has_kind kind.Bool) j.kinded) (both _ _ (each (stmt_typed k) held.items one.typed) (each (stmt_typed k) otherwise.items two.typed)));
+        (and_from _ _ j.placed (and_from _ _ (each (stmt_placed r p.names) held.items one.placed) (each (stmt_placed r p.names) otherwise.items two.placed)))
+        (and_from _ _ j.read (and_from _ _ (each (stmt_read p.words) held.items one.read) (each (stmt_read p.words) otherwise.items two.read)))
+        (and_from _ _ (ap (has_kind kind.Bool) j.kinded) (and_from _ _ (each (stmt_typed k) held.items one.typed) (each (stmt_typed k) otherwise.items two.typed)));
   }
 
   -- ---- the induction
@@ -234,7 +233,7 @@ module _ (d : Dictionary) (names : List (String Global)) (r : Rights) (p : Place
         let B : List Finding = block_faults d r p (view_block names ss) in
         let g = one.by f.0 (none_left A B none) in
         let h = more.by f.1 (none_right A B none) in
-        record { placed = both _ _ g.placed h.placed; read = both _ _ g.read h.read; typed = both _ _ g.typed h.typed };
+        record { placed = and_from _ _ g.placed h.placed; read = and_from _ _ g.read h.read; typed = and_from _ _ g.typed h.typed };
   }
 
   fine_none : AreFine []

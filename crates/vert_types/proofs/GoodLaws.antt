@@ -4,7 +4,7 @@ use Rattle.std.specs.Prelude.{if◌then◌else◌, option_map, slice_get, nat_lt
 use Rattle.std.specs.String.{string_bytes}
 use Rattle.std.specs.declared.alloc.Global.{Global}
 use Rattle.std.specs.declared.string.String.{String}
-use Rattle.std.proofs.lemmas.Bool.{and_parts}
+use Rattle.std.proofs.lemmas.Bool.{and_parts, and_from}
 use Rattle.std.proofs.lemmas.Bool.Decides.{Decides-eqb}
 use Rattle.vert_base.specs.declared.text.Span.{Span}
 use Rattle.vert_base.specs.declared.value.ValueType.{ValueType}
@@ -25,7 +25,6 @@ use Rattle.vert_types.specs.declared.scope.Meaning.{Meaning}
 use Rattle.vert_types.specs.Filled.{is_what, name_filled, node_filled, says, what_in, what_of}
 use Rattle.vert_types.specs.Findings.{unless}
 use Rattle.vert_types.specs.Typing.{Dictionary, Place, faults_as, faults_of, is_field, is_read_slot, kind_faults, kind_of, kind_of_use, same_faults, use_faults}
-use Rattle.vert_types.proofs.FillLaws.{both}
 
 pub never : false ≡ true → ⊥
 never h = cc
@@ -111,7 +110,7 @@ module _ (d : Dictionary) (names : List (String Global)) where
     two_parts t u a b g h =
         ap (λ o. kind_where (has_kind t o && has_kind t (node_kind k b)) u) g.kinded
         ∙ ap (λ o. kind_where (has_kind t (Some t) && has_kind t o) u) h.kinded
-        ∙ ap (λ c. kind_where c u) (both _ _ (has_own t) (has_own t))
+        ∙ ap (λ c. kind_where c u) (and_from _ _ (has_own t) (has_own t))
 
     choice_kind : (t : ValueType) (test a b : Node) → GoodAs kind.Bool test → node_kind k a ≡ Some t → node_kind k b ≡ Some t →
         (if has_kind kind.Bool (node_kind k test) then same_kind (node_kind k a) (node_kind k b) else None) ≡ Some t
@@ -164,8 +163,8 @@ module _ (d : Dictionary) (names : List (String Global)) where
         node_placed p.names whole ≡ (node_placed p.names a && node_placed p.names b) → node_read p.words whole ≡ (node_read p.words a && node_read p.words b) →
         node_kind k whole ≡ kind_where (has_kind t (node_kind k a) && has_kind t (node_kind k b)) u → kind_of d p (view_node names s whole) ≡ Some u → Good s whole
     two_good s whole a b t u g h placed read kinded told = record {
-      placed = placed ∙ both _ _ g.placed h.placed;
-      read = read ∙ both _ _ g.read h.read;
+      placed = placed ∙ and_from _ _ g.placed h.placed;
+      read = read ∙ and_from _ _ g.read h.read;
       type = u;
       told = told;
       kinded = kinded ∙ two_parts t u a b g h;
@@ -221,8 +220,8 @@ module _ (d : Dictionary) (names : List (String Global)) where
         let same = sym (ap (λ o. same_faults o (kind_of d p (view_node names v b)) (start (view_node names v b))) h.told) ∙ none_right (F v b) S last in
         let j = good_as h.type v b (start (view_node names v b)) i same in
         record {
-          placed = both _ _ g.placed (both _ _ h.placed i.placed);
-          read = both _ _ g.read (both _ _ h.read i.read);
+          placed = and_from _ _ g.placed (and_from _ _ h.placed i.placed);
+          read = and_from _ _ g.read (and_from _ _ h.read i.read);
           type = h.type;
           told = h.told;
           kinded = choice_kind h.type test a b g h.kinded j.kinded;

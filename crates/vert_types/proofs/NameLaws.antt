@@ -5,7 +5,7 @@ use Rattle.std.specs.List.{list_all}
 use Rattle.std.specs.Str.{bytes_eq}
 use Rattle.std.specs.declared.alloc.Global.{Global}
 use Rattle.std.specs.declared.string.String.{String}
-use Rattle.std.proofs.lemmas.Bool.{and_parts}
+use Rattle.std.proofs.lemmas.Bool.{and_parts, and_from}
 use Rattle.std.proofs.lemmas.Bool.Decides.{Decides-eqb, Decides-ltb, leb_tells}
 use Rattle.std.proofs.lemmas.List.{length-map}
 use Rattle.vert_base.specs.declared.text.Span.{Span}
@@ -17,18 +17,17 @@ use Rattle.vert_tree.specs.declared.program.Program.{Program}
 use Rattle.vert_tree.specs.declared.program.SlotDecl.{SlotDecl}
 use Rattle.vert_tree.specs.declared.program.Sparse.{Sparse}
 use Rattle.vert_tree.specs.declared.program.TotalDecl.{TotalDecl}
-use Rattle.vert_tree.specs.Places.{option_all}
+use Rattle.vert_tree.specs.Places.{option_all, lets_in, sends_in}
 use Rattle.vert_tree.specs.Readable.{all_differ, declares_once, is_among, let_names, names_of, send_names}
 use Rattle.vert_tree.specs.Views.{text_of, view_declaration, view_dense, view_program, view_slot, view_sparse, view_total}
 use Rattle.vert_types.specs.declared.fault.Finding.{Finding}
 use Rattle.vert_types.specs.Findings.{declared_before, fault}
 use Rattle.vert_types.specs.Parsed.{IsParsed, decl_known, decls_known, dense_known, expr_known, name_known, sparse_known, totals_known}
-use Rattle.vert_types.specs.Tables.{AreDeclared, Item, Typed, all_items, items_from, lets_in, sends_in, typed_decl, typed_slot, typed_total}
+use Rattle.vert_types.specs.Tables.{AreDeclared, Item, Typed, all_items, items_from, typed_decl, typed_slot, typed_total}
 use Rattle.vert_types.specs.Typing.{all_entries, is_text_among, twice}
 use Rattle.vert_types.proofs.DeclaredLaws.{entries_are, five}
 use Rattle.vert_types.proofs.Definitions.{AreKnown, enter}
 use Rattle.vert_types.proofs.Dictionaries.{bytes_eq-refl, is_false}
-use Rattle.vert_types.proofs.FillLaws.{both}
 use Rattle.vert_types.proofs.GoodLaws.{never, none_left, none_right}
 
 -- ---- declared once
@@ -60,7 +59,7 @@ module _ (names : List (String Global)) where
       let alone : is_among number (numbers items) ≡ false =
       is_false _ (λ is. let none = more.fresh number is in never (sym none ∙ ap (λ b. b || is_text_among text before) (bytes_eq-refl text))) in
       record {
-        differ = both _ _ (ap not alone) more.differ;
+        differ = and_from _ _ (ap not alone) more.differ;
         fresh = λ n is.
             let Goal : Type 0 = is_text_among (text_of names n) before ≡ false in
             let cases : (b : Bool) → (n == number) ≡ b → (if b then true else is_among n (numbers items)) ≡ true → Goal =
@@ -130,13 +129,13 @@ decls_named : (n : ℕ) (ds : List Decl) → decls_known n ds ≡ true → list_
 decls_named n [] h = refl
 decls_named n (e ∷ es) h =
     let f = and_parts (decl_known n e) (decls_known n es) h in
-    both _ _ (and_parts (name_known n e.name) (expr_known n e.value) f.0).0 (decls_named n es f.1)
+    and_from _ _ (and_parts (name_known n e.name) (expr_known n e.value) f.0).0 (decls_named n es f.1)
 
 totals_named : (n : ℕ) (ts : List TotalDecl) → totals_known n ts ≡ true → list_all (λ e. name_known n e.name) ts ≡ true
 totals_named n [] h = refl
 totals_named n (e ∷ es) h =
     let f = and_parts (name_known n e.name && expr_known n e.value) (totals_known n es) h in
-    both _ _ (and_parts (name_known n e.name) (expr_known n e.value) f.0).0 (totals_named n es f.1)
+    and_from _ _ (and_parts (name_known n e.name) (expr_known n e.value) f.0).0 (totals_named n es f.1)
 
 at_most : (a b : ℕ) → nat_le a b ≡ true → a ≤ b
 at_most a b h = elim (leb_tells a b) [ inl t ↦ t.1 | inr f ↦ absurd (never (sym f.0 ∙ h)) ]

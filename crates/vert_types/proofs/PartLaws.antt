@@ -4,7 +4,7 @@ use Rattle.std.specs.List.{list_all}
 use Rattle.std.specs.Prelude.{nat_lt, slice_get}
 use Rattle.std.specs.declared.alloc.Global.{Global}
 use Rattle.std.specs.declared.string.String.{String}
-use Rattle.std.proofs.lemmas.Bool.{and_parts}
+use Rattle.std.proofs.lemmas.Bool.{and_parts, and_from}
 use Rattle.std.proofs.lemmas.Bool.Decides.{Decides-ltb}
 use Rattle.std.proofs.lemmas.Option.{slice_get_within}
 use Rattle.vert_base.specs.declared.value.ValueType.{ValueType}
@@ -24,7 +24,6 @@ use Rattle.vert_types.specs.declared.fault.Finding.{Finding}
 use Rattle.vert_types.specs.declared.scope.Meaning.{Meaning}
 use Rattle.vert_types.specs.Filled.{body_filled, decls_filled, decl_filled, dense_filled, expr_filled, name_filled, sparse_filled, totals_filled, what_of}
 use Rattle.vert_types.specs.Typing.{Dictionary, Place, block_faults, declaration_faults, faults_as, is_field, let_faults, total_faults, with_lets}
-use Rattle.vert_types.proofs.FillLaws.{both}
 use Rattle.vert_types.proofs.FineLaws.{fine_block}
 use Rattle.vert_types.proofs.GoodLaws.{Agrees, good_expr, has_own, never, none_left, none_right}
 
@@ -115,7 +114,7 @@ module _ (d : Dictionary) (names : List (String Global)) (fields lets sends : Li
       let B : List Finding = declaration_faults d p (map (view_declaration names) es) in
       let g = expr_good p k h e.kind e.value (and_parts (name_filled w e.name) (expr_filled w e.value) f.0).1 (none_left A B none) in
       let more = decls_good p k h es f.1 (none_right A B none) in
-      record { placed = both _ _ g.placed more.placed; read = both _ _ g.read more.read; typed = both _ _ g.typed more.typed }
+      record { placed = and_from _ _ g.placed more.placed; read = and_from _ _ g.read more.read; typed = and_from _ _ g.typed more.typed }
 
   -- ---- totals
   pub record TotalsTyped (c : Counts) (r : Readable) (k : Kinds) (ts : List TotalDecl) : Type 0 where
@@ -131,7 +130,7 @@ module _ (d : Dictionary) (names : List (String Global)) (fields lets sends : Li
       let B : List Finding = total_faults d p (map (view_total names) es) in
       let g = expr_good p k h kind.Int e.value (and_parts (name_filled w e.name) (expr_filled w e.value) f.0).1 (none_left A B none) in
       let more = totals_good p k h es f.1 (none_right A B none) in
-      record { placed = both _ _ g.placed more.placed; read = both _ _ g.read more.read; typed = both _ _ g.typed more.typed }
+      record { placed = and_from _ _ g.placed more.placed; read = and_from _ _ g.read more.read; typed = and_from _ _ g.typed more.typed }
 
   -- ---- lets
   pub record LetsTyped (c : Counts) (r : Readable) (k : Kinds) (ds : List Decl) : Type 0 where
@@ -163,7 +162,7 @@ module _ (d : Dictionary) (names : List (String Global)) (fields lets sends : Li
       let g = expr_good (with_lets n p) (with_before before k) (holds_before p k h n before (kinds_of (e ∷ es)) many all) e.kind e.value (and_parts (name_filled w e.name) (expr_filled w e.value) f.0).1 (none_left A B none) in
       let next : n + 1 ≡ length (before ++ e.kind ∷ []) = omega (arith, many, length-append before (e.kind ∷ [])) in
       let more = lets_good p k h (n + 1) (before ++ e.kind ∷ []) es next (all ∙ sym (append_assoc before (e.kind ∷ []) (kinds_of es))) f.1 (none_right A B none) in
-      record { placed = both _ _ g.placed more.placed; read = both _ _ g.read more.read; typed = both _ _ g.typed more.typed }
+      record { placed = and_from _ _ g.placed more.placed; read = and_from _ _ g.read more.read; typed = and_from _ _ g.typed more.typed }
 
   -- ---- blocks, at the places of a program
   -- Where no let and no send is named: the names of the program, and so many of each sort.
@@ -239,10 +238,10 @@ module _ (d : Dictionary) (names : List (String Global)) (fields lets sends : Li
         let with_n : ℕ → Counts = λ m. record c { locals = m } in
         record {
           placed =
-              both _ _ test.placed (both _ _ (ap (λ (x : Counts). lets_placed x b.lets.items) fresh ∙ before.placed)
-              (both _ _ (ap (λ m. body_placed loop_rights (with_n m) b.body.items) (sym many) ∙ body.placed) (ap (λ m. body_placed tail_rights (with_n m) b.tail.items) (sym many) ∙ tail.placed)));
-          read = both _ _ test.read (both _ _ before.read (both _ _ body.read tail.read));
-          typed = both _ _ test.typed (both _ _ (ap (λ (x : Kinds). lets_typed x b.lets.items) plain ∙ before.typed) (both _ _ body.typed tail.typed));
+              and_from _ _ test.placed (and_from _ _ (ap (λ (x : Counts). lets_placed x b.lets.items) fresh ∙ before.placed)
+              (and_from _ _ (ap (λ m. body_placed loop_rights (with_n m) b.body.items) (sym many) ∙ body.placed) (ap (λ m. body_placed tail_rights (with_n m) b.tail.items) (sym many) ∙ tail.placed)));
+          read = and_from _ _ test.read (and_from _ _ before.read (and_from _ _ body.read tail.read));
+          typed = and_from _ _ test.typed (and_from _ _ (ap (λ (x : Kinds). lets_typed x b.lets.items) plain ∙ before.typed) (and_from _ _ body.typed tail.typed));
         }
 
     pub record SparseTyped (b : Sparse) : Type 0 where
@@ -272,7 +271,7 @@ module _ (d : Dictionary) (names : List (String Global)) (fields lets sends : Li
         let body = fine_block d names sparse_rights (in_sent n) inner (agrees (in_sent n) inner (sends_hold at k in_sparse b.sends.items n base all many)) b.body.items g.1 (none_right B C rest) in
         let with_n : ℕ → Counts = λ m. record c { sends = m } in
         record {
-          placed = both _ _ test.placed (both _ _ before.placed (ap (λ m. body_placed sparse_rights (with_n m) b.body.items) (sym many) ∙ body.placed));
-          read = both _ _ test.read (both _ _ before.read body.read);
-          typed = both _ _ test.typed (both _ _ before.typed body.typed);
+          placed = and_from _ _ test.placed (and_from _ _ before.placed (ap (λ m. body_placed sparse_rights (with_n m) b.body.items) (sym many) ∙ body.placed));
+          read = and_from _ _ test.read (and_from _ _ before.read body.read);
+          typed = and_from _ _ test.typed (and_from _ _ before.typed body.typed);
         }

@@ -5,7 +5,7 @@ use Rattle.std.specs.List.{list_all}
 use Rattle.std.specs.String.{string_bytes}
 use Rattle.std.specs.declared.alloc.Global.{Global}
 use Rattle.std.specs.declared.string.String.{String}
-use Rattle.std.proofs.lemmas.Bool.{and_parts}
+use Rattle.std.proofs.lemmas.Bool.{and_parts, and_from}
 use Rattle.std.proofs.lemmas.Bool.Decides.{Decides-ltb}
 use Rattle.std.proofs.lemmas.List.{length-map}
 use Rattle.std.proofs.lemmas.Option.{slice_get_within}
@@ -35,7 +35,6 @@ use Rattle.vert_types.specs.Findings.{blockless, fault, half_blocked, first_from
 use Rattle.vert_types.specs.Parsed.{are_totals, is_counted, is_of_version, is_shallow_program}
 use Rattle.vert_types.specs.Typing.{Dictionary, all_entries, at_field, at_start, at_stop, at_test, at_total, at_update, block_faults, body_faults, declaration_faults, dense_faults, dictionary, entries, faults, faults_as, header_faults, lets_of, mode_faults, names_of_rounds, names_of_rows, sends_of, sparse_faults, stop_faults, total_faults, twice}
 use Rattle.vert_types.proofs.DeclaredLaws.{all_listed, kinds_in}
-use Rattle.vert_types.proofs.FillLaws.{both}
 use Rattle.vert_types.proofs.FineLaws.{FineAll, fine_block}
 use Rattle.vert_types.proofs.GoodLaws.{never, none_left, none_right, none_unless}
 use Rattle.vert_types.proofs.NameLaws.{once_declared}
@@ -68,19 +67,19 @@ module _ (names : List (String Global)) (d : Dictionary) where
   decls_within [] h = refl
   decls_within (e ∷ es) h =
       let f = and_parts (decl_filled w e) (decls_filled w es) h in
-      both _ _ (name_within e.name (and_parts (name_filled w e.name) (expr_filled w e.value) f.0).0) (decls_within es f.1)
+      and_from _ _ (name_within e.name (and_parts (name_filled w e.name) (expr_filled w e.value) f.0).0) (decls_within es f.1)
 
   slots_within : (ds : List SlotDecl) → list_all (λ e. name_filled w e.name) ds ≡ true → list_all (λ e. nat_lt e.name.name (length names)) ds ≡ true
   slots_within [] h = refl
   slots_within (e ∷ es) h =
       let f = and_parts (name_filled w e.name) (list_all (λ e. name_filled w e.name) es) h in
-      both _ _ (name_within e.name f.0) (slots_within es f.1)
+      and_from _ _ (name_within e.name f.0) (slots_within es f.1)
 
   totals_within : (ds : List TotalDecl) → totals_filled w ds ≡ true → list_all (λ e. nat_lt e.name.name (length names)) ds ≡ true
   totals_within [] h = refl
   totals_within (e ∷ es) h =
       let f = and_parts (name_filled w e.name && expr_filled w e.value) (totals_filled w es) h in
-      both _ _ (name_within e.name (and_parts (name_filled w e.name) (expr_filled w e.value) f.0).0) (totals_within es f.1)
+      and_from _ _ (name_within e.name (and_parts (name_filled w e.name) (expr_filled w e.value) f.0).0) (totals_within es f.1)
 
   lets_within : (o : Option Dense) → option_all (dense_filled w) o ≡ true → option_all (λ b. list_all (λ e. nat_lt e.name.name (length names)) b.lets.items) o ≡ true
   lets_within None h = refl
@@ -103,7 +102,7 @@ mode_right : (mode : Mode) (dense sparse : Bool) (s : Span) → mode_faults mode
 mode_right mode dense sparse s h = mode_right_where (dense || sparse) (mode_stands mode dense sparse) s h
 
 seven : (a b c d e f g : Bool) → a ≡ true → b ≡ true → c ≡ true → d ≡ true → e ≡ true → f ≡ true → g ≡ true → (a && (b && (c && (d && (e && (f && g)))))) ≡ true
-seven a b c d e f g p q r s t u v = both a _ p (both b _ q (both c _ r (both d _ s (both e _ t (both f g u v)))))
+seven a b c d e f g p q r s t u v = and_from a _ p (and_from b _ q (and_from c _ r (and_from d _ s (and_from e _ t (and_from f g u v)))))
 
 -- a test of a part that may be missing, by another test
 option_by : {X : Type 0} (f : X → Bool) (o : Option X) → ((x : X) → o ≡ Some x → f x ≡ true) → option_all f o ≡ true
@@ -334,18 +333,18 @@ module _ (p : Program) (filled : is_filled p ≡ true) (none : faults (view_prog
       let v = and_parts (nat_le (length t.slots) 8) _ u.1 in
       let w' = and_parts (nat_le (length t.totals) 4) _ v.1 in
       let y = and_parts (option_all (λ b. nat_le (length b.lets) 8) t.dense) _ w'.1 in
-      both _ _ (none_unless (nat_le t.limit 10000) _ t.limit_at (none_right M L clean.header))
-      (both _ _ (ap (λ n. nat_le n 16) (sym tree_fields) ∙ u.0)
-      (both _ _ (ap (λ n. nat_le n 8) (sym (length-map p.slots.items (view_slot names))) ∙ v.0)
-      (both _ _ (ap (λ n. nat_le n 4) (sym (length-map p.totals.items (view_total names))) ∙ w'.0)
-      (both _ _ (few_lets names p.dense y.0) (few_sends names p.sparse y.1)))))
+      and_from _ _ (none_unless (nat_le t.limit 10000) _ t.limit_at (none_right M L clean.header))
+      (and_from _ _ (ap (λ n. nat_le n 16) (sym tree_fields) ∙ u.0)
+      (and_from _ _ (ap (λ n. nat_le n 8) (sym (length-map p.slots.items (view_slot names))) ∙ v.0)
+      (and_from _ _ (ap (λ n. nat_le n 4) (sym (length-map p.totals.items (view_total names))) ∙ w'.0)
+      (and_from _ _ (few_lets names p.dense y.0) (few_sends names p.sparse y.1)))))
 
   named : names_stand p ≡ true
   named =
-      both _ _ (decls_within names d p.fields.items all_filled.fields)
-      (both _ _ (slots_within names d p.slots.items all_filled.slots)
-      (both _ _ (totals_within names d p.totals.items all_filled.totals)
-      (both _ _ (lets_within names d p.dense all_filled.dense) (sends_within names d p.sparse all_filled.sparse))))
+      and_from _ _ (decls_within names d p.fields.items all_filled.fields)
+      (and_from _ _ (slots_within names d p.slots.items all_filled.slots)
+      (and_from _ _ (totals_within names d p.totals.items all_filled.totals)
+      (and_from _ _ (lets_within names d p.dense all_filled.dense) (sends_within names d p.sparse all_filled.sparse))))
 
   moded : mode_stands p.mode (is_some p.dense) (is_some p.sparse) ≡ true
   moded =
@@ -357,12 +356,12 @@ module _ (p : Program) (filled : is_filled p ≡ true) (none : faults (view_prog
 
   pub typed : is_shallow_program t ≡ true → is_counted t ≡ true → is_of_version t ≡ true → are_totals t ≡ true → is_typed p ≡ true
   typed shallow counted version totals =
-      both (is_placed p) _ placed
-      (both (is_kinded p) _ kinded
-      (both (is_limited p) _ (limited counted)
-      (both (is_shallow p) _ (shallow_same p ∙ shallow)
-      (both (names_stand p) _ named
-      (both (version_stands p) _ (version_same p ∙ version)
-      (both (mode_stands p.mode (is_some p.dense) (is_some p.sparse)) _ moded
-      (both (is_readable p) _ readable
-      (both (declares_once p) (totals_combine p) (once_declared p clean.names_once) (ops_are_same p ∙ totals)))))))))
+      and_from (is_placed p) _ placed
+      (and_from (is_kinded p) _ kinded
+      (and_from (is_limited p) _ (limited counted)
+      (and_from (is_shallow p) _ (shallow_same p ∙ shallow)
+      (and_from (names_stand p) _ named
+      (and_from (version_stands p) _ (version_same p ∙ version)
+      (and_from (mode_stands p.mode (is_some p.dense) (is_some p.sparse)) _ moded
+      (and_from (is_readable p) _ readable
+      (and_from (declares_once p) (totals_combine p) (once_declared p clean.names_once) (ops_are_same p ∙ totals)))))))))

@@ -12,6 +12,7 @@ use Rattle.vert_tree.specs.declared.program.Program.{Program}
 use Rattle.vert_tree.specs.declared.program.SlotDecl.{SlotDecl}
 use Rattle.vert_tree.specs.declared.program.Sparse.{Sparse}
 use Rattle.vert_tree.specs.declared.program.TotalDecl.{TotalDecl}
+use Rattle.vert_tree.specs.Places.{lets_in, sends_in}
 use Rattle.vert_types.specs.declared.declare.Sort.{Sort}
 use Rattle.vert_types.specs.declared.declare.Sort.TheVariants.{Fields, Slots, Totals, Locals, Sends}
 use Rattle.vert_types.specs.declared.fault.Finding.{Finding}
@@ -50,14 +51,6 @@ typed_slot d = record { name = d.name; kind = kind.Int }
 
 abbrev pub typed_total : TotalDecl → Typed
 typed_total d = record { name = d.name; kind = kind.Int }
-
-abbrev pub lets_in : Option Dense → List Decl
-lets_in None = []
-lets_in (Some d) = d.lets.items
-
-abbrev pub sends_in : Option Sparse → List Decl
-sends_in None = []
-sends_in (Some d) = d.sends.items
 
 -- all declared names in the order of the text
 abbrev pub all_items : Program → List Item

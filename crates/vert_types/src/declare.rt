@@ -5,7 +5,8 @@ ghost use Rattle.std.specs.Prelude.{◌≡◌, ◌≤◌, IsTrue, IfOk, OnOk, le
 ghost use Rattle.std.specs.List.{list_all};
 ghost use Rattle.vert_types.specs.Findings.{first_from};
 ghost use Rattle.vert_types.specs.Parsed.{name_known};
-ghost use Rattle.vert_types.specs.Tables.{AreDeclared, again_in, all_items, items_from, lets_in, sends_in, sort_of, table_after, twice_in, typed_decl, typed_slot, typed_total, with_item};
+ghost use Rattle.vert_types.specs.Tables.{AreDeclared, again_in, all_items, items_from, sort_of, table_after, twice_in, typed_decl, typed_slot, typed_total, with_item};
+ghost use Rattle.vert_tree.specs.Places.{lets_in, sends_in};
 
 use crate::findings::{DECLARED_BEFORE, Findings};
 use crate::scope::Meaning;

@@ -9,6 +9,7 @@ use Rattle.vert_eval.specs.Frames.{SameFrame, beside}
 use Rattle.vert_eval.specs.Runs.{Ran, after, by_flow, followed_by}
 use Rattle.vert_eval.specs.Values.{counts_of}
 use Rattle.vert_eval.proofs.RunLaws.{followed-Broke, followed-Going}
+use Rattle.vert_eval.proofs.FrameLaws.{next_reads}
 use Rattle.vert_code.specs.declared.instr.Instr.{Instr}
 use Rattle.vert_code.specs.declared.instr.Instr.TheVariants.{Push, Word, Field, Local, Sent, Total, Got, Value, OtherField, OtherWord, Draw, Neg, Not, Op, Least, Greatest, ToLocal, ToField, ToActive, Emit, Jump, JumpUnless, Break}
 use Rattle.vert_code.specs.Machine.{goes_on, step}
@@ -40,10 +41,6 @@ step_reads (Emit k) place stack env = refl
 step_reads (Jump target) place stack env = refl
 step_reads (JumpUnless target) place stack env = refl
 step_reads Break place stack env = refl
-
-next_reads : (flow : Flow) (a b : Ran) → a.reads ≡ [] → b.reads ≡ [] → (by_flow flow a (after a b)).reads ≡ []
-next_reads Broke a b p q = p
-next_reads Going a b p q = ap (λ us. us ++ b.reads) p ∙ q
 
 list_reads : (list : List Instr) (place over : ℕ) (stack : List _) (env : Env) → (goes_on place list over stack env).reads ≡ []
 list_reads [] place over stack env = refl

@@ -15,6 +15,7 @@ use Rattle.vert_code.specs.declared.instr.Instr.{Instr}
 use Rattle.vert_code.specs.declared.instr.Instr.TheVariants.{Push, Word, Field, Local, Sent, Total, Got, Value, OtherField, OtherWord, Draw, Neg, Not, Op, Least, Greatest, ToLocal, ToField, ToActive, Emit, Jump, JumpUnless, Break}
 use Rattle.vert_code.specs.Machine.{Step, goes_on, passed, step, top, under}
 use Rattle.vert_code.specs.Valid.{Way, Onward, Leap, Fork, has_names, heights, is_level, breaks_where, is_list, is_target, is_valid, leads_well, list_names, most, way_of}
+use Rattle.vert_code.proofs.Levels.{length-heights}
 use Rattle.vert_vm.specs.Steps.{CanStep, IsEntered}
 
 length-under : (stack : List ℤ) → length (under stack) ≡ length stack - 1
@@ -54,10 +55,6 @@ level-drop (suc n) place (i ∷ rest) within h =
     let same : place + suc n ≡ place + 1 + n = omega arith in
     let less : n ≤ length rest = omega arith in
     ap (λ (q : ℕ). is_level q (drop n rest)) same ∙ level-drop n (place + 1) rest less (opened place (slice_index (heights place (i ∷ rest)) 0) i rest (record { entry = refl; level = h })).level
-
-length-heights : (list : List Instr) (place : ℕ) → length (heights place list) ≡ length list + 1
-length-heights [] place = refl
-length-heights (i ∷ rest) place = omega (arith, length-heights rest (place + 1))
 
 -- no level list is entered above 64
 low_entry : (place height : ℕ) (list : List Instr) → IsEntered place height list → height ≤ 64

@@ -4,7 +4,7 @@ use Rattle.std.proofs.lemmas.Int.{to_z-of_z}
 use Rattle.std.proofs.lemmas.List.{drop-drop}
 use borrow.Author.Rules.{sfits_of}
 use Rattle.dep_layout.specs.Judgement.{word_of, words_in}
-use Rattle.body_shape.specs.Refresh.{bool_of_word}
+use Rattle.vert_base.specs.Truth.{is_set}
 use Rattle.body_shape.proofs.ReadLaws.{row_parts}
 use Rattle.body_shape.proofs.rows.read_row.Goals as goal
 
@@ -17,7 +17,7 @@ returns c =
     let fields = c.read_words.ensures ∙ ap (λ k. words_in width (drop k body)) start in
     let active =
     c.bool_of_word-row.ensures
-    ∙ ap bool_of_word (to_z-of_z w64 c.word_at.result (sfits_of c.word_at.type_inv) ∙ c.word_at.ensures)
-    ∙ ap (λ k. bool_of_word (word_of (take 8 (drop (k + 8 * width) body)))) start
-    ∙ ap (λ bytes. bool_of_word (word_of (take 8 bytes))) (sym (drop-drop (8 * width) (8 * suc width * c.args.place) body)) in
+    ∙ ap is_set (to_z-of_z w64 c.word_at.result (sfits_of c.word_at.type_inv) ∙ c.word_at.ensures)
+    ∙ ap (λ k. is_set (word_of (take 8 (drop (k + 8 * width) body)))) start
+    ∙ ap (λ bytes. is_set (word_of (take 8 bytes))) (sym (drop-drop (8 * width) (8 * suc width * c.args.place) body)) in
     (λ i. record { fields = fields i; active = active i }) ∙ sym (row_parts width (drop (8 * suc width * c.args.place) body))

@@ -1,7 +1,8 @@
 -- The bytes so far are digits, and their value is this number.
 use Rattle.std.proofs.Common.{◌≡◌, take, true, min}
 use Rattle.std.specs.List.{list_all}
-use Rattle.edge_reader.specs.Words.{is_digit, value_of}
+use Rattle.edge_reader.specs.Words.{value_of}
+use Rattle.vert_base.specs.Digits.{is_digit}
 use Rattle.edge_reader.proofs.words.leading_number.Given as goal
 
 abbrev pub invariant-loop-i : goal.invariant-loop-i

@@ -1,6 +1,7 @@
 use Rattle.std.proofs.Common.{◌≡◌, take, true, min}
 use Rattle.std.specs.List.{list_all}
-use Rattle.edge_reader.specs.Words.{is_digit, value_of}
+use Rattle.edge_reader.specs.Words.{value_of}
+use Rattle.vert_base.specs.Digits.{is_digit}
 use Rattle.edge_reader.proofs.words.number.Given as goal
 
 abbrev pub invariant-loop-byte : goal.invariant-loop-byte

@@ -1,6 +1,6 @@
 -- A typed program has no more than eight sends.
 use Rattle.std.proofs.Common.{ap, arith, length}
-use Rattle.symple_face.specs.Shapes.{sends_in}
+use Rattle.vert_tree.specs.Places.{sends_in}
 use Rattle.symple_face.proofs.LimitLaws.{few_sends}
 use Rattle.symple_face.proofs.words.sends.Goals as goal
 

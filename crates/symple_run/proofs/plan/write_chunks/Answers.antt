@@ -1,6 +1,6 @@
 use Rattle.std.proofs.Common.{◌<◌, ◌∙◌, ℕ, length, ap, arith}
 use Rattle.std.specs.List.{range_with_len}
-use Rattle.chunk_split.specs.Chunks.{start_of}
+use Rattle.vert_base.specs.Ends.{start_of}
 use Rattle.symple_run.specs.Outputs.{chunk_line, chunk_text}
 use Rattle.symple_run.proofs.TextLaws.{all_numbers, all_put, below_numbers, number_at, one_failed, one_more}
 use Rattle.symple_run.proofs.plan.write_chunks.Goals as goal

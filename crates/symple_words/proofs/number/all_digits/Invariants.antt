@@ -1,6 +1,6 @@
 use Rattle.std.proofs.Common.{◌≡◌, drop}
 use Rattle.std.specs.List.{list_all}
-use Rattle.symple_words.specs.Numbers.{is_digit}
+use Rattle.vert_base.specs.Digits.{is_digit}
 use Rattle.symple_words.proofs.number.all_digits.Given as goal
 
 abbrev pub invariant-loop-byte : goal.invariant-loop-byte

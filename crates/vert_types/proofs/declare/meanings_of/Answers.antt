@@ -3,7 +3,8 @@ use Rattle.vert_tree.specs.declared.name.What.TheVariants as what
 use Rattle.vert_tree.specs.declared.program.Decl.{Decl}
 use Rattle.vert_types.specs.declared.scope.Meaning.{Meaning}
 use Rattle.vert_types.specs.Findings.{first_from}
-use Rattle.vert_types.specs.Tables.{all_items, items_from, lets_in, sends_in, table_after, twice_in, typed_decl, typed_slot, typed_total}
+use Rattle.vert_types.specs.Tables.{all_items, items_from, table_after, twice_in, typed_decl, typed_slot, typed_total}
+use Rattle.vert_tree.specs.Places.{sends_in, lets_in}
 use Rattle.vert_types.proofs.TableLaws.{Declares, declares, then_declares}
 use Rattle.vert_types.proofs.declare.meanings_of.Goals as goal
 

@@ -4,7 +4,8 @@ use Rattle.std.proofs.Math.Pow.{pow_mono}
 use Rattle.std.proofs.lemmas.List.{length-map}
 use Rattle.symple_face.specs.PartViews.{plain_of}
 use Rattle.body_shape.specs.Shapes.{bool_bits}
-use Rattle.symple_face.specs.Shapes.{pushed, sends_in, types_of}
+use Rattle.symple_face.specs.Shapes.{pushed, types_of}
+use Rattle.vert_tree.specs.Places.{sends_in}
 use Rattle.symple_face.proofs.part.Part.push_form.Goals as goal
 
 pub overflow_cast-result-3 : goal.overflow_cast-result-3
