@@ -1,3 +1,12 @@
+-- What `symple` prints, stores, takes and answers is what the order of its words says.
+--
+-- The claim (HeadLaws): of each status, each text and each file, by one definition a command (`specs/Orders`), and
+-- where files are told and room is ample a command comes out (`completes`, over ComesLaws).
+--
+-- The chain. The parts of a command make its order, step by step with the outside (WalkLaws, over LoadLaws and
+-- FlushLaws); what every order leaves of files, input and texts is LeavesLaws, and what stands of a run that stopped
+-- CourseLaws. Texts of rows, rounds and reads put piece by piece are the texts by definition: LineLaws, TextLaws,
+-- NumberedLaws, ReadLaws, RoundLaws.
 pub mod ComesLaws
 pub mod CourseLaws
 pub mod FlushLaws
