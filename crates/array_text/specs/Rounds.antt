@@ -11,5 +11,6 @@ ruling_text Sparse = codes "sparse"
 -- `round`, its number, the ruling, the active vertices, the edges and the reads
 abbrev pub round_text : ℕ → Ruling → ℕ → ℕ → ℕ → List ℕ
 round_text round ruling active edges reads =
-    codes "round " ++ decimal round ++ codes " " ++ ruling_text ruling ++ codes " " ++ decimal active ++ codes " " ++ decimal edges ++ codes " " ++ decimal reads
+    codes "round " ++ decimal round ++ codes " " ++ ruling_text ruling ++ codes " " ++ decimal active ++ codes " "
+    ++ decimal edges ++ codes " " ++ decimal reads
     ++ codes "\n"

@@ -4,7 +4,8 @@ use Rattle.outside.specs.Bytes.{gained, GainedPart}
 use Rattle.outside.specs.Causes.{Rose}
 use Rattle.outside.specs.declared.sink.SinkFault.{SinkFault}
 
-pub record Writes {S : Type 0} (held : S → Option (List ℕ)) (faults spare : S → ℕ) (old new : S) (text : List ℕ) (result : Result (Unit {0}) SinkFault) : Type 0 where
+pub record Writes {S : Type 0} (held : S → Option (List ℕ)) (faults spare : S → ℕ) (old new : S) (text : List ℕ)
+    (result : Result (Unit {0}) SinkFault) : Type 0 where
   -- on Ok the sink gained the text, and its count stays
   pub whole : OnOk result (held new ≡ gained (held old) text)
   pub counted : OnOk result (faults new ≡ faults old)

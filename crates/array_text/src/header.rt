@@ -9,7 +9,8 @@ use vert_tree::{Decl, Program};
 
 /// Puts the first line of the table.
 pub fn write_header<O: Sink>(split: &Split, out: &mut O) -> Result<(), SinkFault>
-    ensures { Writes O.held O.faults O.spare out.old out.new (header_text split.now.program.program) result }
+    ensures { Writes O.held O.faults O.spare out.old out.new
+        (header_text split.now.program.program) result }
 {
     put_all(out, b"vertex")?;
     for field in &split.program.program.fields {

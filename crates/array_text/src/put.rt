@@ -16,7 +16,8 @@ pub fn put_all<O: Sink>(out: &mut O, bytes: &[u8]) -> Result<(), SinkFault>
 
 /// Puts the pieces one after another.
 pub fn put_pieces<O: Sink>(out: &mut O, pieces: &[&[u8]]) -> Result<(), SinkFault>
-    ensures { Writes O.held O.faults O.spare out.old out.new (flat_map (λ piece. piece.now) pieces.now) result }
+    ensures { Writes O.held O.faults O.spare out.old out.new
+        (flat_map (λ piece. piece.now) pieces.now) result }
 {
     for piece in pieces {
         put_all(out, piece)?;

@@ -25,7 +25,8 @@ pub fn write_read_head<O: Sink>(round: u32, v: VertexId, out: &mut O) -> Result<
 /// Puts the ids of sources, each after a space. The line goes on where more sources come, and is ended
 /// by the caller.
 pub fn write_reads<O: Sink>(sources: &[VertexId], out: &mut O) -> Result<(), SinkFault>
-    ensures { Writes O.held O.faults O.spare out.old out.new (sources_text (map (λ u. u.0) sources.now)) result }
+    ensures { Writes O.held O.faults O.spare out.old out.new
+        (sources_text (map (λ u. u.0) sources.now)) result }
 {
     for source in sources {
         write_source(*source, out)?;

@@ -9,7 +9,9 @@ use vert_base::Ruling;
 
 /// Puts the line of a round.
 pub fn write_round<O: Sink>(report: &Report, out: &mut O) -> Result<(), SinkFault>
-    ensures { Writes O.held O.faults O.spare out.old out.new (round_text report.now.round report.now.ruling report.now.active report.now.edges report.now.reads) result }
+    ensures { Writes O.held O.faults O.spare out.old out.new
+        (round_text report.now.round report.now.ruling report.now.active report.now.edges
+        report.now.reads) result }
 {
     let mut round = Buffer::new();
     let mut active = Buffer::new();

@@ -16,7 +16,8 @@ pub fn write_row<O: Sink>(
     row: &Row,
     out: &mut O,
 ) -> Result<(), SinkFault>
-    ensures { Writes O.held O.faults O.spare out.old out.new (row_text split.now.program.program v.0 row.now) result }
+    ensures { Writes O.held O.faults O.spare out.old out.new
+        (row_text split.now.program.program v.0 row.now) result }
 {
     let mut id = Buffer::new();
     put_all(out, id.format(v.0).as_bytes())?;
@@ -29,7 +30,8 @@ pub fn write_row<O: Sink>(
 }
 
 fn put_words<O: Sink>(fields: &[Decl], words: &[i64], out: &mut O) -> Result<(), SinkFault>
-    ensures { Writes O.held O.faults O.spare out.old out.new (words_text fields.now words.now) result }
+    ensures { Writes O.held O.faults O.spare out.old out.new (words_text fields.now words.now)
+        result }
 {
     let Some(field) = fields.first() else {
         return Ok(());
@@ -42,7 +44,8 @@ fn put_words<O: Sink>(fields: &[Decl], words: &[i64], out: &mut O) -> Result<(),
 }
 
 fn put_word<O: Sink>(kind: ValueType, word: i64, out: &mut O) -> Result<(), SinkFault>
-    ensures { Writes O.held O.faults O.spare out.old out.new (codes " " ++ word_text kind word) result }
+    ensures { Writes O.held O.faults O.spare out.old out.new (codes " " ++ word_text kind word)
+        result }
 {
     match kind {
         ValueType::Int => {

@@ -27,7 +27,10 @@ all_from [] each = All-nil IsByte
 all_from (b ∷ bytes) each = All-cons IsByte b bytes each.0 (all_from bytes each.1)
 
 eight : (n : ℕ) → All IsByte (to_le_bytes w64 n)
-eight n = all_from (to_le_bytes w64 n) (omega arith, (omega arith, (omega arith, (omega arith, (omega arith, (omega arith, (omega arith, (omega arith, tt))))))))
+eight n = all_from (to_le_bytes w64 n) (
+  omega arith,
+  (omega arith, (omega arith, (omega arith, (omega arith, (omega arith, (omega arith, (omega arith, tt))))))),
+)
 
 bytes-word : (word : ℤ) → All IsByte (word_bytes word)
 unfolding word_bytes
@@ -39,7 +42,8 @@ bytes-number n = eight n
 
 bytes-words : (words : List ℤ) → All IsByte (words_bytes words)
 bytes-words [] = All-nil IsByte
-bytes-words (word ∷ words) = All-append IsByte (word_bytes word) (words_bytes words) (bytes-word word) (bytes-words words)
+bytes-words (word ∷ words) = All-append IsByte (word_bytes word) (words_bytes words) (bytes-word word)
+    (bytes-words words)
 
 bytes-rows : (rows : List (List ℤ)) → All IsByte (rows_bytes rows)
 bytes-rows [] = All-nil IsByte
@@ -54,7 +58,8 @@ byte_mask flags few =
 bytes-flags : (n : ℕ) (flags : List Bool) → All IsByte (bytes_with n flags)
 bytes-flags zero flags = All-nil IsByte
 bytes-flags (suc n) flags =
-    All-cons IsByte (mask_l (take 8 flags)) (bytes_with n (drop 8 flags)) (byte_mask (take 8 flags) (omega (arith, length-take 8 flags))) (bytes-flags n (drop 8 flags))
+    All-cons IsByte (mask_l (take 8 flags)) (bytes_with n (drop 8 flags))
+    (byte_mask (take 8 flags) (omega (arith, length-take 8 flags))) (bytes-flags n (drop 8 flags))
 
 pub refresh_bytes : RefreshIsBytes
 refresh_bytes rows = bytes-rows (map row_words rows)
@@ -62,14 +67,18 @@ refresh_bytes rows = bytes-rows (map row_words rows)
 pub update_bytes : UpdateIsBytes
 update_bytes slots reduced [] each = All-nil IsByte
 update_bytes slots reduced (s ∷ sents) each =
-    let words = All-append IsByte (words_bytes (there s.values)) (words_bytes (there s.operands)) (bytes-words (there s.values)) (bytes-words (there s.operands)) in
+    let words = All-append IsByte (words_bytes (there s.values)) (words_bytes (there s.operands))
+    (bytes-words (there s.values)) (bytes-words (there s.operands)) in
     All-append IsByte (sent_bytes s) (update_body sents)
-    (All-cons IsByte (mask_of s.values) (mask_of s.operands ∷ words_bytes (there s.values) ++ words_bytes (there s.operands)) each.0.0.mask
-    (All-cons IsByte (mask_of s.operands) (words_bytes (there s.values) ++ words_bytes (there s.operands)) each.0.1.mask words))
+    (All-cons IsByte (mask_of s.values) (mask_of s.operands ∷ words_bytes (there s.values)
+    ++ words_bytes (there s.operands)) each.0.0.mask
+    (All-cons IsByte (mask_of s.operands) (words_bytes (there s.values) ++ words_bytes (there s.operands))
+    each.0.1.mask words))
     (update_bytes slots reduced sents each.1)
 
 pub push_bytes : PushIsBytes
-push_bytes sends = All-append IsByte _ _ (bytes-flags (bit_len (length (places sends))) (places sends)) (bytes-rows (there sends))
+push_bytes sends = All-append IsByte _ _ (bytes-flags (bit_len (length (places sends))) (places sends))
+    (bytes-rows (there sends))
 
 pub tally_bytes : TallyIsBytes
 tally_bytes c =

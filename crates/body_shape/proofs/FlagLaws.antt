@@ -42,7 +42,8 @@ behind_are zero bits = set_are bits
 behind_are (suc n) [] = refl
 behind_are (suc n) (bit ∷ bits) = behind_are n bits
 
-pub behind_flags : (n : ℕ) (bytes : List ℕ) → list_any is_set (drop n (bits_in bytes)) ≡ has_set (drop n (flags_in bytes))
+pub behind_flags : (n : ℕ) (bytes : List ℕ) → list_any is_set (drop n (bits_in bytes))
+    ≡ has_set (drop n (flags_in bytes))
 behind_flags n bytes = behind_are n (bits_in bytes) ∙ ap (λ fs. has_set (drop n fs)) (flags_are bytes)
 
 set_cons : (flag : Bool) (flags : List Bool) → set_count (flag ∷ flags) ≡ cond flag 1 0 + set_count flags
@@ -61,7 +62,8 @@ count_are (suc n) (bit ∷ bits) =
     ∙ ap (λ k. cond (is_set bit) 1 0 + k) (count_are n bits)
     ∙ sym (set_cons (is_set bit) (padded n (map is_set bits)))
 
-pub count_flags : (n : ℕ) (bytes : List ℕ) → count_by is_set (take n (bits_in bytes)) ≡ set_count (padded n (flags_in bytes))
+pub count_flags : (n : ℕ) (bytes : List ℕ) → count_by is_set (take n (bits_in bytes))
+    ≡ set_count (padded n (flags_in bytes))
 count_flags n bytes = count_are n (bits_in bytes) ∙ ap (λ fs. set_count (padded n fs)) (flags_are bytes)
 
 -- ---- flags and falses
@@ -86,17 +88,20 @@ falses (true ∷ flags) e = absurd (cc)
 falses (false ∷ flags) e = let rest = falses flags e in (suc rest.0, ap (λ fs. false ∷ fs) rest.1)
 
 -- flags of which none is set behind the first so many are these and falses
-split_flags : (n : ℕ) (flags : List Bool) → n ≤ length flags → has_set (drop n flags) ≡ false → (k : ℕ) × (flags ≡ padded n flags ++ replicate k false)
+split_flags : (n : ℕ) (flags : List Bool) → n ≤ length flags → has_set (drop n flags) ≡ false → (k : ℕ) ×
+    (flags ≡ padded n flags ++ replicate k false)
 split_flags zero flags room e = falses flags e
 split_flags (suc n) [] room e = absurd (omega arith)
-split_flags (suc n) (flag ∷ flags) room e = let rest = split_flags n flags (omega arith) e in (rest.0, ap (λ fs. flag ∷ fs) rest.1)
+split_flags (suc n) (flag ∷ flags) room e = let rest = split_flags n flags (omega arith) e in
+    (rest.0, ap (λ fs. flag ∷ fs) rest.1)
 
 no_bits : (k : ℕ) → flags_of k 0 ≡ replicate k false
 no_bits zero = refl
 no_bits (suc k) = ap (λ fs. false ∷ fs) (no_bits k)
 
 -- the bits of the number of flags are the flags and falses
-wide_flags : (k : ℕ) (flags : List Bool) → length flags ≤ k → (j : ℕ) × (flags_of k (mask_l flags) ≡ flags ++ replicate j false)
+wide_flags : (k : ℕ) (flags : List Bool) → length flags ≤ k → (j : ℕ) ×
+    (flags_of k (mask_l flags) ≡ flags ++ replicate j false)
 wide_flags k [] room = (k, no_bits k)
 wide_flags zero (flag ∷ flags) room = absurd (omega arith)
 wide_flags (suc k) (flag ∷ flags) room =
@@ -116,7 +121,8 @@ empty [] e = refl
 empty (flag ∷ flags) e = absurd (omega arith)
 
 -- the flags in the bytes of flags are these and falses
-pub flags_again : (n : ℕ) (flags : List Bool) → length flags ≤ 8 * n → (k : ℕ) × (flags_in (bytes_with n flags) ≡ flags ++ replicate k false)
+pub flags_again : (n : ℕ) (flags : List Bool) → length flags ≤ 8 * n → (k : ℕ) ×
+    (flags_in (bytes_with n flags) ≡ flags ++ replicate k false)
 flags_again zero flags room = (0, ap (λ fs. fs ++ []) (sym (empty flags (omega arith))))
 flags_again (suc n) flags room =
     let behind = flags_in (bytes_with n (drop 8 flags)) in
@@ -127,13 +133,15 @@ flags_again (suc n) flags room =
             front.0 + rest.0,
             ap (λ fs. flags_of 8 (mask_l fs) ++ behind) (take_all 8 flags (omega arith))
                 ∙ ap (λ fs. fs ++ behind) front.1
-                ∙ ap (λ fs. (flags ++ replicate front.0 false) ++ fs) (rest.1 ∙ ap (λ fs. fs ++ replicate rest.0 false) (drop_all 8 flags (omega arith)))
+                ∙ ap (λ fs. (flags ++ replicate front.0 false) ++ fs)
+                (rest.1 ∙ ap (λ fs. fs ++ replicate rest.0 false) (drop_all 8 flags (omega arith)))
                 ∙ append_assoc flags (replicate front.0 false) (replicate rest.0 false)
                 ∙ ap (λ fs. flags ++ fs) (replicate-append-replicate front.0 rest.0 false),
           )
       | inr many ↦
           let count : length (take 8 flags) ≡ 8 = length-take-le 8 flags many in
-          let front : flags_of 8 (mask_l (take 8 flags)) ≡ take 8 flags = ap (λ k. flags_of k (mask_l (take 8 flags))) (sym count) ∙ flags_of-mask_l (take 8 flags) in (
+          let front : flags_of 8 (mask_l (take 8 flags)) ≡ take 8 flags =
+          ap (λ k. flags_of k (mask_l (take 8 flags))) (sym count) ∙ flags_of-mask_l (take 8 flags) in (
             rest.0,
             ap (λ fs. fs ++ behind) front
                 ∙ ap (λ fs. take 8 flags ++ fs) rest.1
@@ -159,7 +167,8 @@ drop_falses zero k = (k, refl)
 drop_falses (suc m) zero = (0, refl)
 drop_falses (suc m) (suc k) = drop_falses m k
 
-same_rest : (m k : ℕ) (flags : List Bool) → (j : ℕ) × (drop m (flags ++ replicate k false) ≡ drop m flags ++ replicate j false)
+same_rest : (m k : ℕ) (flags : List Bool) → (j : ℕ) ×
+    (drop m (flags ++ replicate k false) ≡ drop m flags ++ replicate j false)
 same_rest zero k flags = (k, refl)
 same_rest (suc m) k [] = drop_falses (suc m) k
 same_rest (suc m) k (flag ∷ flags) = same_rest m k flags
@@ -184,7 +193,8 @@ length-flags_in [] = refl
 length-flags_in (b ∷ bytes) = omega (arith, length-flags_in bytes)
 
 -- bytes with no flag set behind the first so many are the bytes of these
-pub bytes_again : (n : ℕ) (bytes : List ℕ) → All (λ b. b < 256) bytes → n ≤ 8 * length bytes → has_set (drop n (flags_in bytes)) ≡ false →
+pub bytes_again : (n : ℕ) (bytes : List ℕ) → All (λ b. b < 256) bytes → n ≤ 8 * length bytes →
+    has_set (drop n (flags_in bytes)) ≡ false →
     bytes_with (length bytes) (padded n (flags_in bytes)) ≡ bytes
 bytes_again n bytes fits room none =
     let split = split_flags n (flags_in bytes) (omega (arith, length-flags_in bytes)) none in

@@ -64,8 +64,14 @@ pub refresh_missing : RefreshMissing
 refresh_missing count width bools =
     let same = rows_are width count in
     let P : List PlainRow → Type 0 = λ rows. SuitsRefresh count width bools rows in
-    let still : IsRow width bools (still_row width) = ((length-replicate width (pos 0), fits_zeros width), zeros_typed width bools) in
-    (same, subst P (sym same) (length-replicate count (still_row width), each_same (IsRow width bools) (still_row width) count still))
+    let still : IsRow width bools (still_row width) =
+    ((length-replicate width (pos 0), fits_zeros width), zeros_typed width bools) in (
+      same,
+      subst P (sym same) (
+        length-replicate count (still_row width),
+        each_same (IsRow width bools) (still_row width) count still,
+      ),
+    )
 
 -- ---- update
 
@@ -95,14 +101,20 @@ sent_nothing slots reduced =
 sents_are : (slots reduced count : ℕ) → sents_read slots reduced count [] ≡ replicate count (nothing_sent slots reduced)
 sents_are slots reduced zero = refl
 sents_are slots reduced (suc count) =
-    ap (λ s. s ∷ sents_read slots reduced count []) (sent_nothing slots reduced) ∙ ap (λ ss. nothing_sent slots reduced ∷ ss) (sents_are slots reduced count)
+    ap (λ s. s ∷ sents_read slots reduced count []) (sent_nothing slots reduced)
+    ∙ ap (λ ss. nothing_sent slots reduced ∷ ss) (sents_are slots reduced count)
 
 pub update_missing : UpdateMissing
 update_missing count slots reduced =
     let same = sents_are slots reduced count in
     let P : List Sent → Type 0 = λ sents. SuitsUpdate count slots reduced sents in
-    let nothing : IsSent slots reduced (nothing_sent slots reduced) = (are_missing slots, are_missing reduced) in
-    (same, subst P (sym same) (length-replicate count (nothing_sent slots reduced), each_same (IsSent slots reduced) (nothing_sent slots reduced) count nothing))
+    let nothing : IsSent slots reduced (nothing_sent slots reduced) = (are_missing slots, are_missing reduced) in (
+      same,
+      subst P (sym same) (
+        length-replicate count (nothing_sent slots reduced),
+        each_same (IsSent slots reduced) (nothing_sent slots reduced) count nothing,
+      ),
+    )
 
 -- ---- push
 
@@ -112,7 +124,9 @@ none_placed (suc n) rows = ap (λ xs. None ∷ xs) (none_placed n rows)
 
 sends_are : (words count : ℕ) → sends_read words count [] ≡ replicate count None
 sends_are words count =
-    ap (λ marks. placed (padded count (flags_in marks)) (rows_in words (set_count (padded count (flags_in marks))) (drop (bit_len count) []))) (take-nil (bit_len count))
+    ap (λ marks. placed (padded count (flags_in marks))
+    (rows_in words (set_count (padded count (flags_in marks))) (drop (bit_len count) [])))
+    (take-nil (bit_len count))
     ∙ none_placed count _
 
 pub push_missing : PushMissing
@@ -121,7 +135,11 @@ push_missing count words bools =
     let P : List (Option (List ℤ)) → Type 0 = λ sends. SuitsPush count words bools sends in
     let Q : List (List ℤ) → Type 0 = λ rows. AllByRecursion (IsWords words) rows in
     let none : SuitsPush count words bools (replicate count None) =
-    record { count = length-replicate count None; each = subst Q (sym (none_there count)) tt; typed = ap (list_all (are_typed bools)) (none_there count) } in
+    record {
+      count = length-replicate count None;
+      each = subst Q (sym (none_there count)) tt;
+      typed = ap (list_all (are_typed bools)) (none_there count);
+    } in
     (same, subst P (sym same) none)
 
 -- ---- tally and verdict
@@ -131,7 +149,12 @@ tally_missing totals =
     let words = no_words totals in
     let n = no_number in (
       λ i. record { active = n i; edges = n i; reads = n i; totals = words i },
-      record { active = omega (arith, no_number); edges = omega (arith, no_number); reads = omega (arith, no_number); totals = are_words_in totals [] },
+      record {
+        active = omega (arith, no_number);
+        edges = omega (arith, no_number);
+        reads = omega (arith, no_number);
+        totals = are_words_in totals [];
+      },
     )
 
 pub verdict_missing : VerdictMissing

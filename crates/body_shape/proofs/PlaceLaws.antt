@@ -17,14 +17,16 @@ length-there (None ∷ xs) = length-there xs
 length-there (Some x ∷ xs) = ap suc (length-there xs)
 
 -- as many values as places are all there
-pub there-placed : {X : Type 0} (flags : List Bool) (xs : List X) → length xs ≡ set_count flags → there (placed flags xs) ≡ xs
+pub there-placed : {X : Type 0} (flags : List Bool) (xs : List X) → length xs ≡ set_count flags →
+    there (placed flags xs) ≡ xs
 there-placed [] [] e = refl
 there-placed [] (x ∷ xs) e = absurd (omega arith)
 there-placed (false ∷ flags) xs e = there-placed flags xs e
 there-placed (true ∷ flags) [] e = absurd (omega arith)
 there-placed (true ∷ flags) (x ∷ xs) e = ap (λ others. x ∷ others) (there-placed flags xs (omega arith))
 
-pub places-placed : {X : Type 0} (flags : List Bool) (xs : List X) → length xs ≡ set_count flags → places (placed flags xs) ≡ flags
+pub places-placed : {X : Type 0} (flags : List Bool) (xs : List X) → length xs ≡ set_count flags →
+    places (placed flags xs) ≡ flags
 places-placed [] xs e = refl
 places-placed (false ∷ flags) xs e = ap (λ others. false ∷ others) (places-placed flags xs e)
 places-placed (true ∷ flags) [] e = absurd (omega arith)

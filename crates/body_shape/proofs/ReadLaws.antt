@@ -47,7 +47,8 @@ unfolding number_of
 front_number bytes = front bytes
 
 -- one more word is read
-pub read_step : (n i : ℕ) (words : List ℤ) (word : ℤ) (rest others : List ℕ) (whole : List ℤ) → i < n → word ≡ word_of (take 8 rest) → others ≡ drop 8 rest →
+pub read_step : (n i : ℕ) (words : List ℤ) (word : ℤ) (rest others : List ℕ) (whole : List ℤ) → i < n →
+    word ≡ word_of (take 8 rest) → others ≡ drop 8 rest →
     words ++ words_in (n - i) rest ≡ whole → (words ++ word ∷ []) ++ words_in (n - (i + 1)) others ≡ whole
 read_step n i words word rest others whole within one behind all =
     append_assoc words (word ∷ []) (words_in (n - (i + 1)) others)
@@ -56,13 +57,15 @@ read_step n i words word rest others whole within one behind all =
     ∙ sym (ap (λ k. words ++ words_in k rest) (turns_left n i within))
     ∙ all
 
-pub read_end : (n i : ℕ) (words : List ℤ) (rest : List ℕ) (whole : List ℤ) → n ≤ i → words ++ words_in (n - i) rest ≡ whole → words ≡ whole
+pub read_end : (n i : ℕ) (words : List ℤ) (rest : List ℕ) (whole : List ℤ) → n ≤ i →
+    words ++ words_in (n - i) rest ≡ whole → words ≡ whole
 read_end n i words rest whole past all =
     let none : n - i ≡ 0 = omega arith in
     sym (append-nil words) ∙ sym (ap (λ k. words ++ words_in k rest) none) ∙ all
 
 -- a word in its place
-pub word_in_place : (n k : ℕ) (bytes : List ℕ) (d : ℤ) → k < n → get_or (words_in n bytes) k d ≡ word_of (take 8 (drop (8 * k) bytes))
+pub word_in_place : (n k : ℕ) (bytes : List ℕ) (d : ℤ) → k < n →
+    get_or (words_in n bytes) k d ≡ word_of (take 8 (drop (8 * k) bytes))
 word_in_place zero k bytes d within = absurd (omega arith)
 word_in_place (suc n) zero bytes d within = refl
 word_in_place (suc n) (suc k) bytes d within =
@@ -74,13 +77,16 @@ fields_of : (width : ℕ) (bytes : List ℕ) → take width (words_in (suc width
 fields_of zero bytes = refl
 fields_of (suc width) bytes = ap (λ ws. word_of (take 8 bytes) ∷ ws) (fields_of width (drop 8 bytes))
 
-flag_of : (width : ℕ) (bytes : List ℕ) → flag_at width (words_in (suc width) bytes) ≡ is_set (word_of (take 8 (drop (8 * width) bytes)))
+flag_of : (width : ℕ) (bytes : List ℕ) → flag_at width (words_in (suc width) bytes)
+    ≡ is_set (word_of (take 8 (drop (8 * width) bytes)))
 flag_of zero bytes = refl
-flag_of (suc width) bytes = flag_of width (drop 8 bytes) ∙ ap (λ bs. is_set (word_of (take 8 bs))) (sym (further width bytes))
+flag_of (suc width) bytes = flag_of width (drop 8 bytes)
+    ∙ ap (λ bs. is_set (word_of (take 8 bs))) (sym (further width bytes))
 
 -- the row that is spelled at the front of bytes
 pub row_parts : (width : ℕ) (bytes : List ℕ) →
-    row_of width (words_in (suc width) bytes) ≡ record { fields = words_in width bytes; active = is_set (word_of (take 8 (drop (8 * width) bytes))) }
+    row_of width (words_in (suc width) bytes)
+    ≡ record { fields = words_in width bytes; active = is_set (word_of (take 8 (drop (8 * width) bytes))) }
 row_parts width bytes =
     let fields = fields_of width bytes in
     let active = flag_of width bytes in
@@ -93,10 +99,14 @@ pub bit_in_place : (n i : ℕ) → i < 8 → not (eqb (n / 2 ^ i % 2) 0) ≡ get
 bit_in_place n zero within = let e : n / 1 ≡ n = omega arith in ap (λ m. not (eqb (m % 2) 0)) e
 bit_in_place n (suc zero) within = refl
 bit_in_place n (suc (suc zero)) within = let e : n / 4 ≡ n / 2 / 2 = omega arith in ap (λ m. not (eqb (m % 2) 0)) e
-bit_in_place n (suc (suc (suc zero))) within = let e : n / 8 ≡ n / 2 / 2 / 2 = omega arith in ap (λ m. not (eqb (m % 2) 0)) e
-bit_in_place n (suc (suc (suc (suc zero)))) within = let e : n / 16 ≡ n / 2 / 2 / 2 / 2 = omega arith in ap (λ m. not (eqb (m % 2) 0)) e
-bit_in_place n (suc (suc (suc (suc (suc zero))))) within = let e : n / 32 ≡ n / 2 / 2 / 2 / 2 / 2 = omega arith in ap (λ m. not (eqb (m % 2) 0)) e
-bit_in_place n (suc (suc (suc (suc (suc (suc zero)))))) within = let e : n / 64 ≡ n / 2 / 2 / 2 / 2 / 2 / 2 = omega arith in ap (λ m. not (eqb (m % 2) 0)) e
+bit_in_place n (suc (suc (suc zero))) within = let e : n / 8 ≡ n / 2 / 2 / 2 = omega arith in
+    ap (λ m. not (eqb (m % 2) 0)) e
+bit_in_place n (suc (suc (suc (suc zero)))) within = let e : n / 16 ≡ n / 2 / 2 / 2 / 2 = omega arith in
+    ap (λ m. not (eqb (m % 2) 0)) e
+bit_in_place n (suc (suc (suc (suc (suc zero))))) within = let e : n / 32 ≡ n / 2 / 2 / 2 / 2 / 2 = omega arith in
+    ap (λ m. not (eqb (m % 2) 0)) e
+bit_in_place n (suc (suc (suc (suc (suc (suc zero)))))) within = let e : n / 64 ≡ n / 2 / 2 / 2 / 2 / 2
+    / 2 = omega arith in ap (λ m. not (eqb (m % 2) 0)) e
 bit_in_place n (suc (suc (suc (suc (suc (suc (suc zero))))))) within =
     let e : n / 128 ≡ n / 2 / 2 / 2 / 2 / 2 / 2 / 2 = omega arith in ap (λ m. not (eqb (m % 2) 0)) e
 bit_in_place n (suc (suc (suc (suc (suc (suc (suc (suc i)))))))) within = absurd (omega arith)
@@ -159,7 +169,8 @@ set_bits k n few =
 
 -- ---- values at places
 
-placed_here : {X : Type 0} (flags : List Bool) (xs : List X) (i : ℕ) (d : X) → length xs ≡ set_count flags → i < length flags →
+placed_here : {X : Type 0} (flags : List Bool) (xs : List X) (i : ℕ) (d : X) → length xs ≡ set_count flags →
+    i < length flags →
     get_or (placed flags xs) i None ≡ cond (get_or flags i false) (Some (get_or xs (set_count (take i flags)) d)) None
 placed_here [] xs i d many within = absurd (omega arith)
 placed_here (false ∷ flags) xs zero d many within = refl
@@ -175,40 +186,51 @@ set_before (false ∷ flags) zero set = absurd (cc)
 set_before (true ∷ flags) (suc i) set = omega (arith, set_before flags i set)
 set_before (false ∷ flags) (suc i) set = set_before flags i set
 
-pub value_missing : (mask count place : ℕ) (bytes : List ℕ) → place < 8 → place < count → mask / 2 ^ place % 2 ≡ 0 → None ≡ get_or (values_in count mask bytes) place None
+pub value_missing : (mask count place : ℕ) (bytes : List ℕ) → place < 8 → place < count → mask / 2 ^ place % 2 ≡ 0 →
+    None ≡ get_or (values_in count mask bytes) place None
 value_missing mask count place bytes few within clear =
     let flags = flags_of count mask in
     let words = words_in (set_count (flags_of count mask)) bytes in
     let unset : get_or (flags_of count mask) place false ≡ false =
     same_bit place count 8 mask within few ∙ sym (bit_in_place mask place few) ∙ ap (λ r. not (eqb r 0)) clear in
-    sym (placed_here flags words place (word_of []) (length-words_in (set_count flags) bytes) (omega (arith, length-flags_of count mask))
+    sym (placed_here flags words place (word_of []) (length-words_in (set_count flags) bytes)
+    (omega (arith, length-flags_of count mask))
     ∙ ap (λ b. cond b (Some (get_or words (set_count (take place flags)) (word_of []))) None) unset)
 
-pub value_there : (mask count place : ℕ) (bytes : List ℕ) → place < 8 → place < count → not (eqb (mask / 2 ^ place % 2) 0) ≡ true →
-    Some (word_of (take 8 (drop (8 * set_count (flags_of place mask)) bytes))) ≡ get_or (values_in count mask bytes) place None
+pub value_there : (mask count place : ℕ) (bytes : List ℕ) → place < 8 → place < count →
+    not (eqb (mask / 2 ^ place % 2) 0) ≡ true →
+    Some (word_of (take 8 (drop (8 * set_count (flags_of place mask)) bytes)))
+    ≡ get_or (values_in count mask bytes) place None
 value_there mask count place bytes few within here =
     let flags = flags_of count mask in
     let words = words_in (set_count (flags_of count mask)) bytes in
     let earlier = set_count (take place (flags_of count mask)) in
-    let set : get_or (flags_of count mask) place false ≡ true = same_bit place count 8 mask within few ∙ sym (bit_in_place mask place few) ∙ here in
+    let set : get_or (flags_of count mask) place false ≡ true = same_bit place count 8 mask within few
+    ∙ sym (bit_in_place mask place few) ∙ here in
     let less = set_before flags place set in
-    sym (placed_here flags words place (word_of []) (length-words_in (set_count flags) bytes) (omega (arith, length-flags_of count mask))
+    sym (placed_here flags words place (word_of []) (length-words_in (set_count flags) bytes)
+    (omega (arith, length-flags_of count mask))
     ∙ ap (λ b. cond b (Some (get_or words earlier (word_of []))) None) set
     ∙ ap Some (word_in_place (set_count flags) earlier bytes (word_of []) less)
     ∙ ap (λ fs. Some (word_of (take 8 (drop (8 * set_count fs) bytes)))) (take_bits place count mask (omega arith)))
 
 none_of : (n place : ℕ) (bytes : List ℕ) → place < n → bytes ≡ [] → None ≡ get_or (values_in n 0 bytes) place None
 none_of n place bytes within none =
-    sym (ap (λ bs. get_or (values_in n 0 bs) place None) none ∙ ap (λ xs. get_or xs place None) (no_values n) ∙ get_or-replicate n place None None within)
+    sym (ap (λ bs. get_or (values_in n 0 bs) place None) none ∙ ap (λ xs. get_or xs place None) (no_values n)
+    ∙ get_or-replicate n place None None within)
 
-pub short_values : (slots reduced place : ℕ) (update : List ℕ) → length update < 2 → place < slots → None ≡ get_or (sent_at slots reduced update).values place None
+pub short_values : (slots reduced place : ℕ) (update : List ℕ) → length update < 2 → place < slots →
+    None ≡ get_or (sent_at slots reduced update).values place None
 short_values slots reduced place [] short within = none_of slots place [] within refl
 short_values slots reduced place (b ∷ []) short within = none_of slots place [] within refl
 short_values slots reduced place (b ∷ c ∷ bytes) short within = absurd (omega arith)
 
-pub short_operands : (slots reduced place : ℕ) (update : List ℕ) → length update < 2 → place < reduced → None ≡ get_or (sent_at slots reduced update).operands place None
-short_operands slots reduced place [] short within = none_of reduced place (behind_values slots 0 []) within (drop-nil (8 * set_count (flags_of slots 0)))
-short_operands slots reduced place (b ∷ []) short within = none_of reduced place (behind_values slots 0 []) within (drop-nil (8 * set_count (flags_of slots 0)))
+pub short_operands : (slots reduced place : ℕ) (update : List ℕ) → length update < 2 → place < reduced →
+    None ≡ get_or (sent_at slots reduced update).operands place None
+short_operands slots reduced place [] short within = none_of reduced place (behind_values slots 0 []) within
+    (drop-nil (8 * set_count (flags_of slots 0)))
+short_operands slots reduced place (b ∷ []) short within = none_of reduced place (behind_values slots 0 []) within
+    (drop-nil (8 * set_count (flags_of slots 0)))
 short_operands slots reduced place (b ∷ c ∷ bytes) short within = absurd (omega arith)
 
 -- ---- senders
@@ -221,7 +243,8 @@ padded_here (suc n) zero (flag ∷ flags) within = refl
 padded_here (suc n) (suc v) (flag ∷ flags) within = padded_here n v flags (omega arith)
 
 -- a flag in its byte
-pub flag_in_place : (bytes : List ℕ) (v : ℕ) → not (eqb (get_or bytes (v / 8) 0 / 2 ^ (v % 8) % 2) 0) ≡ get_or (flags_in bytes) v false
+pub flag_in_place : (bytes : List ℕ) (v : ℕ) → not (eqb (get_or bytes (v / 8) 0 / 2 ^ (v % 8) % 2) 0)
+    ≡ get_or (flags_in bytes) v false
 flag_in_place [] v = ap (λ n. not (eqb (n % 2) 0)) (zero-div (2 ^ (v % 8)))
 flag_in_place (b ∷ bytes) v =
     let size : length (flags_of 8 b) ≡ 8 = length-flags_of 8 b in
@@ -242,7 +265,8 @@ flag_in_place (b ∷ bytes) v =
           ∙ sym (get_or-append_right (flags_of 8 b) (flags_in bytes) 8 v false size many)
     ]
 
-pub sender_in_place : (n v : ℕ) (body : List ℕ) → v < n → not (eqb (get_or body (v / 8) 0 / 2 ^ (v % 8) % 2) 0) ≡ get_or (senders n body) v false
+pub sender_in_place : (n v : ℕ) (body : List ℕ) → v < n → not (eqb (get_or body (v / 8) 0 / 2 ^ (v % 8) % 2) 0)
+    ≡ get_or (senders n body) v false
 sender_in_place n v body within =
     let marks = take (bit_len n) body in
     let inside : v / 8 < bit_len n = omega arith in
@@ -250,7 +274,8 @@ sender_in_place n v body within =
     ∙ flag_in_place marks v
     ∙ sym (padded_here n v (flags_in marks) within)
 
-row_in_place : (width n k : ℕ) (bytes : List ℕ) (d : List ℤ) → k < n → get_or (rows_in width n bytes) k d ≡ words_in width (drop (8 * width * k) bytes)
+row_in_place : (width n k : ℕ) (bytes : List ℕ) (d : List ℤ) → k < n →
+    get_or (rows_in width n bytes) k d ≡ words_in width (drop (8 * width * k) bytes)
 row_in_place width zero k bytes d within = absurd (omega arith)
 row_in_place width (suc n) zero bytes d within =
     let none : 8 * width * 0 ≡ 0 = omega arith in
@@ -268,7 +293,8 @@ push_in_place count words i body within =
     let bytes = drop (bit_len count) body in
     let rows = rows_in words (set_count (senders count body)) (drop (bit_len count) body) in
     let earlier = set_count (take i (senders count body)) in
-    let inside : i < length (senders count body) = omega (arith, length-padded count (flags_in (take (bit_len count) body))) in
+    let inside : i < length (senders count body) =
+    omega (arith, length-padded count (flags_in (take (bit_len count) body))) in
     placed_here flags rows i [] (length-rows_in words (set_count flags) bytes) inside
     ∙ some_same (get_or flags i false) (get_or rows earlier []) (words_in words (drop (8 * words * earlier) bytes))
     (λ set. row_in_place words (set_count flags) earlier bytes [] (set_before flags i set))

@@ -37,21 +37,26 @@ word_again (negsuc n) e = absurd (Bool_no e)
 
 -- ---- a row and its words
 
-more_fits : (fields : List ℤ) (b : Bool) → AllByRecursion (FitsSigned w64) fields → AllByRecursion (FitsSigned w64) (fields ++ word_of_bool b ∷ [])
+more_fits : (fields : List ℤ) (b : Bool) → AllByRecursion (FitsSigned w64) fields →
+    AllByRecursion (FitsSigned w64) (fields ++ word_of_bool b ∷ [])
 more_fits [] b fits = (fits-bool b, tt)
 more_fits (field ∷ fields) b fits = (fits.0, more_fits fields b fits.1)
 
 row_is_words : (width : ℕ) (row : PlainRow) → HasFields width row → IsWords (suc width) (row_words row)
-row_is_words width row is =
-    (length-append row.fields (word_of_bool row.active ∷ []) ∙ omega (arith, is.0), more_fits row.fields row.active is.1)
+row_is_words width row is = (
+  length-append row.fields (word_of_bool row.active ∷ []) ∙ omega (arith, is.0),
+  more_fits row.fields row.active is.1,
+)
 
 take_fields : (width : ℕ) (fields rest : List ℤ) → length fields ≡ width → take width (fields ++ rest) ≡ fields
 take_fields zero [] rest e = refl
 take_fields (suc width) [] rest e = absurd (omega arith)
 take_fields zero (field ∷ fields) rest e = absurd (omega arith)
-take_fields (suc width) (field ∷ fields) rest e = ap (λ others. field ∷ others) (take_fields width fields rest (omega arith))
+take_fields (suc width) (field ∷ fields) rest e = ap (λ others. field ∷ others)
+    (take_fields width fields rest (omega arith))
 
-flag_behind : (width : ℕ) (fields : List ℤ) (b : Bool) → length fields ≡ width → flag_at width (fields ++ word_of_bool b ∷ []) ≡ b
+flag_behind : (width : ℕ) (fields : List ℤ) (b : Bool) → length fields ≡ width →
+    flag_at width (fields ++ word_of_bool b ∷ []) ≡ b
 flag_behind zero [] b e = bool_again b
 flag_behind (suc width) [] b e = absurd (omega arith)
 flag_behind zero (field ∷ fields) b e = absurd (omega arith)
@@ -59,7 +64,8 @@ flag_behind (suc width) (field ∷ fields) b e = flag_behind width fields b (ome
 
 row_again : (width : ℕ) (row : PlainRow) → length row.fields ≡ width → row_of width (row_words row) ≡ row
 row_again width row e =
-    ap (λ fs. record { fields = fs; active = flag_at width (row_words row) }) (take_fields width row.fields (word_of_bool row.active ∷ []) e)
+    ap (λ fs. record { fields = fs; active = flag_at width (row_words row) })
+    (take_fields width row.fields (word_of_bool row.active ∷ []) e)
     ∙ ap (λ b. record { fields = row.fields; active = b }) (flag_behind width row.fields row.active e)
 
 must_be : (bools : ℕ) (word : ℤ) → not (eqb (bools % 2) 0) ≡ true → suits bools word ≡ true → is_bool word ≡ true
@@ -70,7 +76,8 @@ must_be bools word flagged suit = pick (eqb (bools % 2) 0) (is_bool word) flagge
     pick false b f s = s
 
 -- words of which the last is a Bool are those of their row
-words_again : (width bools : ℕ) (words : List ℤ) → length words ≡ suc width → is_flagged width bools ≡ true → are_typed bools words ≡ true →
+words_again : (width bools : ℕ) (words : List ℤ) → length words ≡ suc width → is_flagged width bools ≡ true →
+    are_typed bools words ≡ true →
     row_words (row_of width words) ≡ words
 words_again width bools [] e flagged typed = absurd (omega arith)
 words_again zero bools (word ∷ []) e flagged typed =
@@ -78,9 +85,11 @@ words_again zero bools (word ∷ []) e flagged typed =
 words_again zero bools (word ∷ other ∷ words) e flagged typed = absurd (omega arith)
 words_again (suc width) bools (word ∷ words) e flagged typed =
     ap (λ others. word ∷ others)
-    (words_again width (bools / 2) words (omega arith) flagged (and_parts (suits bools word) (are_typed (bools / 2) words) typed).1)
+    (words_again width (bools / 2) words (omega arith) flagged
+    (and_parts (suits bools word) (are_typed (bools / 2) words) typed).1)
 
-take_fits : (width : ℕ) (words : List ℤ) → AllByRecursion (FitsSigned w64) words → AllByRecursion (FitsSigned w64) (take width words)
+take_fits : (width : ℕ) (words : List ℤ) → AllByRecursion (FitsSigned w64) words →
+    AllByRecursion (FitsSigned w64) (take width words)
 take_fits zero words fits = tt
 take_fits (suc width) [] fits = tt
 take_fits (suc width) (word ∷ words) fits = (fits.0, take_fits width words fits.1)
@@ -92,24 +101,30 @@ take_count (suc width) (word ∷ words) e = ap suc (take_count width words (omeg
 
 -- ---- rows
 
-all_words : (width : ℕ) (rows : List PlainRow) → AllByRecursion (HasFields width) rows → AllByRecursion (IsWords (suc width)) (map row_words rows)
+all_words : (width : ℕ) (rows : List PlainRow) → AllByRecursion (HasFields width) rows →
+    AllByRecursion (IsWords (suc width)) (map row_words rows)
 all_words width [] each = tt
 all_words width (row ∷ rows) each = (row_is_words width row each.0, all_words width rows each.1)
 
-all_again : (width : ℕ) (rows : List PlainRow) → AllByRecursion (HasFields width) rows → map (row_of width) (map row_words rows) ≡ rows
+all_again : (width : ℕ) (rows : List PlainRow) → AllByRecursion (HasFields width) rows →
+    map (row_of width) (map row_words rows) ≡ rows
 all_again width [] each = refl
 all_again width (row ∷ rows) each =
-    ap (λ r. r ∷ map (row_of width) (map row_words rows)) (row_again width row each.0.0) ∙ ap (λ rs. row ∷ rs) (all_again width rows each.1)
+    ap (λ r. r ∷ map (row_of width) (map row_words rows)) (row_again width row each.0.0)
+    ∙ ap (λ rs. row ∷ rs) (all_again width rows each.1)
 
-all_fields : (width bools : ℕ) (rows : List PlainRow) → AllByRecursion (IsRow width bools) rows → AllByRecursion (HasFields width) rows
+all_fields : (width bools : ℕ) (rows : List PlainRow) → AllByRecursion (IsRow width bools) rows →
+    AllByRecursion (HasFields width) rows
 all_fields width bools [] each = tt
 all_fields width bools (row ∷ rows) each = (each.0.0, all_fields width bools rows each.1)
 
-all_typed : (width bools : ℕ) (rows : List PlainRow) → AllByRecursion (IsRow width bools) rows → list_all (are_typed bools) (map row_words rows) ≡ true
+all_typed : (width bools : ℕ) (rows : List PlainRow) → AllByRecursion (IsRow width bools) rows →
+    list_all (are_typed bools) (map row_words rows) ≡ true
 all_typed width bools [] each = refl
 all_typed width bools (row ∷ rows) each = and_from _ _ each.0.1 (all_typed width bools rows each.1)
 
-words_back : (width bools : ℕ) (rows : List (List ℤ)) → is_flagged width bools ≡ true → AllByRecursion (IsWords (suc width)) rows → list_all (are_typed bools) rows ≡ true →
+words_back : (width bools : ℕ) (rows : List (List ℤ)) → is_flagged width bools ≡ true →
+    AllByRecursion (IsWords (suc width)) rows → list_all (are_typed bools) rows ≡ true →
     map row_words (map (row_of width) rows) ≡ rows
 words_back width bools [] flagged each typed = refl
 words_back width bools (row ∷ rows) flagged each typed =
@@ -117,7 +132,8 @@ words_back width bools (row ∷ rows) flagged each typed =
     ap (λ r. r ∷ map row_words (map (row_of width) rows)) (words_again width bools row each.0.0 flagged parts.0)
     ∙ ap (λ rs. row ∷ rs) (words_back width bools rows flagged each.1 parts.1)
 
-rows_suit : (width bools : ℕ) (rows : List (List ℤ)) → is_flagged width bools ≡ true → AllByRecursion (IsWords (suc width)) rows → list_all (are_typed bools) rows ≡ true →
+rows_suit : (width bools : ℕ) (rows : List (List ℤ)) → is_flagged width bools ≡ true →
+    AllByRecursion (IsWords (suc width)) rows → list_all (are_typed bools) rows ≡ true →
     AllByRecursion (IsRow width bools) (map (row_of width) rows)
 rows_suit width bools [] flagged each typed = tt
 rows_suit width bools (row ∷ rows) flagged each typed =
@@ -131,7 +147,8 @@ rows_suit width bools (row ∷ rows) flagged each typed =
 
 pub refresh_back : RefreshReadsBack
 refresh_back count width rows many each =
-    ap (map (row_of width)) (rows_whole (suc width) count (map row_words rows) (length-map rows row_words ∙ many) (all_words width rows each))
+    ap (map (row_of width)) (rows_whole (suc width) count (map row_words rows) (length-map rows row_words ∙ many)
+    (all_words width rows each))
     ∙ all_again width rows each
 
 pub refresh_in_place : RefreshInPlace
@@ -145,15 +162,18 @@ refresh_in_place (suc count) width (suc i) body d within =
 
 pub refresh_grows : RefreshGrows
 refresh_grows rows more =
-    ap rows_bytes (map-append row_words rows more) ∙ flat_map-append words_bytes (map row_words rows) (map row_words more)
+    ap rows_bytes (map-append row_words rows more)
+    ∙ flat_map-append words_bytes (map row_words rows) (map row_words more)
 
 pub refresh_fits : RefreshFits
 refresh_fits count width bools rows suit =
     let each = all_words width rows (all_fields width bools rows suit.1) in
     let many : length (map row_words rows) ≡ count = length-map rows row_words ∙ suit.0 in
-    let long : length (refresh_body rows) ≡ 8 * suc width * count = length-rows_bytes (suc width) (map row_words rows) each ∙ ap (λ n. 8 * suc width * n) many in
+    let long : length (refresh_body rows) ≡ 8 * suc width * count =
+    length-rows_bytes (suc width) (map row_words rows) each ∙ ap (λ n. 8 * suc width * n) many in
     and_from _ _ (eq-eqb _ _ long)
-    (ap (list_all (are_typed bools)) (rows_whole (suc width) count (map row_words rows) many each) ∙ all_typed width bools rows suit.1)
+    (ap (list_all (are_typed bools)) (rows_whole (suc width) count (map row_words rows) many each)
+    ∙ all_typed width bools rows suit.1)
 
 pub refresh_suits : RefreshSuits
 refresh_suits count width bools body flagged fit =
@@ -166,7 +186,8 @@ refresh_suits count width bools body flagged fit =
 pub refresh_spelled : RefreshIsSpelled
 refresh_spelled count width bools body bytes flagged fit =
     let parts = and_parts _ _ fit in
-    ap rows_bytes (words_back width bools (rows_in (suc width) count body) flagged (each-rows_in (suc width) count body) parts.1)
+    ap rows_bytes (words_back width bools (rows_in (suc width) count body) flagged
+    (each-rows_in (suc width) count body) parts.1)
     ∙ bytes_whole (suc width) count body (eqb-true _ _ parts.0) (below_from_All body bytes)
 
 pub form_flagged : FormIsFlagged

@@ -16,7 +16,8 @@ rows_again width (row ∷ rows) rest each =
     let behind = rows_bytes rows in
     let n = length rows in
     ap (λ bytes. words_in width bytes ∷ rows_in width n (drop (8 * width) bytes)) (append_assoc front behind rest)
-    ∙ ap (λ first. first ∷ rows_in width n (drop (8 * width) (front ++ (behind ++ rest)))) (row_again width row (behind ++ rest) each.0.0 each.0.1)
+    ∙ ap (λ first. first ∷ rows_in width n (drop (8 * width) (front ++ (behind ++ rest))))
+    (row_again width row (behind ++ rest) each.0.0 each.0.1)
     ∙ ap (λ bytes. row ∷ rows_in width n bytes) (row_past width row (behind ++ rest) each.0.0)
     ∙ ap (λ others. row ∷ others) (rows_again width rows rest each.1)
 
@@ -27,11 +28,13 @@ rows_whole width count rows many each =
     ∙ ap (λ n. rows_in width n (rows_bytes rows ++ [])) (sym many)
     ∙ rows_again width rows [] each
 
-pub length-rows_bytes : (width : ℕ) (rows : List (List ℤ)) → AllByRecursion (IsWords width) rows → length (rows_bytes rows) ≡ 8 * width * length rows
+pub length-rows_bytes : (width : ℕ) (rows : List (List ℤ)) → AllByRecursion (IsWords width) rows →
+    length (rows_bytes rows) ≡ 8 * width * length rows
 length-rows_bytes width [] each = omega arith
 length-rows_bytes width (row ∷ rows) each =
     let first : length (words_bytes row) ≡ 8 * width = length-words_bytes row ∙ ap (λ n. 8 * n) each.0.0 in
-    length-append (words_bytes row) (rows_bytes rows) ∙ more width (length rows) _ _ first (length-rows_bytes width rows each.1)
+    length-append (words_bytes row) (rows_bytes rows)
+    ∙ more width (length rows) _ _ first (length-rows_bytes width rows each.1)
   where
     more : (width n a b : ℕ) → a ≡ 8 * width → b ≡ 8 * width * n → a + b ≡ 8 * width * suc n
     more width n a b e f = omega arith
@@ -54,10 +57,12 @@ bytes-rows_in width (suc n) bytes room fits =
     ∙ bytes-words_in width bytes first fits
 
 -- rows that take all the bytes spell them
-pub bytes_whole : (width n : ℕ) (bytes : List ℕ) → length bytes ≡ 8 * width * n → AreBelow bytes → rows_bytes (rows_in width n bytes) ≡ bytes
+pub bytes_whole : (width n : ℕ) (bytes : List ℕ) → length bytes ≡ 8 * width * n → AreBelow bytes →
+    rows_bytes (rows_in width n bytes) ≡ bytes
 bytes_whole width n bytes count fits =
     sym (append-nil (rows_bytes (rows_in width n bytes)))
-    ∙ ap (λ end. rows_bytes (rows_in width n bytes) ++ end) (sym (drop_all (8 * width * n) bytes (omega (arith, count))))
+    ∙ ap (λ end. rows_bytes (rows_in width n bytes) ++ end)
+    (sym (drop_all (8 * width * n) bytes (omega (arith, count))))
     ∙ bytes-rows_in width n bytes (omega (arith, count)) fits
 
 pub length-rows_in : (width n : ℕ) (bytes : List ℕ) → length (rows_in width n bytes) ≡ n
@@ -71,9 +76,11 @@ each-rows_in width (suc n) bytes =
 
 -- words that take all the bytes
 pub words_whole : (count : ℕ) (words : List ℤ) → IsWords count words → words_in count (words_bytes words) ≡ words
-words_whole count words is = ap (words_in count) (sym (append-nil (words_bytes words))) ∙ row_again count words [] is.0 is.1
+words_whole count words is = ap (words_in count) (sym (append-nil (words_bytes words)))
+    ∙ row_again count words [] is.0 is.1
 
-pub words_spelled : (count : ℕ) (bytes : List ℕ) → length bytes ≡ 8 * count → AreBelow bytes → words_bytes (words_in count bytes) ≡ bytes
+pub words_spelled : (count : ℕ) (bytes : List ℕ) → length bytes ≡ 8 * count → AreBelow bytes →
+    words_bytes (words_in count bytes) ≡ bytes
 words_spelled count bytes long fits =
     sym (append-nil (words_bytes (words_in count bytes)))
     ∙ ap (λ end. words_bytes (words_in count bytes) ++ end) (sym (drop_all (8 * count) bytes (omega (arith, long))))

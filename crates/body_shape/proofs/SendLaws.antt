@@ -31,7 +31,8 @@ no_bytes (suc k) n =
 pub length-places : {X : Type 0} (xs : List (Option X)) → length (places xs) ≡ length xs
 length-places xs = length-map xs is_some
 
-pub no_sends : (n : ℕ) (none : List (Option (List ℤ))) → none ≡ replicate n None → length none ≡ n → push_body none ≡ replicate (bit_len n) 0
+pub no_sends : (n : ℕ) (none : List (Option (List ℤ))) → none ≡ replicate n None → length none ≡ n →
+    push_body none ≡ replicate (bit_len n) 0
 no_sends n none same count =
     let flags : places none ≡ replicate n false = ap places same ∙ no_places n in
     ap (λ k. bytes_with (bit_len k) (places none) ++ rows_bytes (there none)) (length-places none ∙ count)
@@ -56,14 +57,16 @@ unset (None ∷ sends) zero none = refl
 unset (Some x ∷ sends) zero none = absurd (cc)
 unset (s ∷ sends) (suc v) none = unset sends v none
 
-mask_more : (flags : List Bool) (v : ℕ) → v < length flags → get_or flags v false ≡ false → mask_l (set flags v true) ≡ mask_l flags + 2 ^ v
+mask_more : (flags : List Bool) (v : ℕ) → v < length flags → get_or flags v false ≡ false →
+    mask_l (set flags v true) ≡ mask_l flags + 2 ^ v
 mask_more [] v within clear = absurd (omega arith)
 mask_more (true ∷ flags) zero within clear = absurd (cc)
 mask_more (false ∷ flags) zero within clear = omega arith
 mask_more (flag ∷ flags) (suc v) within clear = omega (arith, mask_more flags v (omega arith) clear)
 
 bytes_more : (n : ℕ) (flags : List Bool) (v : ℕ) → v < length flags → v < 8 * n → get_or flags v false ≡ false →
-    bytes_with n (set flags v true) ≡ set (bytes_with n flags) (v / 8) (get_or (bytes_with n flags) (v / 8) 0 + 2 ^ (v % 8))
+    bytes_with n (set flags v true) ≡ set (bytes_with n flags) (v / 8)
+    (get_or (bytes_with n flags) (v / 8) 0 + 2 ^ (v % 8))
 bytes_more zero flags v within room clear = absurd (omega arith)
 bytes_more (suc n) flags v within room clear =
     let bytes = bytes_with (suc n) flags in
@@ -72,7 +75,8 @@ bytes_more (suc n) flags v within room clear =
           let at : v / 8 ≡ 0 = omega arith in
           let place : v % 8 ≡ v = omega arith in
           let inside : v < length (take 8 flags) = omega (arith, length-take 8 flags) in
-          let front = ap mask_l (take-set-lt 8 flags v true few) ∙ mask_more (take 8 flags) v inside (get_or-take 8 flags v false few ∙ clear) in
+          let front = ap mask_l (take-set-lt 8 flags v true few)
+          ∙ mask_more (take 8 flags) v inside (get_or-take 8 flags v false few ∙ clear) in
           ap (λ b. b ∷ bytes_with n (drop 8 (set flags v true))) front
           ∙ ap (λ fs. (mask_l (take 8 flags) + 2 ^ v) ∷ bytes_with n fs) (drop-set-lt 8 flags v true few)
           ∙ ap (λ k. (mask_l (take 8 flags) + 2 ^ k) ∷ bytes_with n (drop 8 flags)) (sym place)
@@ -83,7 +87,8 @@ bytes_more (suc n) flags v within room clear =
           let at : v / 8 ≡ suc ((v - 8) / 8) = omega arith in
           let place : v % 8 ≡ (v - 8) % 8 = omega arith in
           let inside : v - 8 < length (drop 8 flags) = omega (arith, length-drop 8 flags) in
-          let unset : get_or (drop 8 flags) (v - 8) false ≡ false = get_or-drop 8 flags (v - 8) false ∙ ap (λ k. get_or flags k false) (sym again) ∙ clear in
+          let unset : get_or (drop 8 flags) (v - 8) false ≡ false = get_or-drop 8 flags (v - 8) false
+          ∙ ap (λ k. get_or flags k false) (sym again) ∙ clear in
           let rest = bytes_more n (drop 8 flags) w inside (omega arith) unset in
           let others = bytes_with n (drop 8 flags) in
           ap (λ fs. mask_l fs ∷ bytes_with n (drop 8 (set flags v true))) (take-set-le 8 flags v true many)
@@ -118,25 +123,33 @@ send_more old set_one new v words bit written sends spelled within none =
     let n = bit_len (length (places sends)) in
     let marks = bytes_with (bit_len (length (places sends))) (places sends) in
     let rows = rows_bytes (there sends) in
-    let size : length (bytes_with (bit_len (length (places sends))) (places sends)) ≡ bit_len (length (places sends)) = length-bytes_with n flags in
+    let size : length (bytes_with (bit_len (length (places sends))) (places sends))
+    ≡ bit_len (length (places sends)) = length-bytes_with n flags in
     let many : length (places sends) ≡ length sends = length-places sends in
     let inside : v < length (places sends) = omega (arith, many) in
     let room : v < 8 * bit_len (length (places sends)) = omega (arith, inside) in
-    let place : v / 8 < length (bytes_with (bit_len (length (places sends))) (places sends)) = omega (arith, size, room) in
-    let byte : get_or old (v / 8) 0 ≡ get_or marks (v / 8) 0 = ap (λ bs. get_or bs (v / 8) 0) spelled ∙ get_or_append_left marks rows 0 (v / 8) place in
+    let place : v / 8 < length (bytes_with (bit_len (length (places sends))) (places sends)) =
+    omega (arith, size, room) in
+    let byte : get_or old (v / 8) 0 ≡ get_or marks (v / 8) 0 = ap (λ bs. get_or bs (v / 8) 0) spelled
+    ∙ get_or_append_left marks rows 0 (v / 8) place in
     let clear = unset sends v none in
     let wide : length (places sends) ≤ 8 * bit_len (length (places sends)) = omega arith in
     let again = flags_again n flags wide in
     let flag : get_or (flags_in marks) v false ≡ false =
     ap (λ fs. get_or fs v false) again.1 ∙ get_or_append_left flags (replicate again.0 false) false v inside ∙ clear in
     let zero_bit : get_or old (v / 8) 0 / 2 ^ (v % 8) % 2 ≡ 0 =
-    ap (λ b. b / 2 ^ (v % 8) % 2) byte ∙ clear_bit (get_or marks (v / 8) 0 / 2 ^ (v % 8) % 2) (get_or (flags_in marks) v false) (flag_in_place marks v) flag in
+    ap (λ b. b / 2 ^ (v % 8) % 2) byte ∙ clear_bit (get_or marks (v / 8) 0 / 2 ^ (v % 8) % 2)
+    (get_or (flags_in marks) v false) (flag_in_place marks v) flag in
     let b = get_or marks (v / 8) 0 + 2 ^ (v % 8) in
-    let more : bytes_with n (set flags v true) ≡ set marks (v / 8) (get_or marks (v / 8) 0 + 2 ^ (v % 8)) = bytes_more n flags v inside room clear in
-    let set_flags : places (set sends v (Some words)) ≡ set (places sends) v true = map-set is_some sends v (Some words) in
-    let count : bit_len (length (places (set sends v (Some words)))) ≡ bit_len (length (places sends)) = ap bit_len (ap length set_flags ∙ length-set flags v true) in
+    let more : bytes_with n (set flags v true) ≡ set marks (v / 8) (get_or marks (v / 8) 0 + 2 ^ (v % 8)) =
+    bytes_more n flags v inside room clear in
+    let set_flags : places (set sends v (Some words)) ≡ set (places sends) v true =
+    map-set is_some sends v (Some words) in
+    let count : bit_len (length (places (set sends v (Some words)))) ≡ bit_len (length (places sends)) =
+    ap bit_len (ap length set_flags ∙ length-set flags v true) in
     let all : rows_bytes (there (set sends v (Some words))) ≡ rows ++ words_bytes words =
-    ap rows_bytes (there_more sends v words within none) ∙ flat_map-append words_bytes (there sends) (words ∷ []) ∙ ap (λ ws. rows ++ ws) (append-nil (words_bytes words)) in
+    ap rows_bytes (there_more sends v words within none) ∙ flat_map-append words_bytes (there sends) (words ∷ [])
+    ∙ ap (λ ws. rows ++ ws) (append-nil (words_bytes words)) in
     written
     ∙ ap (λ bs. bs ++ words_bytes words) (bit zero_bit)
     ∙ ap (λ x. set old (v / 8) (x + 2 ^ (v % 8)) ++ words_bytes words) byte

@@ -31,9 +31,11 @@ number_front n rest = take_at (number_bytes n) rest 8 (length-number n)
 number_past : (n : ℕ) (rest : List ℕ) → drop 8 (number_bytes n ++ rest) ≡ rest
 number_past n rest = drop_at (number_bytes n) rest 8 (length-number n)
 
-front_bytes : (bytes : List ℕ) → 8 ≤ length bytes → AreBelow bytes → number_bytes (number_of (take 8 bytes)) ++ drop 8 bytes ≡ bytes
+front_bytes : (bytes : List ℕ) → 8 ≤ length bytes → AreBelow bytes → number_bytes (number_of (take 8 bytes))
+    ++ drop 8 bytes ≡ bytes
 front_bytes bytes room fits =
-    ap (λ front. front ++ drop 8 bytes) (eight_again (take 8 bytes) (length-take-le 8 bytes room) (take_below 8 bytes fits)) ∙ take-append-drop 8 bytes
+    ap (λ front. front ++ drop 8 bytes) (eight_again (take 8 bytes) (length-take-le 8 bytes room)
+    (take_below 8 bytes fits)) ∙ take-append-drop 8 bytes
 
 -- ---- the parts of what is spelled
 
@@ -49,7 +51,8 @@ numbers_of c =
     let three = number_bytes c.reads ++ words in
     let two = number_bytes c.edges ++ three in
     let one = number_past c.active two in
-    let both : drop 16 (tally_body c) ≡ number_bytes c.reads ++ words_bytes c.totals = sym (drop-drop 8 8 (tally_body c)) ∙ ap (drop 8) one ∙ number_past c.edges three in
+    let both : drop 16 (tally_body c) ≡ number_bytes c.reads ++ words_bytes c.totals =
+    sym (drop-drop 8 8 (tally_body c)) ∙ ap (drop 8) one ∙ number_past c.edges three in
     record {
       first = number_front c.active two;
       second = ap (take 8) one ∙ number_front c.edges three;
@@ -90,7 +93,8 @@ tally_fits totals c is =
     ) in
     and_from _ _ (eq-eqb _ _ long)
     (and_from _ _ (counts c.active (tally_body c) parts.first is.active)
-    (and_from _ _ (counts c.edges (drop 8 (tally_body c)) parts.second is.edges) (counts c.reads (drop 16 (tally_body c)) parts.third is.reads)))
+    (and_from _ _ (counts c.edges (drop 8 (tally_body c)) parts.second is.edges)
+    (counts c.reads (drop 16 (tally_body c)) parts.third is.reads)))
 
 counted : (bytes : List ℕ) → is_count bytes ≡ true → number_of (take 8 bytes) < 1 + 2 ^ 32
 counted bytes e = let most : number_of (take 8 bytes) ≤ 2 ^ 32 = leb-true _ _ e in omega (arith, most)
@@ -100,7 +104,12 @@ tally_suits totals body fit =
     let one = and_parts _ _ fit in
     let two = and_parts _ _ one.1 in
     let three = and_parts _ _ two.1 in
-    record { active = counted body two.0; edges = counted (drop 8 body) three.0; reads = counted (drop 16 body) three.1; totals = are_words_in totals (drop 24 body) }
+    record {
+      active = counted body two.0;
+      edges = counted (drop 8 body) three.0;
+      reads = counted (drop 16 body) three.1;
+      totals = are_words_in totals (drop 24 body);
+    }
 
 pub tally_spelled : TallyIsSpelled
 tally_spelled totals body bytes fit =
@@ -113,7 +122,8 @@ tally_spelled totals body bytes fit =
     let a = number_bytes (number_of (take 8 body)) in
     let b = number_bytes (number_of (take 8 (drop 8 body))) in
     let c = number_bytes (number_of (take 8 (drop 16 body))) in
-    ap (λ end. a ++ (b ++ (c ++ end))) (words_spelled totals (drop 24 body) (omega (arith, long, past24)) (drop_below 24 body fits))
+    ap (λ end. a ++ (b ++ (c ++ end))) (words_spelled totals (drop 24 body) (omega (arith, long, past24))
+    (drop_below 24 body fits))
     ∙ ap (λ end. a ++ (b ++ (c ++ end))) (sym (drop-drop 8 16 body))
     ∙ ap (λ end. a ++ (b ++ end)) (front_bytes (drop 16 body) (omega (arith, long, past16)) (drop_below 16 body fits))
     ∙ ap (λ end. a ++ (b ++ end)) (sym (drop-drop 8 8 body))

@@ -25,7 +25,8 @@ flags_again n xs e =
     let count : length (places xs) ≡ n = length-map xs _ ∙ e in
     ap (λ k. flags_of k (mask_of xs)) (sym count) ∙ flags_of-mask_l (places xs)
 
-values_again : (n : ℕ) (xs : List (Option ℤ)) (rest : List ℕ) → AreValues n xs → values_in n (mask_of xs) (words_bytes (there xs) ++ rest) ≡ xs
+values_again : (n : ℕ) (xs : List (Option ℤ)) (rest : List ℕ) → AreValues n xs →
+    values_in n (mask_of xs) (words_bytes (there xs) ++ rest) ≡ xs
 values_again n xs rest are =
     let bytes = words_bytes (there xs) ++ rest in
     ap (λ flags. placed flags (words_in (set_count flags) bytes)) (flags_again n xs are.count)
@@ -33,10 +34,12 @@ values_again n xs rest are =
     ∙ ap (placed (places xs)) (words_again (there xs) rest are.fits)
     ∙ placed-there xs
 
-behind_again : (n : ℕ) (xs : List (Option ℤ)) (rest : List ℕ) → AreValues n xs → behind_values n (mask_of xs) (words_bytes (there xs) ++ rest) ≡ rest
+behind_again : (n : ℕ) (xs : List (Option ℤ)) (rest : List ℕ) → AreValues n xs →
+    behind_values n (mask_of xs) (words_bytes (there xs) ++ rest) ≡ rest
 behind_again n xs rest are =
     let count : length (words_bytes (there xs)) ≡ 8 * set_count (flags_of n (mask_of xs)) =
-    length-words_bytes (there xs) ∙ ap (λ k. 8 * k) (length-there xs) ∙ ap (λ flags. 8 * set_count flags) (sym (flags_again n xs are.count)) in
+    length-words_bytes (there xs) ∙ ap (λ k. 8 * k) (length-there xs)
+    ∙ ap (λ flags. 8 * set_count flags) (sym (flags_again n xs are.count)) in
     drop_at (words_bytes (there xs)) rest _ count
 
 mask_fits : (n : ℕ) (xs : List (Option ℤ)) → length xs ≡ n → is_mask n (mask_of xs) ≡ true
@@ -54,14 +57,18 @@ record AreRead (n m : ℕ) (bytes : List ℕ) : Type 0 where
   words : words_bytes (there (values_in n m bytes)) ++ behind_values n m bytes ≡ bytes
   values : AreValues n (values_in n m bytes)
 
-read_values : (n m : ℕ) (bytes : List ℕ) → m < 256 → m < 2 ^ n → 8 * count_ones m ≤ length bytes → AreBelow bytes → AreRead n m bytes
+read_values : (n m : ℕ) (bytes : List ℕ) → m < 256 → m < 2 ^ n → 8 * count_ones m ≤ length bytes → AreBelow bytes →
+    AreRead n m bytes
 read_values n m bytes byte below room fits =
     let flags = flags_of n m in
     let k = set_count flags in
     let words = words_in (set_count (flags_of n m)) bytes in
-    let many : length (words_in (set_count (flags_of n m)) bytes) ≡ set_count (flags_of n m) = length-words_in (set_count (flags_of n m)) bytes in
-    let all : there (values_in n m bytes) ≡ words_in (set_count (flags_of n m)) bytes = there-placed (flags_of n m) words many in
-    let same : mask_of (values_in n m bytes) ≡ m = ap mask_l (places-placed (flags_of n m) words many) ∙ mask_l-flags_of n m below in
+    let many : length (words_in (set_count (flags_of n m)) bytes) ≡ set_count (flags_of n m) =
+    length-words_in (set_count (flags_of n m)) bytes in
+    let all : there (values_in n m bytes) ≡ words_in (set_count (flags_of n m)) bytes =
+    there-placed (flags_of n m) words many in
+    let same : mask_of (values_in n m bytes) ≡ m = ap mask_l (places-placed (flags_of n m) words many)
+    ∙ mask_l-flags_of n m below in
     let P : ℕ → Type 0 = λ x. x < 256 in
     let Q : List ℤ → Type 0 = λ ws. AllByRecursion (FitsSigned w64) ws in
     let room_here : 8 * set_count (flags_of n m) ≤ length bytes = omega (arith, ones-flags_of n m below) in
@@ -78,22 +85,28 @@ read_values n m bytes byte below room fits =
 -- ---- one update
 
 joined_bytes : (s : Sent) (rest : List ℕ) →
-    sent_bytes s ++ rest ≡ mask_of s.values ∷ mask_of s.operands ∷ words_bytes (there s.values) ++ (words_bytes (there s.operands) ++ rest)
+    sent_bytes s ++ rest ≡ mask_of s.values ∷ mask_of s.operands ∷ words_bytes (there s.values)
+    ++ (words_bytes (there s.operands) ++ rest)
 joined_bytes s rest =
-    ap (λ bytes. mask_of s.values ∷ mask_of s.operands ∷ bytes) (append_assoc (words_bytes (there s.values)) (words_bytes (there s.operands)) rest)
+    ap (λ bytes. mask_of s.values ∷ mask_of s.operands ∷ bytes)
+    (append_assoc (words_bytes (there s.values)) (words_bytes (there s.operands)) rest)
 
-sent_again : (slots reduced : ℕ) (s : Sent) (rest : List ℕ) → IsSent slots reduced s → sent_at slots reduced (sent_bytes s ++ rest) ≡ s
+sent_again : (slots reduced : ℕ) (s : Sent) (rest : List ℕ) → IsSent slots reduced s →
+    sent_at slots reduced (sent_bytes s ++ rest) ≡ s
 sent_again slots reduced s rest is =
     let low = mask_of s.values in
     let high = mask_of s.operands in
     let behind = words_bytes (there s.operands) ++ rest in
     let bytes = words_bytes (there s.values) ++ behind in
     ap (sent_at slots reduced) (joined_bytes s rest)
-    ∙ ap (λ vs. record { values = vs; operands = values_in reduced high (behind_values slots low bytes) }) (values_again slots s.values behind is.0)
-    ∙ ap (λ left. record { values = s.values; operands = values_in reduced high left }) (behind_again slots s.values behind is.0)
+    ∙ ap (λ vs. record { values = vs; operands = values_in reduced high (behind_values slots low bytes) })
+    (values_again slots s.values behind is.0)
+    ∙ ap (λ left. record { values = s.values; operands = values_in reduced high left })
+    (behind_again slots s.values behind is.0)
     ∙ ap (λ vs. record { values = s.values; operands = vs }) (values_again reduced s.operands rest is.1)
 
-sent_past : (slots reduced : ℕ) (s : Sent) (rest : List ℕ) → IsSent slots reduced s → behind_sent slots reduced (sent_bytes s ++ rest) ≡ rest
+sent_past : (slots reduced : ℕ) (s : Sent) (rest : List ℕ) → IsSent slots reduced s →
+    behind_sent slots reduced (sent_bytes s ++ rest) ≡ rest
 sent_past slots reduced s rest is =
     let behind = words_bytes (there s.operands) ++ rest in
     ap (behind_sent slots reduced) (joined_bytes s rest)
@@ -101,17 +114,27 @@ sent_past slots reduced s rest is =
     ∙ behind_again reduced s.operands rest is.1
 
 -- its bytes are the update that is judged first
-sent_fits : (slots reduced : ℕ) (s : Sent) (rest : List ℕ) → IsSent slots reduced s → behind_update slots reduced (sent_bytes s ++ rest) ≡ Some rest
+sent_fits : (slots reduced : ℕ) (s : Sent) (rest : List ℕ) → IsSent slots reduced s →
+    behind_update slots reduced (sent_bytes s ++ rest) ≡ Some rest
 sent_fits slots reduced s rest is =
     let low = mask_of s.values in
     let high = mask_of s.operands in
     let front = words_bytes (there s.values) ++ words_bytes (there s.operands) in
-    let count : length (words_bytes (there s.values) ++ words_bytes (there s.operands)) ≡ words_len (mask_of s.values) (mask_of s.operands) =
+    let count : length (words_bytes (there s.values) ++ words_bytes (there s.operands))
+    ≡ words_len (mask_of s.values) (mask_of s.operands) =
     length-append (words_bytes (there s.values)) (words_bytes (there s.operands))
-    ∙ omega (arith, length-words_bytes (there s.values), length-words_bytes (there s.operands), ones_are s.values, ones_are s.operands) in
-    let enough : words_len (mask_of s.values) (mask_of s.operands) ≤ length ((words_bytes (there s.values) ++ words_bytes (there s.operands)) ++ rest) =
+    ∙ omega (
+      arith,
+      length-words_bytes (there s.values),
+      length-words_bytes (there s.operands),
+      ones_are s.values,
+      ones_are s.operands,
+    ) in
+    let enough : words_len (mask_of s.values) (mask_of s.operands)
+    ≤ length ((words_bytes (there s.values) ++ words_bytes (there s.operands)) ++ rest) =
     omega (arith, count, length-append (words_bytes (there s.values) ++ words_bytes (there s.operands)) rest) in
-    let passes = and_from _ _ (mask_fits slots s.values is.0.count) (and_from _ _ (mask_fits reduced s.operands is.1.count) (le-leb _ _ enough)) in
+    let passes = and_from _ _ (mask_fits slots s.values is.0.count)
+    (and_from _ _ (mask_fits reduced s.operands is.1.count) (le-leb _ _ enough)) in
     ap (λ b. cond b (Some (drop (words_len low high) (front ++ rest))) None) passes
     ∙ ap (λ left. Some left) (drop_at front rest (words_len low high) count)
 
@@ -123,11 +146,13 @@ record IsFirst (slots reduced : ℕ) (bytes others : List ℕ) : Type 0 where
   is : IsSent slots reduced (sent_at slots reduced bytes)
   fits : AreBelow others
 
-first_sent : (slots reduced : ℕ) (bytes others : List ℕ) → AreBelow bytes → behind_update slots reduced bytes ≡ Some others → IsFirst slots reduced bytes others
+first_sent : (slots reduced : ℕ) (bytes others : List ℕ) → AreBelow bytes →
+    behind_update slots reduced bytes ≡ Some others → IsFirst slots reduced bytes others
 first_sent slots reduced [] others fits found = absurd (cc)
 first_sent slots reduced (low ∷ []) others fits found = absurd (cc)
 first_sent slots reduced (low ∷ high ∷ bytes) others fits found =
-    let test = cond_some (is_mask slots low && (is_mask reduced high && leb (words_len low high) (length bytes))) (drop (words_len low high) bytes) others found in
+    let test = cond_some (is_mask slots low && (is_mask reduced high && leb (words_len low high) (length bytes)))
+    (drop (words_len low high) bytes) others found in
     let one = and_parts (is_mask slots low) (is_mask reduced high && leb (words_len low high) (length bytes)) test.0 in
     let two = and_parts (is_mask reduced high) (leb (words_len low high) (length bytes)) one.1 in
     let low_below : low < 2 ^ slots = ltb-true _ _ one.0 in
@@ -139,35 +164,44 @@ first_sent slots reduced (low ∷ high ∷ bytes) others fits found =
     let m = set_count (flags_of reduced high) in
     let ones_low = ones-flags_of slots low low_below in
     let ones_high = ones-flags_of reduced high high_below in
-    let later : 8 * count_ones high ≤ length (behind_values slots low bytes) = omega (arith, length-drop (8 * set_count (flags_of slots low)) bytes, ones_low, room) in
-    let operands = read_values reduced high (behind_values slots low bytes) (fits 1) high_below later (drop_below (8 * n) bytes inner) in
-    let end : 8 * set_count (flags_of slots low) + 8 * set_count (flags_of reduced high) ≡ words_len low high = omega (arith, ones_low, ones_high) in
-    let behind : behind_sent slots reduced (low ∷ high ∷ bytes) ≡ others = drop-drop (8 * m) (8 * n) bytes ∙ ap (λ k. drop k bytes) end ∙ test.1 in
+    let later : 8 * count_ones high ≤ length (behind_values slots low bytes) =
+    omega (arith, length-drop (8 * set_count (flags_of slots low)) bytes, ones_low, room) in
+    let operands = read_values reduced high (behind_values slots low bytes) (fits 1) high_below later
+    (drop_below (8 * n) bytes inner) in
+    let end : 8 * set_count (flags_of slots low) + 8 * set_count (flags_of reduced high) ≡ words_len low high =
+    omega (arith, ones_low, ones_high) in
+    let behind : behind_sent slots reduced (low ∷ high ∷ bytes) ≡ others = drop-drop (8 * m) (8 * n) bytes
+    ∙ ap (λ k. drop k bytes) end ∙ test.1 in
     let Q : List ℕ → Type 0 = λ bs. AreBelow bs in
     let s = sent_at slots reduced (low ∷ high ∷ bytes) in
     record {
       behind = behind;
       spelled = joined_bytes (sent_at slots reduced (low ∷ high ∷ bytes)) others
-          ∙ ap (λ x. x ∷ mask_of s.operands ∷ words_bytes (there s.values) ++ (words_bytes (there s.operands) ++ others)) values.mask
+          ∙ ap (λ x. x ∷ mask_of s.operands ∷ words_bytes (there s.values)
+          ++ (words_bytes (there s.operands) ++ others)) values.mask
           ∙ ap (λ x. low ∷ x ∷ words_bytes (there s.values) ++ (words_bytes (there s.operands) ++ others)) operands.mask
-          ∙ ap (λ left. low ∷ high ∷ words_bytes (there s.values) ++ (words_bytes (there s.operands) ++ left)) (sym behind)
+          ∙ ap (λ left. low ∷ high ∷ words_bytes (there s.values) ++ (words_bytes (there s.operands) ++ left))
+          (sym behind)
           ∙ ap (λ left. low ∷ high ∷ words_bytes (there s.values) ++ left) operands.words
           ∙ ap (λ left. low ∷ high ∷ left) values.words;
       is = (values.values, operands.values);
       fits = subst Q test.1 (drop_below (words_len low high) bytes inner);
     }
 
-pub some_from_test : (f : List ℕ → Bool) (o : Option (List ℕ)) → option_map_or f o false ≡ true → (rest : List ℕ) × (o ≡ Some rest) × (f rest ≡ true)
+pub some_from_test : (f : List ℕ → Bool) (o : Option (List ℕ)) → option_map_or f o false ≡ true → (rest : List ℕ) ×
+    (o ≡ Some rest) × (f rest ≡ true)
 some_from_test f None e = absurd (cc)
 some_from_test f (Some rest) e = (rest, refl, e)
 
 -- ---- the laws
 
-all_back : (slots reduced : ℕ) (sents : List Sent) → AllByRecursion (IsSent slots reduced) sents → sents_read slots reduced (length sents) (update_body sents) ≡ sents
+all_back : (slots reduced : ℕ) (sents : List Sent) → AllByRecursion (IsSent slots reduced) sents →
+    sents_read slots reduced (length sents) (update_body sents) ≡ sents
 all_back slots reduced [] each = refl
 all_back slots reduced (s ∷ sents) each =
     let rest = update_body sents in
-    ap (λ first. first ∷ sents_read slots reduced (length sents) (behind_sent slots reduced (sent_bytes s ++ rest))) (sent_again slots reduced s rest each.0)
+    ap (λ first. first ∷ sents_read slots reduced (length sents) (behind_sent slots reduced (sent_bytes s ++ rest)))
+    (sent_again slots reduced s rest each.0)
     ∙ ap (λ left. s ∷ sents_read slots reduced (length sents) left) (sent_past slots reduced s rest each.0)
     ∙ ap (λ others. s ∷ others) (all_back slots reduced sents each.1)
 
@@ -175,10 +209,12 @@ pub update_back : UpdateReadsBack
 update_back count slots reduced sents suit =
     ap (λ n. sents_read slots reduced n (update_body sents)) (sym suit.0) ∙ all_back slots reduced sents suit.1
 
-all_fit : (slots reduced : ℕ) (sents : List Sent) → AllByRecursion (IsSent slots reduced) sents → are_updates slots reduced (length sents) (update_body sents) ≡ true
+all_fit : (slots reduced : ℕ) (sents : List Sent) → AllByRecursion (IsSent slots reduced) sents →
+    are_updates slots reduced (length sents) (update_body sents) ≡ true
 all_fit slots reduced [] each = refl
 all_fit slots reduced (s ∷ sents) each =
-    ap (λ o. option_map_or (are_updates slots reduced (length sents)) o false) (sent_fits slots reduced s (update_body sents) each.0)
+    ap (λ o. option_map_or (are_updates slots reduced (length sents)) o false)
+    (sent_fits slots reduced s (update_body sents) each.0)
     ∙ all_fit slots reduced sents each.1
 
 pub update_fits : UpdateFits
@@ -194,7 +230,8 @@ empty : (bytes : List ℕ) → length bytes ≡ 0 → [] ≡ bytes
 empty [] e = refl
 empty (b ∷ bs) e = absurd (omega arith)
 
-all_read : (slots reduced count : ℕ) (body : List ℕ) → AreBelow body → are_updates slots reduced count body ≡ true → AreAllRead slots reduced count body
+all_read : (slots reduced count : ℕ) (body : List ℕ) → AreBelow body → are_updates slots reduced count body ≡ true →
+    AreAllRead slots reduced count body
 all_read slots reduced zero body fits fit = record { many = refl; each = tt; bytes = empty body (eqb-true _ _ fit) }
 all_read slots reduced (suc count) body fits fit =
     let found = some_from_test (are_updates slots reduced count) _ fit in
@@ -214,4 +251,5 @@ update_suits count slots reduced body bytes fit =
     (all.many, all.each)
 
 pub update_spelled : UpdateIsSpelled
-update_spelled count slots reduced body bytes fit = (all_read slots reduced count body (below_from_All body bytes) fit).bytes
+update_spelled count slots reduced body bytes
+    fit = (all_read slots reduced count body (below_from_All body bytes) fit).bytes

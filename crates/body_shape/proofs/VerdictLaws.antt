@@ -16,18 +16,21 @@ ruling_again Stop = refl
 ruling_again Dense = refl
 ruling_again Sparse = refl
 
-ruling_fits : (dense sparse : Bool) (r : Ruling) → may_be dense sparse r ≡ true → is_ruling dense sparse (ruling_byte r) ≡ true
+ruling_fits : (dense sparse : Bool) (r : Ruling) → may_be dense sparse r ≡ true →
+    is_ruling dense sparse (ruling_byte r) ≡ true
 ruling_fits dense sparse Stop e = refl
 ruling_fits dense sparse Dense e = e
 ruling_fits dense sparse Sparse e = e
 
-ruling_suits : (dense sparse : Bool) (byte : ℕ) → is_ruling dense sparse byte ≡ true → may_be dense sparse (ruling_with byte) ≡ true
+ruling_suits : (dense sparse : Bool) (byte : ℕ) → is_ruling dense sparse byte ≡ true →
+    may_be dense sparse (ruling_with byte) ≡ true
 ruling_suits dense sparse zero e = refl
 ruling_suits dense sparse (suc zero) e = e
 ruling_suits dense sparse (suc (suc zero)) e = e
 ruling_suits dense sparse (suc (suc (suc n))) e = absurd (cc)
 
-byte_again : (dense sparse : Bool) (byte : ℕ) → is_ruling dense sparse byte ≡ true → ruling_byte (ruling_with byte) ≡ byte
+byte_again : (dense sparse : Bool) (byte : ℕ) → is_ruling dense sparse byte ≡ true →
+    ruling_byte (ruling_with byte) ≡ byte
 byte_again dense sparse zero e = refl
 byte_again dense sparse (suc zero) e = refl
 byte_again dense sparse (suc (suc zero)) e = refl
@@ -40,7 +43,8 @@ verdict_back totals j is =
     λ i. record { ruling = ruling i; totals = words i }
 
 pub verdict_fits : VerdictFits
-verdict_fits dense sparse totals j suit = and_from _ _ (ruling_fits dense sparse j.ruling suit.0) (eq-eqb _ _ (words_count totals j.totals suit.1))
+verdict_fits dense sparse totals j suit = and_from _ _ (ruling_fits dense sparse j.ruling suit.0)
+    (eq-eqb _ _ (words_count totals j.totals suit.1))
 
 pub verdict_suits : VerdictSuits
 verdict_suits dense sparse totals [] fit = absurd (cc)

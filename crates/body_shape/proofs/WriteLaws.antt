@@ -9,8 +9,10 @@ use Rattle.body_shape.specs.Places.{mask_of, places, there}
 use Rattle.body_shape.specs.Refresh.{words_bytes}
 
 -- the bit of a value before those behind it
-pub mask_step : (values : List (Option ℤ)) (place : ℕ) (value d : Option ℤ) (bit mask : ℕ) → place < length values → value ≡ get_or values place d →
-    bit ≡ cond (is_some value) 1 0 → mask ≡ mask_of (drop (place + 1) values) → bit + 2 * mask ≡ mask_of (drop place values)
+pub mask_step : (values : List (Option ℤ)) (place : ℕ) (value d : Option ℤ) (bit mask : ℕ) → place < length values →
+    value ≡ get_or values place d →
+    bit ≡ cond (is_some value) 1 0 → mask ≡ mask_of (drop (place + 1) values) →
+    bit + 2 * mask ≡ mask_of (drop place values)
 mask_step values place value d bit mask within read one behind =
     ap (λ b. b + 2 * mask) one
     ∙ ap (λ v. cond (is_some v) 1 0 + 2 * mask) read
@@ -18,16 +20,20 @@ mask_step values place value d bit mask within read one behind =
     ∙ sym (ap mask_of (drop_more values place d within))
 
 -- what is behind one of eight places has seven bits
-pub mask_room : (values : List (Option ℤ)) (place : ℕ) → length values ≤ 8 → 0 < place → mask_of (drop place values) < 128
+pub mask_room : (values : List (Option ℤ)) (place : ℕ) → length values ≤ 8 → 0 < place →
+    mask_of (drop place values) < 128
 mask_room values place few some =
     let two : zero < 2 = omega arith in
-    let left : length (places (drop place values)) ≤ 7 = omega (arith, length-map (drop place values) is_some, length-drop place values) in
+    let left : length (places (drop place values)) ≤ 7 =
+    omega (arith, length-map (drop place values) is_some, length-drop place values) in
     let most : 2 ^ length (places (drop place values)) ≤ 2 ^ 7 = pow-le-pow_right two left in
     omega (arith, mask_l-lt (places (drop place values)), most)
 
 -- a value that is there is written
-pub there_step : (bytes new : List ℕ) (values : List (Option ℤ)) (i : ℕ) (word : ℤ) (d : Option ℤ) (whole : List ℕ) → i < length values → Some word ≡ get_or values i d →
-    new ≡ bytes ++ words_bytes (word ∷ []) → bytes ++ words_bytes (there (drop i values)) ≡ whole → new ++ words_bytes (there (drop (i + 1) values)) ≡ whole
+pub there_step : (bytes new : List ℕ) (values : List (Option ℤ)) (i : ℕ) (word : ℤ) (d : Option ℤ) (whole : List ℕ) →
+    i < length values → Some word ≡ get_or values i d →
+    new ≡ bytes ++ words_bytes (word ∷ []) → bytes ++ words_bytes (there (drop i values)) ≡ whole →
+    new ++ words_bytes (there (drop (i + 1) values)) ≡ whole
 there_step bytes new values i word d whole within read written all =
     ap (λ front. front ++ words_bytes (there (drop (i + 1) values))) written
     ∙ append_assoc bytes (words_bytes (word ∷ [])) (words_bytes (there (drop (i + 1) values)))
@@ -36,7 +42,8 @@ there_step bytes new values i word d whole within read written all =
     ∙ sym (ap (λ vs. bytes ++ words_bytes (there vs)) (drop_more values i d within))
     ∙ all
 
-pub missing_step : (bytes : List ℕ) (values : List (Option ℤ)) (i : ℕ) (d : Option ℤ) (whole : List ℕ) → i < length values → None ≡ get_or values i d →
+pub missing_step : (bytes : List ℕ) (values : List (Option ℤ)) (i : ℕ) (d : Option ℤ) (whole : List ℕ) →
+    i < length values → None ≡ get_or values i d →
     bytes ++ words_bytes (there (drop i values)) ≡ whole → bytes ++ words_bytes (there (drop (i + 1) values)) ≡ whole
 missing_step bytes values i d whole within read all =
     sym (ap (λ v. bytes ++ words_bytes (there (v ∷ drop (i + 1) values))) (sym read))

@@ -16,7 +16,8 @@ RefreshIsBytes = (rows : List PlainRow) → AreBytes (refresh_body rows)
 
 -- where the masks are bytes
 abbrev pub UpdateIsBytes : Type 0
-UpdateIsBytes = (slots reduced : ℕ) (sents : List Sent) → AllByRecursion (IsSent slots reduced) sents → AreBytes (update_body sents)
+UpdateIsBytes = (slots reduced : ℕ) (sents : List Sent) → AllByRecursion (IsSent slots reduced) sents →
+    AreBytes (update_body sents)
 
 abbrev pub PushIsBytes : Type 0
 PushIsBytes = (sends : List (Option (List ℤ))) → AreBytes (push_body sends)
@@ -29,11 +30,13 @@ VerdictIsBytes = (j : Judged) → AreBytes (verdict_body j)
 
 -- a mask of at most eight places is a byte
 abbrev pub FewPlaces : Type 0
-FewPlaces = (values : List (Option ℤ)) → length values ≤ 8 → AllByRecursion (FitsSigned w64) (there values) → AreValues (length values) values
+FewPlaces = (values : List (Option ℤ)) → length values ≤ 8 → AllByRecursion (FitsSigned w64) (there values) →
+    AreValues (length values) values
 
 -- one vertex with a slot that has the value 0
 abbrev pub UpdateExample : Type 0
-UpdateExample = update_body (record { values = Some (pos 0) ∷ []; operands = [] } ∷ []) ≡ 1 ∷ 0 ∷ 0 ∷ 0 ∷ 0 ∷ 0 ∷ 0 ∷ 0 ∷ 0 ∷ 0 ∷ []
+UpdateExample = update_body (record { values = Some (pos 0) ∷ []; operands = [] } ∷ []) ≡ 1 ∷ 0 ∷ 0 ∷ 0 ∷ 0 ∷ 0 ∷ 0
+    ∷ 0 ∷ 0 ∷ 0 ∷ []
 
 -- the first and the third of three vertices send, the third the word 258
 abbrev pub PushExample : Type 0

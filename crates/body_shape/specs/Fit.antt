@@ -10,11 +10,13 @@ use Rattle.body_shape.specs.declared.shape.BodyShape.TheVariants.{Refresh, Dep, 
 
 -- so many rows of so many words and nothing behind them. Word i of a row is a Bool where bit i of `bools` is 1
 abbrev pub are_rows : ℕ → ℕ → ℕ → List ℕ → Bool
-are_rows count words bools bytes = length bytes == 8 * words * count && list_all (are_typed bools) (rows_in words count bytes)
+are_rows count words bools bytes = length bytes == 8 * words * count
+    && list_all (are_typed bools) (rows_in words count bytes)
 
 -- the bits of a byte, the low ones first
 abbrev pub bits_of : ℕ → List ℕ
-bits_of byte = byte % 2 ∷ byte / 2 % 2 ∷ byte / 4 % 2 ∷ byte / 8 % 2 ∷ byte / 16 % 2 ∷ byte / 32 % 2 ∷ byte / 64 % 2 ∷ byte / 128 % 2 ∷ []
+bits_of byte = byte % 2 ∷ byte / 2 % 2 ∷ byte / 4 % 2 ∷ byte / 8 % 2 ∷ byte / 16 % 2 ∷ byte / 32 % 2 ∷ byte / 64 % 2
+    ∷ byte / 128 % 2 ∷ []
 
 unfoldable pub bits_in : List ℕ → List ℕ
 bits_in bytes = flat_map bits_of bytes
@@ -26,12 +28,14 @@ bit_len vertices = div_ceil vertices 8
 -- no bit behind those of the vertices is set, and then there is a row for each bit that is
 abbrev pub are_sends : ℕ → ℕ → ℕ → List ℕ → List ℕ → Bool
 are_sends vertices words bools marks rows =
-    not (list_any is_set (drop vertices (bits_in marks))) && are_rows (count_by is_set (take vertices (bits_in marks))) words bools rows
+    not (list_any is_set (drop vertices (bits_in marks)))
+    && are_rows (count_by is_set (take vertices (bits_in marks))) words bools rows
 
 -- a bit for each vertex, then the sends of each whose bit is set
 abbrev pub is_push : ℕ → ℕ → ℕ → List ℕ → Bool
 is_push vertices words bools body =
-    nat_le (bit_len vertices) (length body) && are_sends vertices words bools (take (bit_len vertices) body) (drop (bit_len vertices) body)
+    nat_le (bit_len vertices) (length body)
+    && are_sends vertices words bools (take (bit_len vertices) body) (drop (bit_len vertices) body)
 
 -- no bit from a place on is set
 abbrev pub is_mask : ℕ → ℕ → Bool
@@ -47,12 +51,14 @@ abbrev pub behind_update : ℕ → ℕ → List ℕ → Option (List ℕ)
 behind_update slots reduced [] = None
 behind_update slots reduced (low ∷ []) = None
 behind_update slots reduced (low ∷ high ∷ bytes) =
-    if is_mask slots low && (is_mask reduced high && nat_le (words_len low high) (length bytes)) then Some (drop (words_len low high) bytes) else None
+    if is_mask slots low && (is_mask reduced high && nat_le (words_len low high) (length bytes))
+    then Some (drop (words_len low high) bytes) else None
 
 -- an update for each of so many vertices, and nothing behind them
 abbrev pub are_updates : ℕ → ℕ → ℕ → List ℕ → Bool
 are_updates slots reduced zero bytes = length bytes == 0
-are_updates slots reduced (suc vertices) bytes = option_map_or (are_updates slots reduced vertices) (behind_update slots reduced bytes) false
+are_updates slots reduced (suc vertices) bytes = option_map_or (are_updates slots reduced vertices)
+    (behind_update slots reduced bytes) false
 
 -- the number that eight bytes spell
 unfoldable pub number_of : List ℕ → ℕ
@@ -64,7 +70,8 @@ is_count bytes = nat_le (number_of (take 8 bytes)) (2 ^ 32)
 
 -- three counts, and then the words of the totals
 abbrev pub is_tally : ℕ → List ℕ → Bool
-is_tally totals body = length body == 24 + 8 * totals && (is_count body && (is_count (drop 8 body) && is_count (drop 16 body)))
+is_tally totals body = length body == 24 + 8 * totals
+    && (is_count body && (is_count (drop 8 body) && is_count (drop 16 body)))
 
 -- 0 for stop, 1 for dense and 2 for sparse, where the program may rule so
 abbrev pub is_ruling : Bool → Bool → ℕ → Bool

@@ -38,7 +38,8 @@ senders count body = padded count (flags_in (take (bit_len count) body))
 
 -- the words that each of so many vertices sends
 abbrev pub sends_read : ℕ → ℕ → List ℕ → List (Option (List ℤ))
-sends_read words count body = placed (senders count body) (rows_in words (set_count (senders count body)) (drop (bit_len count) body))
+sends_read words count body = placed (senders count body)
+    (rows_in words (set_count (senders count body)) (drop (bit_len count) body))
 
 -- the words of the sender behind so many senders
 abbrev pub send_at : ℕ → ℕ → ℕ → List ℕ → List ℤ
@@ -52,27 +53,33 @@ pub record SuitsPush (vertices width bools : ℕ) (sends : List (Option (List �
 
 -- sends are read from what is spelled of them
 abbrev pub PushReadsBack : Type 0
-PushReadsBack = (count words : ℕ) (sends : List (Option (List ℤ))) → length sends ≡ count → AllByRecursion (IsWords words) (there sends) → sends_read words count (push_body sends) ≡ sends
+PushReadsBack = (count words : ℕ) (sends : List (Option (List ℤ))) → length sends ≡ count →
+    AllByRecursion (IsWords words) (there sends) → sends_read words count (push_body sends) ≡ sends
 
 -- by these bytes neither a vertex nor a later one sends, and by those the vertex sends these words
 abbrev pub AddsSend : List ℕ → ℕ → List ℤ → List ℕ → Type 0
-AddsSend old vertex words new = (sends : List (Option (List ℤ))) → old ≡ push_body sends → vertex < length sends → there (drop vertex sends) ≡ [] →
+AddsSend old vertex words new = (sends : List (Option (List ℤ))) → old ≡ push_body sends → vertex < length sends →
+    there (drop vertex sends) ≡ [] →
     new ≡ push_body (slice_set sends vertex (Some words))
 
 -- a vertex in its place: what it sends stands behind what the earlier senders send
 abbrev pub PushInPlace : Type 0
 PushInPlace = (count words i : ℕ) (body : List ℕ) → i < count →
     get_or (sends_read words count body) i None
-    ≡ (if get_or (senders count body) i false then Some (send_at words count (set_count (take i (senders count body))) body) else None)
+    ≡ (if get_or (senders count body) i false
+    then Some (send_at words count (set_count (take i (senders count body))) body) else None)
 
 -- what is spelled of sends that suit a shape fits it
 abbrev pub PushFits : Type 0
-PushFits = (count words bools : ℕ) (sends : List (Option (List ℤ))) → SuitsPush count words bools sends → is_fit (Push count words bools) (push_body sends) ≡ true
+PushFits = (count words bools : ℕ) (sends : List (Option (List ℤ))) → SuitsPush count words bools sends →
+    is_fit (Push count words bools) (push_body sends) ≡ true
 
 -- the sends of a body that fits suit its shape
 abbrev pub PushSuits : Type 0
-PushSuits = (count words bools : ℕ) (body : List ℕ) → is_fit (Push count words bools) body ≡ true → SuitsPush count words bools (sends_read words count body)
+PushSuits = (count words bools : ℕ) (body : List ℕ) → is_fit (Push count words bools) body ≡ true →
+    SuitsPush count words bools (sends_read words count body)
 
 -- a body that fits is the spelling of its sends
 abbrev pub PushIsSpelled : Type 0
-PushIsSpelled = (count words bools : ℕ) (body : List ℕ) → AreBytes body → is_fit (Push count words bools) body ≡ true → push_body (sends_read words count body) ≡ body
+PushIsSpelled = (count words bools : ℕ) (body : List ℕ) → AreBytes body → is_fit (Push count words bools) body ≡ true
+    → push_body (sends_read words count body) ≡ body

@@ -78,7 +78,8 @@ SuitsRefresh count width bools rows = (length rows ≡ count) × AllByRecursion 
 
 -- rows are read from what is spelled of them
 abbrev pub RefreshReadsBack : Type 0
-RefreshReadsBack = (count width : ℕ) (rows : List PlainRow) → length rows ≡ count → AllByRecursion (HasFields width) rows → rows_read width count (refresh_body rows) ≡ rows
+RefreshReadsBack = (count width : ℕ) (rows : List PlainRow) → length rows ≡ count →
+    AllByRecursion (HasFields width) rows → rows_read width count (refresh_body rows) ≡ rows
 
 -- a row in its place
 abbrev pub RefreshInPlace : Type 0
@@ -96,12 +97,14 @@ RefreshFits = (count width bools : ℕ) (rows : List PlainRow) → SuitsRefresh 
 
 -- the rows of a body that fits suit its shape
 abbrev pub RefreshSuits : Type 0
-RefreshSuits = (count width bools : ℕ) (body : List ℕ) → is_flagged width bools ≡ true → is_fit (Refresh count (suc width) bools) body ≡ true →
+RefreshSuits = (count width bools : ℕ) (body : List ℕ) → is_flagged width bools ≡ true →
+    is_fit (Refresh count (suc width) bools) body ≡ true →
     SuitsRefresh count width bools (rows_read width count body)
 
 -- a body that fits is the spelling of its rows
 abbrev pub RefreshIsSpelled : Type 0
-RefreshIsSpelled = (count width bools : ℕ) (body : List ℕ) → AreBytes body → is_flagged width bools ≡ true → is_fit (Refresh count (suc width) bools) body ≡ true →
+RefreshIsSpelled = (count width bools : ℕ) (body : List ℕ) → AreBytes body → is_flagged width bools ≡ true →
+    is_fit (Refresh count (suc width) bools) body ≡ true →
     refresh_body (rows_read width count body) ≡ body
 
 -- the form of a refresh says that the word behind its fields is a Bool

@@ -22,7 +22,12 @@ tally_body c = number_bytes c.active ++ (number_bytes c.edges ++ (number_bytes c
 
 abbrev pub counted_read : ℕ → List ℕ → Counted
 counted_read totals body =
-    record { active = number_of (take 8 body); edges = number_of (take 8 (drop 8 body)); reads = number_of (take 8 (drop 16 body)); totals = words_in totals (drop 24 body) }
+    record {
+      active = number_of (take 8 body);
+      edges = number_of (take 8 (drop 8 body));
+      reads = number_of (take 8 (drop 16 body));
+      totals = words_in totals (drop 24 body);
+    }
 
 -- numbers below a bound, and so many totals
 pub record IsCounted (bound size : ℕ) (c : Counted) : Type 0 where
@@ -45,8 +50,10 @@ TallyFits = (totals : ℕ) (c : Counted) → SuitsTally totals c → is_fit (Tal
 
 -- the counts of a body that fits suit its shape
 abbrev pub TallySuits : Type 0
-TallySuits = (totals : ℕ) (body : List ℕ) → is_fit (Tally totals) body ≡ true → SuitsTally totals (counted_read totals body)
+TallySuits = (totals : ℕ) (body : List ℕ) → is_fit (Tally totals) body ≡ true →
+    SuitsTally totals (counted_read totals body)
 
 -- a body that fits is the spelling of its counts
 abbrev pub TallyIsSpelled : Type 0
-TallyIsSpelled = (totals : ℕ) (body : List ℕ) → AreBytes body → is_fit (Tally totals) body ≡ true → tally_body (counted_read totals body) ≡ body
+TallyIsSpelled = (totals : ℕ) (body : List ℕ) → AreBytes body → is_fit (Tally totals) body ≡ true →
+    tally_body (counted_read totals body) ≡ body

@@ -48,7 +48,8 @@ behind_sent slots reduced (low ∷ high ∷ bytes) = behind_values reduced high 
 -- what is sent of so many vertices
 abbrev pub sents_read : ℕ → ℕ → ℕ → List ℕ → List Sent
 sents_read slots reduced zero bytes = []
-sents_read slots reduced (suc count) bytes = sent_at slots reduced bytes ∷ sents_read slots reduced count (behind_sent slots reduced bytes)
+sents_read slots reduced (suc count) bytes = sent_at slots reduced bytes
+    ∷ sents_read slots reduced count (behind_sent slots reduced bytes)
 
 -- a place for each of so many, a mask that is a byte, and words of 64 bits
 pub record AreValues (size : ℕ) (values : List (Option ℤ)) : Type 0 where
@@ -64,18 +65,22 @@ SuitsUpdate count slots reduced sents = (length sents ≡ count) × AllByRecursi
 
 -- updates are read from what is spelled of them
 abbrev pub UpdateReadsBack : Type 0
-UpdateReadsBack = (count slots reduced : ℕ) (sents : List Sent) → SuitsUpdate count slots reduced sents → sents_read slots reduced count (update_body sents) ≡ sents
+UpdateReadsBack = (count slots reduced : ℕ) (sents : List Sent) → SuitsUpdate count slots reduced sents →
+    sents_read slots reduced count (update_body sents) ≡ sents
 
 -- what is spelled of updates that suit a shape fits it
 abbrev pub UpdateFits : Type 0
-UpdateFits = (count slots reduced : ℕ) (sents : List Sent) → SuitsUpdate count slots reduced sents → is_fit (Update count slots reduced) (update_body sents) ≡ true
+UpdateFits = (count slots reduced : ℕ) (sents : List Sent) → SuitsUpdate count slots reduced sents →
+    is_fit (Update count slots reduced) (update_body sents) ≡ true
 
 -- the updates of a body that fits suit its shape
 abbrev pub UpdateSuits : Type 0
-UpdateSuits = (count slots reduced : ℕ) (body : List ℕ) → AreBytes body → is_fit (Update count slots reduced) body ≡ true →
+UpdateSuits = (count slots reduced : ℕ) (body : List ℕ) → AreBytes body → is_fit (Update count slots reduced) body
+    ≡ true →
     SuitsUpdate count slots reduced (sents_read slots reduced count body)
 
 -- a body that fits is the spelling of its updates
 abbrev pub UpdateIsSpelled : Type 0
-UpdateIsSpelled = (count slots reduced : ℕ) (body : List ℕ) → AreBytes body → is_fit (Update count slots reduced) body ≡ true →
+UpdateIsSpelled = (count slots reduced : ℕ) (body : List ℕ) → AreBytes body → is_fit (Update count slots reduced) body
+    ≡ true →
     update_body (sents_read slots reduced count body) ≡ body

@@ -46,7 +46,8 @@ VerdictReadsBack = (totals : ℕ) (j : Judged) → IsWords totals j.totals → j
 
 -- what is spelled of a verdict that suits a shape fits it
 abbrev pub VerdictFits : Type 0
-VerdictFits = (dense sparse : Bool) (totals : ℕ) (j : Judged) → SuitsVerdict dense sparse totals j → is_fit (Verdict dense sparse totals) (verdict_body j) ≡ true
+VerdictFits = (dense sparse : Bool) (totals : ℕ) (j : Judged) → SuitsVerdict dense sparse totals j →
+    is_fit (Verdict dense sparse totals) (verdict_body j) ≡ true
 
 -- the verdict of a body that fits suits its shape
 abbrev pub VerdictSuits : Type 0
@@ -55,5 +56,6 @@ VerdictSuits = (dense sparse : Bool) (totals : ℕ) (body : List ℕ) → is_fit
 
 -- a body that fits is the spelling of its verdict
 abbrev pub VerdictIsSpelled : Type 0
-VerdictIsSpelled = (dense sparse : Bool) (totals : ℕ) (body : List ℕ) → AreBytes body → is_fit (Verdict dense sparse totals) body ≡ true →
+VerdictIsSpelled = (dense sparse : Bool) (totals : ℕ) (body : List ℕ) → AreBytes body →
+    is_fit (Verdict dense sparse totals) body ≡ true →
     verdict_body (judged_read totals body) ≡ body

@@ -124,4 +124,5 @@ carried_in classes = length (filter is_carried classes)
 
 -- a loop with a break or a carried let hands its carried lets on
 abbrev pub carry_in : Bool → List Class → Option Carry
-carry_in breaks classes = if breaks || nat_lt 0 (carried_in classes) then Some (record { words = carried_in classes }) else None
+carry_in breaks classes = if breaks || nat_lt 0 (carried_in classes) then Some (record { words = carried_in classes })
+    else None

@@ -53,7 +53,10 @@ abbrev pub walk_of : Walk → Sight
 walk_of w = record { lets = w.lets; breaks = w.breaks }
 
 abbrev pub with_mark : Sight → Mark → Sight
-with_mark s (Uses i u) = record { lets = slice_set s.lets i (with_use (slice_index_or s.lets i Nowhere) u); breaks = s.breaks }
+with_mark s (Uses i u) = record {
+  lets = slice_set s.lets i (with_use (slice_index_or s.lets i Nowhere) u);
+  breaks = s.breaks;
+}
 with_mark s Breaks = record { lets = s.lets; breaks = true }
 
 -- the sight after some more marks

@@ -40,7 +40,8 @@ fn class_seen(seen: Seen) -> Class
 /// The classes of a dense block, in one walk over its loop body.
 pub fn classes_of(dense: &Dense) -> Classes
     requires few { length dense.now.lets.items ≤ 8 }
-    ensures locals { result.locals.items ≡ let_classes 0 dense.now.lets.items (body_marks dense.now.body.items) }
+    ensures locals { result.locals.items
+        ≡ let_classes 0 dense.now.lets.items (body_marks dense.now.body.items) }
     ensures breaks { result.breaks ≡ has_break (body_marks dense.now.body.items) }
 {
     let mut walk = Walk {

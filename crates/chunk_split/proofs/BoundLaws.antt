@@ -34,10 +34,15 @@ share_positive rest q some left =
 rest_positive : (costs : List ℕ) (start : ℕ) → Positive costs → start < length costs → 0 < sum (drop start costs)
 rest_positive costs start h lt =
     let first = h start lt in
-    omega (arith, sum_step (get_or costs start 0) (drop start costs) (drop (start + 1) costs) (drop_more costs start 0 lt))
+    omega (
+      arith,
+      sum_step (get_or costs start 0) (drop start costs) (drop (start + 1) costs)
+          (drop_more costs start 0 lt),
+    )
 
 -- the first chunk of q from `start` on
-pub first_least : (q start : ℕ) (costs : List ℕ) → 0 < q → Positive costs → start ≤ length costs → let need = div_ceil (sum (drop start costs)) q in IsLeast need costs start (start + reach need (drop start costs))
+pub first_least : (q start : ℕ) (costs : List ℕ) → 0 < q → Positive costs → start ≤ length costs →
+    let need = div_ceil (sum (drop start costs)) q in IsLeast need costs start (start + reach need (drop start costs))
 first_least q start costs some positive le =
     let rest = drop start costs in
     let need = div_ceil (sum rest) q in
@@ -53,7 +58,8 @@ first_least q start costs some positive le =
           let none : len ≡ 0 = omega arith in
           let inner : len < length rest = omega arith in
           let from : start < length costs = omega arith in
-          let reached : need ≤ sum (take 0 rest) = subst (λ (n : ℕ). need ≤ sum (take n rest)) none (fewest.reached inner) in
+          let reached : need ≤ sum (take 0 rest) =
+          subst (λ (n : ℕ). need ≤ sum (take n rest)) none (fewest.reached inner) in
           let more = share_positive (sum rest) q some (rest_positive costs start positive from) in
           absurd (omega arith))
           (λ (high : 1 ≤ len). omega arith)
@@ -80,7 +86,8 @@ start_none ends (suc i) = refl
 abbrev LeastAt : ℕ → List ℕ → ℕ → ℕ → Type 0
 LeastAt q costs start e = IsLeast (div_ceil (sum (drop start costs)) q) costs start e
 
-leasts : (i q start : ℕ) (costs : List ℕ) → Positive costs → start ≤ length costs → i + 1 < q → let ends = ends_from q start (drop start costs) in LeastAt (q - i) costs (start_at start ends i) (get_or ends i 0)
+leasts : (i q start : ℕ) (costs : List ℕ) → Positive costs → start ≤ length costs → i + 1 < q →
+    let ends = ends_from q start (drop start costs) in LeastAt (q - i) costs (start_at start ends i) (get_or ends i 0)
 leasts i zero start costs positive le lt = absurd (omega arith)
 leasts i (suc zero) start costs positive le lt = absurd (omega arith)
 leasts zero (suc (suc p)) start costs positive le lt =
@@ -95,13 +102,19 @@ leasts (suc i) (suc (suc p)) start costs positive le lt =
     let within : end ≤ length costs = (first_least (suc (suc p)) start costs some positive le).within in
     let inner : i + 1 < suc p = omega arith in
     let less : suc (suc p) - suc i ≡ suc p - i = omega arith in
-    let same : ends_from (suc (suc p)) start (drop start costs) ≡ end ∷ ends = ap (λ ys. end ∷ ends_from (suc p) end ys) (drop-drop len start costs) in
-    let more : LeastAt (suc p - i) costs (start_at end ends i) (get_or ends i 0) = leasts i (suc p) end costs positive within inner in
-    let shifted : LeastAt (suc p - i) costs (get_or (end ∷ ends) i 0) (get_or ends i 0) = subst (λ (s : ℕ). LeastAt (suc p - i) costs s (get_or ends i 0)) (sym (start_shift end ends i)) more in
-    let counted : LeastAt (suc (suc p) - suc i) costs (get_or (end ∷ ends) i 0) (get_or ends i 0) = subst (λ (q : ℕ). LeastAt q costs (get_or (end ∷ ends) i 0) (get_or ends i 0)) (sym less) shifted in
-    subst (λ (ys : List ℕ). LeastAt (suc (suc p) - suc i) costs (get_or ys i 0) (get_or ys (suc i) 0)) (sym same) counted
+    let same : ends_from (suc (suc p)) start (drop start costs) ≡ end ∷ ends =
+    ap (λ ys. end ∷ ends_from (suc p) end ys) (drop-drop len start costs) in
+    let more : LeastAt (suc p - i) costs (start_at end ends i) (get_or ends i 0) =
+    leasts i (suc p) end costs positive within inner in
+    let shifted : LeastAt (suc p - i) costs (get_or (end ∷ ends) i 0) (get_or ends i 0) =
+    subst (λ (s : ℕ). LeastAt (suc p - i) costs s (get_or ends i 0)) (sym (start_shift end ends i)) more in
+    let counted : LeastAt (suc (suc p) - suc i) costs (get_or (end ∷ ends) i 0) (get_or ends i 0) =
+    subst (λ (q : ℕ). LeastAt q costs (get_or (end ∷ ends) i 0) (get_or ends i 0)) (sym less) shifted in
+    subst (λ (ys : List ℕ). LeastAt (suc (suc p) - suc i) costs (get_or ys i 0) (get_or ys (suc i) 0)) (sym same)
+    counted
 
-pub ends_cover : (q start k : ℕ) (costs : List ℕ) → k + 1 ≡ q → get_or (ends_from q start costs) k 0 ≡ start + length costs
+pub ends_cover : (q start k : ℕ) (costs : List ℕ) → k + 1 ≡ q → get_or (ends_from q start costs) k 0 ≡ start
+    + length costs
 ends_cover zero start k costs e = absurd (omega arith)
 ends_cover (suc zero) start k costs e = let first : k ≡ 0 = omega arith in rw first refl
 ends_cover (suc (suc p)) start zero costs e = absurd (omega arith)
@@ -109,10 +122,16 @@ ends_cover (suc (suc p)) start (suc k) costs e =
     let need = div_ceil (sum costs) (suc (suc p)) in
     let len = reach need costs in
     let e' : k + 1 ≡ suc p = omega arith in
-    omega (arith, ends_cover (suc p) (start + len) k (drop len costs) e', (reach_fewest need costs).within, length-drop len costs)
+    omega (
+      arith,
+      ends_cover (suc p) (start + len) k (drop len costs) e',
+      (reach_fewest need costs).within,
+      length-drop len costs,
+    )
 
 -- the ends are those of `Bounds`
-pub are_bounds : (p : ℕ) (costs ends : List ℕ) → 1 ≤ p → (2 ≤ p → Positive costs) → ends ≡ ends_from p 0 costs → AreBounds p costs ends
+pub are_bounds : (p : ℕ) (costs ends : List ℕ) → 1 ≤ p → (2 ≤ p → Positive costs) → ends ≡ ends_from p 0 costs →
+    AreBounds p costs ends
 are_bounds p costs ends some positive e = record {
   count = ap length e ∙ ends_length p 0 costs;
   each = λ i lt.
@@ -134,8 +153,10 @@ costs_positive p n edges two = λ k lt.
     omega (arith, get_or-map-range_with_len (cost_of p n edges) 0 n k k 0 below (omega arith))
 
 -- a table gives its graph's ends
-pub ends_same : (p n : ℕ) (edges : List Edge) (table : Graph) → IsTableOf n edges table → ends_of p n table.list ≡ ends_of p n edges
+pub ends_same : (p n : ℕ) (edges : List Edge) (table : Graph) → IsTableOf n edges table →
+    ends_of p n table.list ≡ ends_of p n edges
 ends_same p n edges table h =
     ap (ends_from p 0)
     (fill_by_all (cost_of p n edges) (costs_of p n table.list) n 0 (costs_length p n table.list)
-    (λ v lt. get_or-map-range_with_len (cost_of p n table.list) 0 n v v 0 lt (omega arith) ∙ ap (λ es. 8 * (p - 1) + length es) (h.outs v lt)))
+    (λ v lt. get_or-map-range_with_len (cost_of p n table.list) 0 n v v 0 lt (omega arith)
+    ∙ ap (λ es. 8 * (p - 1) + length es) (h.outs v lt)))

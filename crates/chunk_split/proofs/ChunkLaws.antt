@@ -20,7 +20,8 @@ below_is a v e = grind (arith, nat_tests)
 above_is : (a v : ℕ) → leb a v ≡ false → v < a
 above_is a v e = grind (arith, nat_tests)
 
-pub parts : (ends : List ℕ) (v m : ℕ) → IsPartitionPoint (λ y. leb y v ≡ true) (λ y. leb y v ≡ false) ends m → Parts ends v m
+pub parts : (ends : List ℕ) (v m : ℕ) → IsPartitionPoint (λ y. leb y v ≡ true) (λ y. leb y v ≡ false) ends m →
+    Parts ends v m
 parts ends v m h = record {
   before = λ k lt. let low : 0 ≤ k = omega arith in below_is (get_or ends k 0) v (h.0 k 0 low lt);
   after = λ k le lt. above_is (get_or ends k 0) v (h.1 k 0 le lt);
@@ -31,7 +32,8 @@ starts_before ends v zero h = omega arith
 starts_before ends v (suc m) h = let lt : m < suc m = omega arith in h.before m lt
 
 -- the chunk between them holds v
-pub parts_hold : (ends : List ℕ) (v m : ℕ) → 1 ≤ length ends → m ≤ length ends → v < vertices_of ends → Parts ends v m → Holds ends v m
+pub parts_hold : (ends : List ℕ) (v m : ℕ) → 1 ≤ length ends → m ≤ length ends → v < vertices_of ends →
+    Parts ends v m → Holds ends v m
 parts_hold ends v m some le within h =
     let here : m < length ends =
     ⊎_elim
@@ -81,30 +83,45 @@ parts_turn (end ∷ ends) v (suc m) lt h =
     let inner : m < length ends = omega arith in
     rw no (parts_turn ends v m inner (record {
       before = λ k low. let low' : suc k < suc m = omega arith in h.before (suc k) low';
-      after = λ k le low. let le' : suc m ≤ suc k = omega arith in let low' : suc k < suc (length ends) = omega arith in h.after (suc k) le' low';
+      after = λ k le low. let le' : suc m ≤ suc k = omega arith in
+          let low' : suc k < suc (length ends) = omega arith in h.after (suc k) le' low';
     }))
 
 -- what a binary search for the first end above v finds
-pub search_parts : (most : ℕ) (ends view list : List ℕ) (v m : ℕ) → AreEnds most list → list ≡ view → ends ≡ list → (IsNonDecreasing ends → IsPartitionPoint (λ y. leb y v ≡ true) (λ y. leb y v ≡ false) ends m) → Parts view v m
+pub search_parts : (most : ℕ) (ends view list : List ℕ) (v m : ℕ) → AreEnds most list → list ≡ view → ends ≡ list →
+    (IsNonDecreasing ends → IsPartitionPoint (λ y. leb y v ≡ true) (λ y. leb y v ≡ false) ends m) → Parts view v m
 search_parts most ends view list v m are same copied h =
-    parts view v m (subst (λ (xs : List ℕ). IsPartitionPoint (λ y. leb y v ≡ true) (λ y. leb y v ≡ false) xs m) (copied ∙ same) (h (subst (λ (xs : List ℕ). IsNonDecreasing xs) (sym copied) are.2)))
+    parts view v m (subst (λ (xs : List ℕ). IsPartitionPoint (λ y. leb y v ≡ true) (λ y. leb y v ≡ false) xs m)
+    (copied ∙ same) (h (subst (λ (xs : List ℕ). IsNonDecreasing xs) (sym copied) are.2)))
 
 -- ends of which one is below the one before it are none of chunks
-pub fall_refutes : (most : ℕ) (ends : List ℕ) (sorted : Bool) → sorted ≡ false → MatchBool sorted (IsNonDecreasing ends) ((k : ℕ) × (k + 1 < length ends) × ((d : ℕ) → get_or ends (k + 1) d < get_or ends k d)) → (false ≡ true → AreEnds most ends) × (AreEnds most ends → false ≡ true)
+pub fall_refutes : (most : ℕ) (ends : List ℕ) (sorted : Bool) → sorted ≡ false →
+    MatchBool sorted (IsNonDecreasing ends) ((k : ℕ) × (k + 1 < length ends) ×
+    ((d : ℕ) → get_or ends (k + 1) d < get_or ends k d)) → (false ≡ true → AreEnds most ends) ×
+    (AreEnds most ends → false ≡ true)
 fall_refutes most ends true e answer = absurd (true≢false e)
-fall_refutes most ends false e answer = (λ f. absurd (true≢false (sym f)), λ are. let low = answer.2 0 in let le : answer.0 ≤ answer.0 + 1 = omega arith in let high = are.2 answer.0 (answer.0 + 1) 0 le answer.1 in absurd (omega arith))
+fall_refutes most ends false e answer = (
+  λ f. absurd (true≢false (sym f)),
+  λ are. let low = answer.2 0 in
+      let le : answer.0 ≤ answer.0 + 1 = omega arith in
+      let high = are.2 answer.0 (answer.0 + 1) 0 le answer.1 in absurd (omega arith),
+)
 
 -- and others are, where they are neither none nor too many
-pub rise_stands : (most : ℕ) (ends : List ℕ) (sorted : Bool) → sorted ≡ true → MatchBool sorted (IsNonDecreasing ends) ((k : ℕ) × (k + 1 < length ends) × ((d : ℕ) → get_or ends (k + 1) d < get_or ends k d)) → 1 ≤ length ends → length ends ≤ most → AreEnds most ends
+pub rise_stands : (most : ℕ) (ends : List ℕ) (sorted : Bool) → sorted ≡ true →
+    MatchBool sorted (IsNonDecreasing ends) ((k : ℕ) × (k + 1 < length ends) ×
+    ((d : ℕ) → get_or ends (k + 1) d < get_or ends k d)) → 1 ≤ length ends → length ends ≤ most → AreEnds most ends
 rise_stands most ends true e answer some few = (some, few, answer)
 rise_stands most ends false e answer some few = absurd (true≢false (sym e))
 
 -- a chunk ends no earlier than it begins
-pub start_rises : (ends : List ℕ) (m : ℕ) → IsNonDecreasing ends → m < length ends → start_of ends m ≤ slice_index ends m
+pub start_rises : (ends : List ℕ) (m : ℕ) → IsNonDecreasing ends → m < length ends →
+    start_of ends m ≤ slice_index ends m
 start_rises ends zero rise lt = omega arith
 start_rises ends (suc m) rise lt = let le : m ≤ suc m = omega arith in rise m (suc m) 0 le lt
 
-before_start : (ends : List ℕ) (m k : ℕ) → IsNonDecreasing ends → m < length ends → k < m → get_or ends k 0 ≤ start_of ends m
+before_start : (ends : List ℕ) (m k : ℕ) → IsNonDecreasing ends → m < length ends → k < m →
+    get_or ends k 0 ≤ start_of ends m
 before_start ends zero k rise lt low = absurd (omega arith)
 before_start ends (suc m) k rise lt low =
     let le : k ≤ m = omega arith in
@@ -122,5 +139,6 @@ holder_parts ends v m rise holds =
     }
 
 -- the list of v turns at the end of the chunk that holds v
-pub holder_turn : (ends : List ℕ) (v m : ℕ) → IsNonDecreasing ends → Holds ends v m → turn_of ends v ≡ slice_index ends m
+pub holder_turn : (ends : List ℕ) (v m : ℕ) → IsNonDecreasing ends → Holds ends v m →
+    turn_of ends v ≡ slice_index ends m
 holder_turn ends v m rise holds = parts_turn ends v m holds.0 (holder_parts ends v m rise holds)

@@ -7,7 +7,8 @@ use Rattle.chunk_split.specs.Bounds.{reach, ends_from}
 use Rattle.chunk_split.specs.Chunks.{AreEnds}
 
 -- one chunk more
-pub ends_step : (q start len : ℕ) (costs : List ℕ) → 2 ≤ q → len ≡ reach (div_ceil (sum costs) q) costs → ends_from q start costs ≡ (start + len) ∷ ends_from (q - 1) (start + len) (drop len costs)
+pub ends_step : (q start len : ℕ) (costs : List ℕ) → 2 ≤ q → len ≡ reach (div_ceil (sum costs) q) costs →
+    ends_from q start costs ≡ (start + len) ∷ ends_from (q - 1) (start + len) (drop len costs)
 ends_step zero start len costs h e = absurd (omega arith)
 ends_step (suc zero) start len costs h e = absurd (omega arith)
 ends_step (suc (suc p)) start len costs h e =
@@ -31,7 +32,8 @@ ends_go p i start len at ends costs rest full h e there left before =
     append_assoc ends (at ∷ []) (ends_from (p - (i + 1)) at rest)
     ∙ (rw (less, there, left) (ap (λ ys. ends ++ ys) (sym (ends_step (p - i) start len costs two e))) ∙ before)
 
-pub ends_finish : (p i start n : ℕ) (ends costs full : List ℕ) → i + 1 ≡ p → start + length costs ≡ n → ends ++ ends_from (p - i) start costs ≡ full → ends ++ n ∷ [] ≡ full
+pub ends_finish : (p i start n : ℕ) (ends costs full : List ℕ) → i + 1 ≡ p → start + length costs ≡ n →
+    ends ++ ends_from (p - i) start costs ≡ full → ends ++ n ∷ [] ≡ full
 ends_finish p i start n ends costs full h e before =
     let one : p - i ≡ 1 = omega arith in
     ap (λ q. ends ++ q ∷ []) (sym e) ∙ (ap (λ ys. ends ++ ys) (sym (ends_last start costs (p - i) one)) ∙ before)
@@ -66,7 +68,8 @@ above_start start (x ∷ xs) h (suc j) d lt =
 pub non_decreasing : (start : ℕ) (xs : List ℕ) → RisesFrom start xs → IsNonDecreasing xs
 non_decreasing start [] h i j d le lt = absurd (omega arith)
 non_decreasing start (x ∷ xs) h zero zero d le lt = omega arith
-non_decreasing start (x ∷ xs) h zero (suc j) d le lt = let inner : j < length xs = omega arith in above_start x xs h.1 j d inner
+non_decreasing start (x ∷ xs) h zero (suc j) d le lt = let inner : j < length xs = omega arith in
+    above_start x xs h.1 j d inner
 non_decreasing start (x ∷ xs) h (suc i) zero d le lt = absurd (omega arith)
 non_decreasing start (x ∷ xs) h (suc i) (suc j) d le lt =
     let inner : j < length xs = omega arith in

@@ -23,7 +23,9 @@ pub record IsFewest (need : ℕ) (costs : List ℕ) (n : ℕ) : Type 0 where
   pub reached : n < length costs → need ≤ sum (take n costs)
   pub least : (k : ℕ) → k < n → sum (take k costs) < need
 
-fewest_at : (m c : ℕ) (cs : List ℕ) → IsFewest (suc m - c) cs (reach (suc m - c) cs) → reach (suc m) (c ∷ cs) ≡ suc (reach (suc m - c) cs) → (k : ℕ) → k < reach (suc m) (c ∷ cs) → sum (take k (c ∷ cs)) < suc m
+fewest_at : (m c : ℕ) (cs : List ℕ) → IsFewest (suc m - c) cs (reach (suc m - c) cs) →
+    reach (suc m) (c ∷ cs) ≡ suc (reach (suc m - c) cs) → (k : ℕ) → k < reach (suc m) (c ∷ cs) →
+    sum (take k (c ∷ cs)) < suc m
 fewest_at m c cs rest e zero h = omega arith
 fewest_at m c cs rest e (suc k) h =
     let h' = rw e at h in
@@ -32,8 +34,18 @@ fewest_at m c cs rest e (suc k) h =
     omega (arith, sum_by-cons (λ x. x) c (take k cs))
 
 pub reach_fewest : (need : ℕ) (costs : List ℕ) → IsFewest need costs (reach need costs)
-reach_fewest need [] = record { within = omega arith; reached = λ h. absurd (omega arith); least = λ k h. absurd (omega arith) }
-reach_fewest zero (c ∷ cs) = record { within = omega arith; reached = λ _. omega arith; least = λ k h. absurd (omega arith) }
+reach_fewest need [] = record {
+  within = omega arith;
+  reached = λ h. absurd (omega arith);
+  least = λ k h.
+      absurd (omega arith);
+}
+reach_fewest zero (c ∷ cs) = record {
+  within = omega arith;
+  reached = λ _. omega arith;
+  least = λ k h.
+      absurd (omega arith);
+}
 reach_fewest (suc m) (c ∷ cs) =
     let some : 0 < suc m = omega arith in
     let e = reach_more (suc m) c cs some in
@@ -49,17 +61,20 @@ reach_fewest (suc m) (c ∷ cs) =
     }
 
 -- the values from v on begin with that of v
-pub values_from : (f : ℕ → ℕ) (n v : ℕ) → v < n → drop v (map f (range_with_len 0 n)) ≡ f v ∷ drop (v + 1) (map f (range_with_len 0 n))
+pub values_from : (f : ℕ → ℕ) (n v : ℕ) → v < n → drop v (map f (range_with_len 0 n)) ≡ f v
+    ∷ drop (v + 1) (map f (range_with_len 0 n))
 values_from f n v lt =
     let within : v < length (map f (range_with_len 0 n)) = omega (arith, length-map-range_with_len f 0 n) in
     drop_more (map f (range_with_len 0 n)) v 0 within
     ∙ ap (λ x. x ∷ drop (v + 1) (map f (range_with_len 0 n))) (get_or-map-range_with_len f 0 n v v 0 lt (omega arith))
 
 -- one vertex more on the way
-pub reach_step : (need sum v c : ℕ) (costs rest : List ℕ) → costs ≡ c ∷ rest → sum < need → v + 1 + reach (need - (sum + c)) rest ≡ v + reach (need - sum) costs
+pub reach_step : (need sum v c : ℕ) (costs rest : List ℕ) → costs ≡ c ∷ rest → sum < need →
+    v + 1 + reach (need - (sum + c)) rest ≡ v + reach (need - sum) costs
 reach_step need sum v c costs rest e low =
     let some : 0 < need - sum = omega arith in
-    let here : reach (need - sum) costs ≡ suc (reach (need - sum - c) rest) = ap (reach (need - sum)) e ∙ reach_more (need - sum) c rest some in
+    let here : reach (need - sum) costs ≡ suc (reach (need - sum - c) rest) = ap (reach (need - sum)) e
+    ∙ reach_more (need - sum) c rest some in
     let less : need - sum - c ≡ need - (sum + c) = omega arith in
     let here' = rw less at here in
     omega arith

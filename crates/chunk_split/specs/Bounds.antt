@@ -48,5 +48,6 @@ pub record IsLeast (need : ℕ) (costs : List ℕ) (start e : ℕ) : Type 0 wher
 -- rounded up, and the last chunk ends the vertices
 pub record AreBounds (p : ℕ) (costs ends : List ℕ) : Type 0 where
   pub count : length ends ≡ p
-  pub each : (i : ℕ) → i + 1 < p → IsLeast (div_ceil (sum (drop (start_of ends i) costs)) (p - i)) costs (start_of ends i) (slice_index ends i)
+  pub each : (i : ℕ) → i + 1 < p → IsLeast (div_ceil (sum (drop (start_of ends i) costs)) (p - i)) costs
+      (start_of ends i) (slice_index ends i)
   pub last : slice_index ends (p - 1) ≡ length costs

@@ -44,7 +44,8 @@ fn total(table: &Table, machines: u8) -> u64
 fn chunk_from(table: &Table, machines: u8, start: u32, need: u64) -> Chunk
     requires some { 1 ≤ machines }
     requires within { start ≤ table.now.vertices }
-    ensures end { result.end ≡ start + reach need (drop start (costs_of machines table.now.vertices table.now.list)) }
+    ensures end { result.end ≡ start
+        + reach need (drop start (costs_of machines table.now.vertices table.now.list)) }
     ensures cost { result.cost + sum (drop result.end (costs_of machines table.now.vertices table.now.list))
         ≡ sum (drop start (costs_of machines table.now.vertices table.now.list)) }
     ensures within { result.end ≤ table.now.vertices }
@@ -70,7 +71,8 @@ pub fn cuts_of<const CAP: usize>(table: &Table, p: u8) -> Cuts<CAP>
     ensures ends { result ≡ ends_of p table.now.vertices table.now.list }
     ensures bounds { AreBounds p (costs_of p table.now.vertices table.now.list) result }
     ensures whole { vertices_of result ≡ table.now.vertices }
-    ensures graph { (n : ℕ) (edges : List Edge) → IsTableOf n edges table.now → result ≡ ends_of p n edges }
+    ensures graph { (n : ℕ) (edges : List Edge) → IsTableOf n edges table.now →
+        result ≡ ends_of p n edges }
 {
     let mut list = ArrayVec::new();
     let mut rest = total(table, p);

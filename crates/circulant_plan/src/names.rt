@@ -6,7 +6,14 @@ use vert_base::{Name, NameKind};
 
 /// The name of a message of a kind without step and half.
 pub(crate) fn of_round(kind: NameKind, round: u32, from: u8, to: u8) -> Name
-    ensures { result ≡ record { kind = kind; round = round; step = 0; half = 0; from = from; to = to } }
+    ensures { result ≡ record {
+      kind = kind;
+      round = round;
+      step = 0;
+      half = 0;
+      from = from;
+      to = to;
+    } }
 {
     Name {
         kind,

@@ -39,7 +39,8 @@ not_feed c goes e = both (eq-eqb c 10 e) goes
 pos_ends : (c : ℕ) (cs : List ℕ) → is_line_end c ≡ true → position_or_len is_line_end (c ∷ cs) ≡ 0
 pos_ends c cs ends = rw ends refl
 
-pos_goes : (c : ℕ) (cs : List ℕ) → is_line_end c ≡ false → position_or_len is_line_end (c ∷ cs) ≡ suc (position_or_len is_line_end cs)
+pos_goes : (c : ℕ) (cs : List ℕ) → is_line_end c ≡ false →
+    position_or_len is_line_end (c ∷ cs) ≡ suc (position_or_len is_line_end cs)
 pos_goes c cs goes = rw goes (one-add (position_or_len is_line_end cs))
 
 front_is_line : (text : List ℕ) → IsLine (take (position_or_len is_line_end text) text)
@@ -51,12 +52,14 @@ front_is_line (c ∷ cs) =
     subst (λ n. IsLine (take n (c ∷ cs))) (sym (pos_goes c cs goes)) (not_feed c goes, front_is_line cs))
     (cases_Bool (is_line_end c))
 
-feed_next : (text : List ℕ) → 0 < length (drop (position_or_len is_line_end text) text) → drop (position_or_len is_line_end text) text ≡ 10 ∷ drop 1 (drop (position_or_len is_line_end text) text)
+feed_next : (text : List ℕ) → 0 < length (drop (position_or_len is_line_end text) text) →
+    drop (position_or_len is_line_end text) text ≡ 10 ∷ drop 1 (drop (position_or_len is_line_end text) text)
 feed_next [] some = absurd (omega arith)
 feed_next (c ∷ cs) some =
     ⊎_elim
     (λ (ends : is_line_end c ≡ true).
-    subst (λ n. drop n (c ∷ cs) ≡ 10 ∷ drop 1 (drop n (c ∷ cs))) (sym (pos_ends c cs ends)) (ap (λ b. b ∷ cs) (eqb-true c 10 ends)))
+    subst (λ n. drop n (c ∷ cs) ≡ 10 ∷ drop 1 (drop n (c ∷ cs))) (sym (pos_ends c cs ends))
+    (ap (λ b. b ∷ cs) (eqb-true c 10 ends)))
     (λ (goes : is_line_end c ≡ false).
     subst (λ n. drop n (c ∷ cs) ≡ 10 ∷ drop 1 (drop n (c ∷ cs))) (sym (pos_goes c cs goes))
     (feed_next cs (subst (λ n. 0 < length (drop n (c ∷ cs))) (pos_goes c cs goes) some)))
@@ -66,10 +69,13 @@ feed_next (c ∷ cs) some =
 pub cut_line : (text line : List ℕ) (n : ℕ) → n ≡ position_or_len is_line_end text → line ≡ take n text → IsLine line
 cut_line text line n v f = subst IsLine (sym (f ∙ ap (λ k. take k text) v)) (front_is_line text)
 
-pub cut_spelled : (text line rest behind : List ℕ) (n : ℕ) → n ≡ position_or_len is_line_end text → line ≡ take n text → rest ≡ drop n text → 0 < length rest → behind ≡ drop 1 rest → text ≡ line ++ 10 ∷ behind
+pub cut_spelled : (text line rest behind : List ℕ) (n : ℕ) → n ≡ position_or_len is_line_end text →
+    line ≡ take n text → rest ≡ drop n text → 0 < length rest → behind ≡ drop 1 rest → text ≡ line ++ 10 ∷ behind
 cut_spelled text line rest behind n v f r some b =
-    let left : 0 < length (drop (position_or_len is_line_end text) text) = subst (λ t. 0 < length t) (r ∙ ap (λ k. drop k text) v) some in
-    let next : drop n text ≡ 10 ∷ drop 1 (drop n text) = subst (λ k. drop k text ≡ 10 ∷ drop 1 (drop k text)) (sym v) (feed_next text left) in
+    let left : 0 < length (drop (position_or_len is_line_end text) text) =
+    subst (λ t. 0 < length t) (r ∙ ap (λ k. drop k text) v) some in
+    let next : drop n text ≡ 10 ∷ drop 1 (drop n text) =
+    subst (λ k. drop k text ≡ 10 ∷ drop 1 (drop k text)) (sym v) (feed_next text left) in
     sym (take-append-drop n text)
     ∙ (ap (λ l. l ++ drop n text) (sym f)
     ∙ ap (λ t. line ++ t) (next ∙ ap (λ t. 10 ∷ t) (sym (b ∙ ap (drop 1) r))))
@@ -78,13 +84,16 @@ empty_is_nil : (s : List ℕ) → length s ≡ 0 → s ≡ []
 empty_is_nil [] h = refl
 empty_is_nil (c ∷ s) h = absurd (omega arith)
 
-pub no_line : (text rest : List ℕ) (n : ℕ) → n ≡ position_or_len is_line_end text → rest ≡ drop n text → length rest ≡ 0 → (l r : List ℕ) → text ≡ l ++ 10 ∷ r → ⊥
+pub no_line : (text rest : List ℕ) (n : ℕ) → n ≡ position_or_len is_line_end text → rest ≡ drop n text →
+    length rest ≡ 0 → (l r : List ℕ) → text ≡ l ++ 10 ∷ r → ⊥
 no_line text rest n v f none l r e =
     let gone : drop n text ≡ [] = sym f ∙ empty_is_nil rest none in
-    let all : take n text ≡ text = sym (append-nil (take n text)) ∙ (ap (λ t. take n text ++ t) (sym gone) ∙ take-append-drop n text) in
+    let all : take n text ≡ text = sym (append-nil (take n text))
+    ∙ (ap (λ t. take n text ++ t) (sym gone) ∙ take-append-drop n text) in
     no_feed l r (subst IsLine e (cut_line text text n v (sym all)))
 
 -- ---- what stands behind a word
-pub behind_word : (line word rest : List ℕ) (read : Option ℕ) → line ≡ word ++ rest → IfSome read (λ n. decimal n ≡ rest) → IfSome read (λ n. line ≡ word ++ decimal n)
+pub behind_word : (line word rest : List ℕ) (read : Option ℕ) → line ≡ word ++ rest →
+    IfSome read (λ n. decimal n ≡ rest) → IfSome read (λ n. line ≡ word ++ decimal n)
 behind_word line word rest None e h = tt
 behind_word line word rest (Some n) e h = e ∙ ap (λ r. word ++ r) (sym h)

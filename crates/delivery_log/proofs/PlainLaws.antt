@@ -22,7 +22,8 @@ abbrev is_plain : List ℕ → Bool
 is_plain [] = true
 is_plain (b ∷ bs) = if b == 10 then false else is_plain bs
 
-plain_step : (b : ℕ) (bs : List ℕ) (t : Bool) → (b == 10) ≡ t → (if t then false else is_plain bs) ≡ true → (is_plain bs ≡ true → IsLine bs) → IsLine (b ∷ bs)
+plain_step : (b : ℕ) (bs : List ℕ) (t : Bool) → (b == 10) ≡ t → (if t then false else is_plain bs) ≡ true →
+    (is_plain bs ≡ true → IsLine bs) → IsLine (b ∷ bs)
 plain_step b bs true same e more = absurd (grind arith)
 plain_step b bs false other e more = (not_feed b other, more e)
 
@@ -57,7 +58,8 @@ wide n small = omega arith
 behind_small : (x : Name) → IsName x → AllByRecursion (λ n. n < 2 ^ 32) (numbers_behind x)
 behind_small x is = choose (has_steps x.kind)
   where
-    choose : (b : Bool) → AllByRecursion (λ n. n < 2 ^ 32) (if b then x.step ∷ x.half ∷ x.from ∷ x.to ∷ [] else x.from ∷ x.to ∷ [])
+    choose : (b : Bool) → AllByRecursion (λ n. n < 2 ^ 32) (if b then x.step ∷ x.half ∷ x.from ∷ x.to ∷ []
+        else x.from ∷ x.to ∷ [])
     choose true = (wide x.step is.step, (wide x.half is.half, (wide x.from is.from, (wide x.to is.to, tt))))
     choose false = (wide x.from is.from, (wide x.to is.to, tt))
 
@@ -71,24 +73,31 @@ kind_line Verdict = plain_line (codes "verdict") refl
 
 taken_line : (form : Form) (x : Name) → IsName x → IsLine (taken_text form x)
 taken_line Whole x is =
-    joined (kind_text x.kind) (numbers_text (x.round ∷ numbers_behind x)) (kind_line x.kind) (numbers_line (x.round ∷ numbers_behind x) (is.round, behind_small x is))
+    joined (kind_text x.kind) (numbers_text (x.round ∷ numbers_behind x)) (kind_line x.kind)
+    (numbers_line (x.round ∷ numbers_behind x) (is.round, behind_small x is))
 taken_line Roundless x is =
-    joined (kind_text x.kind) (numbers_text (numbers_behind x)) (kind_line x.kind) (numbers_line (numbers_behind x) (behind_small x is))
+    joined (kind_text x.kind) (numbers_text (numbers_behind x)) (kind_line x.kind)
+    (numbers_line (numbers_behind x) (behind_small x is))
 
 -- ---- the four kinds of lines
 pub take_is_line : (form : Form) (x : Name) → IsName x → IsLine (take_line form x)
-take_is_line form x is = joined (codes "take ") (taken_text form x) (plain_line (codes "take ") refl) (taken_line form x is)
+take_is_line form x is = joined (codes "take ") (taken_text form x) (plain_line (codes "take ") refl)
+    (taken_line form x is)
 
 pub round_is_line : (round : ℕ) → round < 2 ^ 32 → IsLine (round_line round)
-round_is_line round small = joined (codes "round ") (decimal round) (plain_line (codes "round ") refl) (decimal_line round small)
+round_is_line round small = joined (codes "round ") (decimal round) (plain_line (codes "round ") refl)
+    (decimal_line round small)
 
 pub go_is_line : (machine : ℕ) → machine < 256 → IsLine (go_line machine)
-go_is_line machine small = joined (codes "go ") (decimal machine) (plain_line (codes "go ") refl) (decimal_line machine (wide machine small))
+go_is_line machine small = joined (codes "go ") (decimal machine) (plain_line (codes "go ") refl)
+    (decimal_line machine (wide machine small))
 
 pub header_is_line : (form : Form) (machines : ℕ) → machines ≤ most_machines form → IsLine (header_line form machines)
 header_is_line Whole machines few =
     let small : machines ≤ 16 = few in
-    joined (codes "schedule 1 machines ") (decimal machines) (plain_line (codes "schedule 1 machines ") refl) (decimal_line machines (omega arith))
+    joined (codes "schedule 1 machines ") (decimal machines) (plain_line (codes "schedule 1 machines ") refl)
+    (decimal_line machines (omega arith))
 header_is_line Roundless machines few =
     let small : machines ≤ 64 = few in
-    joined (codes "schedule 2 machines ") (decimal machines) (plain_line (codes "schedule 2 machines ") refl) (decimal_line machines (omega arith))
+    joined (codes "schedule 2 machines ") (decimal machines) (plain_line (codes "schedule 2 machines ") refl)
+    (decimal_line machines (omega arith))

@@ -45,12 +45,14 @@ pub no_header :
 no_header line Whole machines r s f e g h is = none_some r machines e (f machines is)
 no_header line Roundless machines r s f e g h is = none_some s machines h (g machines is)
 
-pub not_whole : (line : List ℕ) (form : Form) (machines : ℕ) (r : Option ℕ) → ((m : ℕ) → IsHeader Whole m line → r ≡ Some m) → r ≡ None → IsHeader form machines line → Roundless ≡ form
+pub not_whole : (line : List ℕ) (form : Form) (machines : ℕ) (r : Option ℕ) →
+    ((m : ℕ) → IsHeader Whole m line → r ≡ Some m) → r ≡ None → IsHeader form machines line → Roundless ≡ form
 not_whole line Whole machines r f e is = absurd (none_some r machines e (f machines is))
 not_whole line Roundless machines r f e is = refl
 
 -- ---- lines of a text
-pub first_line : (line : List ℕ) (lines : List (List ℕ)) (rest : List ℕ) → text_of (line ∷ lines) ++ rest ≡ line ++ 10 ∷ (text_of lines ++ rest)
+pub first_line : (line : List ℕ) (lines : List (List ℕ)) (rest : List ℕ) → text_of (line ∷ lines) ++ rest ≡ line ++ 10
+    ∷ (text_of lines ++ rest)
 first_line line lines rest = append_assoc line (10 ∷ text_of lines) rest
 
 go_not_take : (line : List ℕ) (m : ℕ) (form : Form) (x : Name) → line ≡ go_line m → line ≡ take_line form x → ⊥
@@ -61,7 +63,8 @@ go_not_round : (line : List ℕ) (m round : ℕ) → line ≡ go_line m → line
 go_not_round line m round a b =
     never 103 114 refl (ap (λ t. get_or t 0 0) (sym a ∙ b))
 
-round_not_take : (line : List ℕ) (round : ℕ) (form : Form) (x : Name) → line ≡ round_line round → line ≡ take_line form x → ⊥
+round_not_take : (line : List ℕ) (round : ℕ) (form : Form) (x : Name) → line ≡ round_line round →
+    line ≡ take_line form x → ⊥
 round_not_take line round form x a b =
     never 114 116 refl (ap (λ t. get_or t 0 0) (sym a ∙ b))
 
@@ -73,10 +76,12 @@ held_lines Roundless held x for = ap (λ b. if b then [] else round_line x.round
 told_lines : (held : ℕ) (x : Name) → x.round ≢ held → round_lines Roundless held x.round ≡ round_line x.round ∷ []
 told_lines held x ne = ap (λ b. if b then [] else round_line x.round ∷ []) (ne_eqb held x.round (λ e. ne (sym e)))
 
-pub held_take : (form : Form) (held : ℕ) (x : Name) → IsRoundFor form held x → take_lines form held x ≡ take_line form x ∷ []
+pub held_take : (form : Form) (held : ℕ) (x : Name) → IsRoundFor form held x →
+    take_lines form held x ≡ take_line form x ∷ []
 held_take form held x for = ap (λ ls. ls ++ take_line form x ∷ []) (held_lines form held x for)
 
-pub told_take : (form : Form) (held round : ℕ) (x : Name) (line : List ℕ) → TellsRound form held round line → IsRoundFor form round x → take_lines form held x ≡ line ∷ take_line form x ∷ []
+pub told_take : (form : Form) (held round : ℕ) (x : Name) (line : List ℕ) → TellsRound form held round line →
+    IsRoundFor form round x → take_lines form held x ≡ line ∷ take_line form x ∷ []
 told_take Whole held round x line told for = absurd told
 told_take Roundless held round x line told for =
     let other : x.round ≢ held = λ e. told.0 (sym for ∙ e) in
@@ -84,7 +89,8 @@ told_take Roundless held round x line told for =
     ap (λ ls. ls ++ take_line Roundless x ∷ []) (told_lines held x other ∙ ap (λ l. l ∷ []) said)
 
 -- of the round that is held
-pub held_spelled : (form : Form) (held : ℕ) (x : Name) (line behind : List ℕ) → IsRoundFor form held x → line ≡ take_line form x → line ++ 10 ∷ behind ≡ text_of (take_lines form held x) ++ behind
+pub held_spelled : (form : Form) (held : ℕ) (x : Name) (line behind : List ℕ) → IsRoundFor form held x →
+    line ≡ take_line form x → line ++ 10 ∷ behind ≡ text_of (take_lines form held x) ++ behind
 held_spelled form held x line behind for e =
     ap (λ l. l ++ 10 ∷ behind) e
     ∙ sym (ap (λ ls. text_of ls ++ behind) (held_take form held x for) ∙ first_line (take_line form x) [] behind)
@@ -121,7 +127,8 @@ held_case :
     line ++ 10 ∷ behind ≡ text_of (take_lines form held x) ++ rest →
     IsHeldTake form held x line behind rest
 held_case form held x line behind rest is plain for e =
-    let same = same_line line (take_line form x) behind rest plain (take_is_line form x is) (e ∙ (ap (λ ls. text_of ls ++ rest) (held_take form held x for) ∙ first_line (take_line form x) [] rest)) in
+    let same = same_line line (take_line form x) behind rest plain (take_is_line form x is)
+    (e ∙ (ap (λ ls. text_of ls ++ rest) (held_take form held x for) ∙ first_line (take_line form x) [] rest)) in
     record { for = for; spelled = same.0; left = same.1 }
 
 told_case :
@@ -132,9 +139,12 @@ told_case :
     line ++ 10 ∷ behind ≡ text_of (take_lines Roundless held x) ++ rest →
     IsToldTake Roundless held x line behind rest
 told_case held x line behind rest is plain other e =
-    let lines : take_lines Roundless held x ≡ round_line x.round ∷ take_line Roundless x ∷ [] = ap (λ ls. ls ++ take_line Roundless x ∷ []) (told_lines held x other) in
-    let whole = e ∙ (ap (λ ls. text_of ls ++ rest) lines ∙ first_line (round_line x.round) (take_line Roundless x ∷ []) rest) in
-    let same = same_line line (round_line x.round) behind (text_of (take_line Roundless x ∷ []) ++ rest) plain (round_is_line x.round is.round) whole in
+    let lines : take_lines Roundless held x ≡ round_line x.round ∷ take_line Roundless x ∷ [] =
+    ap (λ ls. ls ++ take_line Roundless x ∷ []) (told_lines held x other) in
+    let whole = e ∙ (ap (λ ls. text_of ls ++ rest) lines
+    ∙ first_line (round_line x.round) (take_line Roundless x ∷ []) rest) in
+    let same = same_line line (round_line x.round) behind (text_of (take_line Roundless x ∷ []) ++ rest) plain
+    (round_is_line x.round is.round) whole in
     record { told = (other, same.0); for = refl; left = same.1 ∙ first_line (take_line Roundless x) [] rest }
 
 pub take_cases :
@@ -146,7 +156,8 @@ pub take_cases :
 take_cases Whole held x line behind rest is plain e = inl (held_case Whole held x line behind rest is plain tt e)
 take_cases Roundless held x line behind rest is plain e =
     ⊎_elim
-    (λ (same : (x.round == held) ≡ true). inl (held_case Roundless held x line behind rest is plain (eqb-true x.round held same) e))
+    (λ (same : (x.round == held) ≡ true). inl
+    (held_case Roundless held x line behind rest is plain (eqb-true x.round held same) e))
     (λ (other : (x.round == held) ≡ false). inr (told_case held x line behind rest is plain (apart other) e))
     (cases_Bool (x.round == held))
   where
@@ -168,10 +179,12 @@ pub held_found :
 held_found form held x line behind rest r is plain found none e =
     ⊎_elim
     (λ (held_so : IsHeldTake form held x line behind rest). held_so)
-    (λ (told : IsToldTake form held x line behind rest). absurd (none_some r x.round none (found x.round is.round told.told)))
+    (λ (told : IsToldTake form held x line behind rest).
+    absurd (none_some r x.round none (found x.round is.round told.told)))
     (take_cases form held x line behind rest is plain e)
 
-told_not_held : (form : Form) (held round : ℕ) (x : Name) (line : List ℕ) → TellsRound form held round line → line ≡ take_line form x → ⊥
+told_not_held : (form : Form) (held round : ℕ) (x : Name) (line : List ℕ) → TellsRound form held round line →
+    line ≡ take_line form x → ⊥
 told_not_held Whole held round x line told e = told
 told_not_held Roundless held round x line told e = round_not_take line round Roundless x told.1 e
 
@@ -194,14 +207,16 @@ told_found form held round x line behind rest r is plain told found some e =
     (take_cases form held x line behind rest is plain e)
 
 -- a line that says that a machine goes begins no take
-pub go_no_take : (form : Form) (held m : ℕ) (x : Name) (line behind rest : List ℕ) → IsName x → IsLine line → line ≡ go_line m → line ++ 10 ∷ behind ≡ text_of (take_lines form held x) ++ rest → ⊥
+pub go_no_take : (form : Form) (held m : ℕ) (x : Name) (line behind rest : List ℕ) → IsName x → IsLine line →
+    line ≡ go_line m → line ++ 10 ∷ behind ≡ text_of (take_lines form held x) ++ rest → ⊥
 go_no_take form held m x line behind rest is plain go e =
     ⊎_elim
     (λ (so : IsHeldTake form held x line behind rest). go_not_take line m form x go so.spelled)
     (λ (so : IsToldTake form held x line behind rest). told_no_go form held m x line so.told go)
     (take_cases form held x line behind rest is plain e)
   where
-    told_no_go : (form : Form) (held m : ℕ) (x : Name) (line : List ℕ) → TellsRound form held x.round line → line ≡ go_line m → ⊥
+    told_no_go : (form : Form) (held m : ℕ) (x : Name) (line : List ℕ) → TellsRound form held x.round line →
+        line ≡ go_line m → ⊥
     told_no_go Whole held m x line told go = told
     told_no_go Roundless held m x line told go = go_not_round line m x.round go told.1
 
@@ -216,13 +231,30 @@ pub record HasLine (text : List ℕ) : Type 0 where
   pub spelled : text ≡ line ++ 10 ∷ left
 
 -- an event begins with a line
-pub event_has_line : (form : Form) (held : ℕ) (event : Event) (rest text : List ℕ) → IsEvent event → text ≡ text_of (event_lines form held event) ++ rest → HasLine text
-event_has_line form held (Go m) rest text is e = record { line = go_line m; left = rest; plain = go_is_line m is; spelled = e ∙ first_line (go_line m) [] rest }
-event_has_line Whole held (Take x) rest text is e = record { line = take_line Whole x; left = rest; plain = take_is_line Whole x is; spelled = e ∙ first_line (take_line Whole x) [] rest }
+pub event_has_line : (form : Form) (held : ℕ) (event : Event) (rest text : List ℕ) → IsEvent event →
+    text ≡ text_of (event_lines form held event) ++ rest → HasLine text
+event_has_line form held (Go m) rest text is e = record {
+  line = go_line m;
+  left = rest;
+  plain = go_is_line m is;
+  spelled = e ∙ first_line (go_line m) [] rest;
+}
+event_has_line Whole held (Take x) rest text is e = record {
+  line = take_line Whole x;
+  left = rest;
+  plain = take_is_line Whole x is;
+  spelled = e ∙ first_line (take_line Whole x) [] rest;
+}
 event_has_line Roundless held (Take x) rest text is e = by_round (held == x.round) e
   where
-    by_round : (b : Bool) → text ≡ text_of ((if b then [] else round_line x.round ∷ []) ++ take_line Roundless x ∷ []) ++ rest → HasLine text
-    by_round true e = record { line = take_line Roundless x; left = rest; plain = take_is_line Roundless x is; spelled = e ∙ first_line (take_line Roundless x) [] rest }
+    by_round : (b : Bool) → text ≡ text_of ((if b then [] else round_line x.round ∷ []) ++ take_line Roundless x ∷ [])
+        ++ rest → HasLine text
+    by_round true e = record {
+      line = take_line Roundless x;
+      left = rest;
+      plain = take_is_line Roundless x is;
+      spelled = e ∙ first_line (take_line Roundless x) [] rest;
+    }
     by_round false e = record {
       line = round_line x.round;
       left = text_of (take_line Roundless x ∷ []) ++ rest;
@@ -241,9 +273,11 @@ pub go_found :
     text ≡ text_of (event_lines form held event) ++ rest →
     (Go m ≡ event) × (behind ≡ rest)
 go_found form held m (Go q) line behind rest text is plain go t found e =
-    let same = same_line line (go_line q) behind rest plain (go_is_line q is) (sym t ∙ (e ∙ first_line (go_line q) [] rest)) in
+    let same = same_line line (go_line q) behind rest plain (go_is_line q is)
+    (sym t ∙ (e ∙ first_line (go_line q) [] rest)) in
     (ap Go (some_same m q (found q is same.0)), same.1)
-go_found form held m (Take x) line behind rest text is plain go t found e = absurd (go_no_take form held m x line behind rest is plain go (sym t ∙ e))
+go_found form held m (Take x) line behind rest text is plain go t found e = absurd
+    (go_no_take form held m x line behind rest is plain go (sym t ∙ e))
 
 -- where the first line says no machine, and no take stands at the front
 pub no_event :
@@ -257,6 +291,7 @@ pub no_event :
     text ≡ text_of (event_lines form held event) ++ rest →
     ⊥
 no_event form held (Go q) line behind rest text r is plain t found none takes e =
-    let same = same_line line (go_line q) behind rest plain (go_is_line q is) (sym t ∙ (e ∙ first_line (go_line q) [] rest)) in
+    let same = same_line line (go_line q) behind rest plain (go_is_line q is)
+    (sym t ∙ (e ∙ first_line (go_line q) [] rest)) in
     none_some r q none (found q is same.0)
 no_event form held (Take x) line behind rest text r is plain t found none takes e = takes x rest is (sym t ∙ e)

@@ -18,7 +18,8 @@ pub record Says (text : List ℕ) (machines : ℕ) (events : List Event) : Type 
 -- no first line stands at the front
 pub record HasNoHeader (text : List ℕ) : Type 0 where
   pub fits : length text ≤ SCHEDULE_BYTES
-  pub none : (form : Form) (machines : ℕ) (rest : List ℕ) → 1 ≤ machines → machines ≤ most_machines form → text ≢ header_line form machines ++ 10 ∷ rest
+  pub none : (form : Form) (machines : ℕ) (rest : List ℕ) → 1 ≤ machines → machines ≤ most_machines form →
+      text ≢ header_line form machines ++ 10 ∷ rest
 
 -- where a round is held, something stands at the front, and not the lines of an event
 pub record HasNoEvent (form : Form) (held : ℕ) (rest : List ℕ) : Type 0 where

@@ -58,7 +58,8 @@ last_round held (event ∷ events) = last_round (round_after held event) events
 
 abbrev pub events_lines : Form → ℕ → List Event → List (List ℕ)
 events_lines form held [] = []
-events_lines form held (event ∷ events) = event_lines form held event ++ events_lines form (round_after held event) events
+events_lines form held (event ∷ events) = event_lines form held event
+    ++ events_lines form (round_after held event) events
 
 -- round 0 is held at first
 abbrev pub schedule_lines : Form → ℕ → List Event → List (List ℕ)

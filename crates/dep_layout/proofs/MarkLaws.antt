@@ -67,20 +67,35 @@ pub pairs-mark_bytes : (marks : List Mark) → IsPairsOf marks
 pairs-mark_bytes [] = record { front = refl; behind = refl; count = refl }
 pairs-mark_bytes (a ∷ []) =
     let e = one_pair (bits_of a) (below_four a) in
-    record { front = ap (λ ps. take 1 (ps ++ [])) e; behind = ap (λ ps. list_any is_set (drop 1 (ps ++ []))) e; count = refl }
+    record {
+      front = ap (λ ps. take 1 (ps ++ [])) e;
+      behind = ap (λ ps. list_any is_set (drop 1 (ps ++ []))) e;
+      count = refl;
+    }
 pairs-mark_bytes (a ∷ b ∷ []) =
     let e = two_pairs (bits_of a) (bits_of b) (below_four a) (below_four b) in
-    record { front = ap (λ ps. take 2 (ps ++ [])) e; behind = ap (λ ps. list_any is_set (drop 2 (ps ++ []))) e; count = refl }
+    record {
+      front = ap (λ ps. take 2 (ps ++ [])) e;
+      behind = ap (λ ps. list_any is_set (drop 2 (ps ++ []))) e;
+      count = refl;
+    }
 pairs-mark_bytes (a ∷ b ∷ c ∷ []) =
     let e = three_pairs (bits_of a) (bits_of b) (bits_of c) (below_four a) (below_four b) (below_four c) in
-    record { front = ap (λ ps. take 3 (ps ++ [])) e; behind = ap (λ ps. list_any is_set (drop 3 (ps ++ []))) e; count = refl }
+    record {
+      front = ap (λ ps. take 3 (ps ++ [])) e;
+      behind = ap (λ ps. list_any is_set (drop 3 (ps ++ []))) e;
+      count = refl;
+    }
 pairs-mark_bytes (a ∷ b ∷ c ∷ d ∷ marks) =
-    let e = four_pairs (bits_of a) (bits_of b) (bits_of c) (bits_of d) (below_four a) (below_four b) (below_four c) (below_four d) in
+    let e = four_pairs (bits_of a) (bits_of b) (bits_of c) (bits_of d) (below_four a) (below_four b) (below_four c)
+    (below_four d) in
     let rest = pairs-mark_bytes marks in
     let n = length marks in
     record {
-      front = ap (λ ps. take (suc (suc (suc (suc n)))) (ps ++ pairs_in (mark_bytes marks))) e ∙ ap (λ ps. bits_of a ∷ bits_of b ∷ bits_of c ∷ bits_of d ∷ ps) rest.front;
-      behind = ap (λ ps. list_any is_set (drop (suc (suc (suc (suc n)))) (ps ++ pairs_in (mark_bytes marks)))) e ∙ rest.behind;
+      front = ap (λ ps. take (suc (suc (suc (suc n)))) (ps ++ pairs_in (mark_bytes marks))) e
+          ∙ ap (λ ps. bits_of a ∷ bits_of b ∷ bits_of c ∷ bits_of d ∷ ps) rest.front;
+      behind = ap (λ ps. list_any is_set (drop (suc (suc (suc (suc n)))) (ps ++ pairs_in (mark_bytes marks)))) e
+          ∙ rest.behind;
       count = more_marks _ n rest.count;
     }
   where
@@ -91,21 +106,50 @@ not_set : (pair : ℕ) → is_set pair ≡ false → pair ≡ 0
 not_set pair e = eqb-true pair 0 (not-false (eqb pair 0) e)
 
 -- a byte whose pairs are those of marks, and 0 behind them
-last_one : (b : ℕ) → b < 256 → is_both (b % 4) ≡ false → is_set (b / 4 % 4) ≡ false → is_set (b / 16 % 4) ≡ false → is_set (b / 64 % 4) ≡ false →
+last_one : (b : ℕ) → b < 256 → is_both (b % 4) ≡ false → is_set (b / 4 % 4) ≡ false → is_set (b / 16 % 4) ≡ false →
+    is_set (b / 64 % 4) ≡ false →
     bits_of (mark_with (b % 4)) ≡ b
-last_one b f o z1 z2 z3 = omega (arith, bits-mark_with (b % 4) (omega arith) o, not_set _ z1, not_set _ z2, not_set _ z3)
+last_one b f o z1 z2 z3 = omega (
+  arith,
+  bits-mark_with (b % 4) (omega arith) o,
+  not_set _ z1,
+  not_set _ z2,
+  not_set _ z3,
+)
 
-last_two : (b : ℕ) → b < 256 → is_both (b % 4) ≡ false → is_both (b / 4 % 4) ≡ false → is_set (b / 16 % 4) ≡ false → is_set (b / 64 % 4) ≡ false →
+last_two : (b : ℕ) → b < 256 → is_both (b % 4) ≡ false → is_both (b / 4 % 4) ≡ false → is_set (b / 16 % 4) ≡ false →
+    is_set (b / 64 % 4) ≡ false →
     bits_of (mark_with (b % 4)) + 4 * bits_of (mark_with (b / 4 % 4)) ≡ b
-last_two b f o p z2 z3 = omega (arith, bits-mark_with (b % 4) (omega arith) o, bits-mark_with (b / 4 % 4) (omega arith) p, not_set _ z2, not_set _ z3)
+last_two b f o p z2 z3 = omega (
+  arith,
+  bits-mark_with (b % 4) (omega arith) o,
+  bits-mark_with (b / 4 % 4) (omega arith) p,
+  not_set _ z2,
+  not_set _ z3,
+)
 
-last_three : (b : ℕ) → b < 256 → is_both (b % 4) ≡ false → is_both (b / 4 % 4) ≡ false → is_both (b / 16 % 4) ≡ false → is_set (b / 64 % 4) ≡ false →
+last_three : (b : ℕ) → b < 256 → is_both (b % 4) ≡ false → is_both (b / 4 % 4) ≡ false → is_both (b / 16 % 4) ≡ false
+    → is_set (b / 64 % 4) ≡ false →
     bits_of (mark_with (b % 4)) + 4 * bits_of (mark_with (b / 4 % 4)) + 16 * bits_of (mark_with (b / 16 % 4)) ≡ b
-last_three b f o p q z3 = omega (arith, bits-mark_with (b % 4) (omega arith) o, bits-mark_with (b / 4 % 4) (omega arith) p, bits-mark_with (b / 16 % 4) (omega arith) q, not_set _ z3)
+last_three b f o p q z3 = omega (
+  arith,
+  bits-mark_with (b % 4) (omega arith) o,
+  bits-mark_with (b / 4 % 4) (omega arith) p,
+  bits-mark_with (b / 16 % 4) (omega arith) q,
+  not_set _ z3,
+)
 
-whole_byte : (b : ℕ) → b < 256 → is_both (b % 4) ≡ false → is_both (b / 4 % 4) ≡ false → is_both (b / 16 % 4) ≡ false → is_both (b / 64 % 4) ≡ false →
-    bits_of (mark_with (b % 4)) + 4 * bits_of (mark_with (b / 4 % 4)) + 16 * bits_of (mark_with (b / 16 % 4)) + 64 * bits_of (mark_with (b / 64 % 4)) ≡ b
-whole_byte b f o p q r = omega (arith, bits-mark_with (b % 4) (omega arith) o, bits-mark_with (b / 4 % 4) (omega arith) p, bits-mark_with (b / 16 % 4) (omega arith) q, bits-mark_with (b / 64 % 4) (omega arith) r)
+whole_byte : (b : ℕ) → b < 256 → is_both (b % 4) ≡ false → is_both (b / 4 % 4) ≡ false → is_both (b / 16 % 4) ≡ false
+    → is_both (b / 64 % 4) ≡ false →
+    bits_of (mark_with (b % 4)) + 4 * bits_of (mark_with (b / 4 % 4)) + 16 * bits_of (mark_with (b / 16 % 4)) + 64
+    * bits_of (mark_with (b / 64 % 4)) ≡ b
+whole_byte b f o p q r = omega (
+  arith,
+  bits-mark_with (b % 4) (omega arith) o,
+  bits-mark_with (b / 4 % 4) (omega arith) p,
+  bits-mark_with (b / 16 % 4) (omega arith) q,
+  bits-mark_with (b / 64 % 4) (omega arith) r,
+)
 
 -- bytes whose pairs are those of marks are the bytes of these marks
 pub mark_bytes-pairs : (n : ℕ) (bytes : List ℕ) → All (λ b. b < 256) bytes → length bytes ≡ mark_len n →

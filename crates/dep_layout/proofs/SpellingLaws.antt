@@ -14,7 +14,8 @@ use Rattle.dep_layout.proofs.WordLaws.{AreBelow, drop_below}
 use Rattle.dep_layout.proofs.StateLaws.{pairs_from, bytes-states_in, states_again, length-sent, typed-sent, none_both, states-states_in, length-states_in, marks-states_in}
 
 -- a test that didn't refuse
-pub passed : {X : Type 0} (b : Bool) (fault : X) (rest : Option X) → cond b (Some fault) rest ≡ None → (b ≡ false) × (rest ≡ None)
+pub passed : {X : Type 0} (b : Bool) (fault : X) (rest : Option X) → cond b (Some fault) rest ≡ None → (b ≡ false) ×
+    (rest ≡ None)
 passed true fault rest e = cc
 passed false fault rest e = (refl, e)
 
@@ -25,7 +26,8 @@ pub record AreSound (width bools vertices : ℕ) (marks words : List ℕ) : Type
   pub count : length words ≡ 8 * width * started (take vertices (pairs_in marks))
   pub typed : list_all (are_typed bools) (rows_in width (started (take vertices (pairs_in marks))) words) ≡ true
 
-pub sound_parts : (width bools vertices : ℕ) (marks words : List ℕ) → refusal_of_parts width bools vertices marks words ≡ None → AreSound width bools vertices marks words
+pub sound_parts : (width bools vertices : ℕ) (marks words : List ℕ) →
+    refusal_of_parts width bools vertices marks words ≡ None → AreSound width bools vertices marks words
 sound_parts width bools vertices marks words accepted =
     let a = passed _ Bits _ accepted in
     let b = passed _ Padding _ a.1 in
@@ -33,7 +35,8 @@ sound_parts width bools vertices marks words accepted =
     let d = passed _ NotBool _ c.1 in
     record { one = a.0; behind = b.0; count = eqb-true _ _ (not-false _ c.0); typed = not-false _ d.0 }
 
-pub accepted_parts : (width bools vertices : ℕ) (marks words : List ℕ) → AreSound width bools vertices marks words → refusal_of_parts width bools vertices marks words ≡ None
+pub accepted_parts : (width bools vertices : ℕ) (marks words : List ℕ) → AreSound width bools vertices marks words →
+    refusal_of_parts width bools vertices marks words ≡ None
 accepted_parts width bools vertices marks words sound =
     cond-false _ _ _ sound.one
     ∙ cond-false _ _ _ sound.behind
@@ -46,7 +49,8 @@ record HasParts (vertices : ℕ) (body : List ℕ) (states : List State) : Type 
   marks : take (mark_len vertices) body ≡ mark_bytes (map mark_of states)
   words : drop (mark_len vertices) body ≡ flat_map sent_bytes states
 
-parts_of : (width vertices bools : ℕ) (body : List ℕ) (states : List State) → Spells width vertices bools body states → HasParts vertices body states
+parts_of : (width vertices bools : ℕ) (body : List ℕ) (states : List State) → Spells width vertices bools body states
+    → HasParts vertices body states
 parts_of width vertices bools body states spells =
     let front = mark_bytes (map mark_of states) in
     let behind = flat_map sent_bytes states in
@@ -59,25 +63,30 @@ parts_of width vertices bools body states spells =
     }
 
 -- the pairs of a body that spells states
-pairs_are : (vertices : ℕ) (body : List ℕ) (states : List State) → length states ≡ vertices → HasParts vertices body states →
+pairs_are : (vertices : ℕ) (body : List ℕ) (states : List State) → length states ≡ vertices →
+    HasParts vertices body states →
     take vertices (pairs_in (take (mark_len vertices) body)) ≡ pairs_from states
 pairs_are vertices body states count parts =
     ap (λ marks. take vertices (pairs_in marks)) parts.marks
     ∙ ap (λ n. take n (pairs_in (mark_bytes (map mark_of states)))) (sym (length-map states mark_of ∙ count))
     ∙ (pairs-mark_bytes (map mark_of states)).front
 
-none_behind : (vertices : ℕ) (body : List ℕ) (states : List State) → length states ≡ vertices → HasParts vertices body states →
+none_behind : (vertices : ℕ) (body : List ℕ) (states : List State) → length states ≡ vertices →
+    HasParts vertices body states →
     list_any is_set (drop vertices (pairs_in (take (mark_len vertices) body))) ≡ false
 none_behind vertices body states count parts =
     ap (λ marks. list_any is_set (drop vertices (pairs_in marks))) parts.marks
-    ∙ ap (λ n. list_any is_set (drop n (pairs_in (mark_bytes (map mark_of states))))) (sym (length-map states mark_of ∙ count))
+    ∙ ap (λ n. list_any is_set (drop n (pairs_in (mark_bytes (map mark_of states)))))
+    (sym (length-map states mark_of ∙ count))
     ∙ (pairs-mark_bytes (map mark_of states)).behind
 
 -- a body that spells states is read as these
-pub read_again : (width vertices bools : ℕ) (body : List ℕ) (states : List State) → Spells width vertices bools body states → read_of width vertices body ≡ states
+pub read_again : (width vertices bools : ℕ) (body : List ℕ) (states : List State) →
+    Spells width vertices bools body states → read_of width vertices body ≡ states
 read_again width vertices bools body states spells =
     let parts = parts_of width vertices bools body states spells in
-    ap (λ pairs. states_in width pairs (drop (mark_len vertices) body)) (pairs_are vertices body states spells.count parts)
+    ap (λ pairs. states_in width pairs (drop (mark_len vertices) body))
+    (pairs_are vertices body states spells.count parts)
     ∙ ap (λ words. states_in width (pairs_from states) words) parts.words
     ∙ states_again width bools states spells.each
 
@@ -88,7 +97,8 @@ spelled_law width vertices bools body states spells =
     let sound : AreSound width bools vertices (take (mark_len vertices) body) (drop (mark_len vertices) body) = record {
       one = ap (λ ps. list_any is_both ps) pairs ∙ none_both (map mark_of states);
       behind = none_behind vertices body states spells.count parts;
-      count = ap length parts.words ∙ length-sent width bools states spells.each ∙ ap (λ ps. 8 * width * started ps) (sym pairs);
+      count = ap length parts.words ∙ length-sent width bools states spells.each
+          ∙ ap (λ ps. 8 * width * started ps) (sym pairs);
       typed = ap (λ ps. list_all (are_typed bools) (rows_in width (started ps) (drop (mark_len vertices) body))) pairs
           ∙ ap (λ words. list_all (are_typed bools) (rows_in width (started (pairs_from states)) words)) parts.words
           ∙ typed-sent width bools states spells.each;
@@ -96,11 +106,13 @@ spelled_law width vertices bools body states spells =
     cond-false _ _ _ (le-ltb _ _ parts.enough) ∙ accepted_parts width bools vertices _ _ sound
 
 pub once_law : SpelledOnce
-once_law width vertices bools body a b one other = sym (read_again width vertices bools body a one) ∙ read_again width vertices bools body b other
+once_law width vertices bools body a b one other = sym (read_again width vertices bools body a one)
+    ∙ read_again width vertices bools body b other
 
 pub back_law : ReadsBack
 back_law width bools states each =
-    let spells : Spells width (length states) bools (spelled states) states = record { count = refl; each = each; spells = refl } in (
+    let spells : Spells width (length states) bools (spelled states) states =
+    record { count = refl; each = each; spells = refl } in (
       spelled_law width (length states) bools (spelled states) states spells,
       λ others same. once_law width (length states) bools (spelled states) others states same spells,
     )
@@ -115,25 +127,32 @@ below_from_All bytes fits i =
     ]
 
 -- a body that isn't refused spells what it is read as
-pub accepted_spells : (width vertices bools : ℕ) (body : List ℕ) → AreBytes body → refusal_of width vertices bools body ≡ None → Spells width vertices bools body (read_of width vertices body)
+pub accepted_spells : (width vertices bools : ℕ) (body : List ℕ) → AreBytes body →
+    refusal_of width vertices bools body ≡ None → Spells width vertices bools body (read_of width vertices body)
 accepted_spells width vertices bools body fits accepted =
     let marks = take (mark_len vertices) body in
     let words = drop (mark_len vertices) body in
     let first = passed _ Length _ accepted in
     let enough : mark_len vertices ≤ length body = ltb-false _ _ first.0 in
-    let sound = sound_parts width bools vertices (take (mark_len vertices) body) (drop (mark_len vertices) body) first.1 in
+    let sound = sound_parts width bools vertices (take (mark_len vertices) body) (drop (mark_len vertices) body)
+    first.1 in
     let pairs = take vertices (pairs_in (take (mark_len vertices) body)) in
-    let mark_count : length (take (mark_len vertices) body) ≡ mark_len vertices = length-take-le (mark_len vertices) body enough in
+    let mark_count : length (take (mark_len vertices) body) ≡ mark_len vertices =
+    length-take-le (mark_len vertices) body enough in
     let pair_count : length (take vertices (pairs_in (take (mark_len vertices) body))) ≡ vertices =
-    length-take-le vertices (pairs_in (take (mark_len vertices) body)) (omega (arith, length-pairs (take (mark_len vertices) body), mark_count)) in
-    let room : 8 * width * started (take vertices (pairs_in (take (mark_len vertices) body))) ≤ length (drop (mark_len vertices) body) = omega (arith, sound.count) in
+    length-take-le vertices (pairs_in (take (mark_len vertices) body))
+    (omega (arith, length-pairs (take (mark_len vertices) body), mark_count)) in
+    let room : 8 * width * started (take vertices (pairs_in (take (mark_len vertices) body)))
+    ≤ length (drop (mark_len vertices) body) = omega (arith, sound.count) in
     let words_back : flat_map sent_bytes (states_in width pairs words) ≡ words =
     sym (append-nil (flat_map sent_bytes (states_in width pairs words)))
-    ∙ ap (λ end. flat_map sent_bytes (states_in width pairs words) ++ end) (sym (drop_all (8 * width * started pairs) words (omega (arith, sound.count))))
+    ∙ ap (λ end. flat_map sent_bytes (states_in width pairs words) ++ end)
+    (sym (drop_all (8 * width * started pairs) words (omega (arith, sound.count))))
     ∙ bytes-states_in width pairs words room (drop_below (mark_len vertices) body (below_from_All body fits)) in
     let marks_back : mark_bytes (map mark_of (states_in width pairs words)) ≡ marks =
     ap mark_bytes (marks-states_in width pairs words)
-    ∙ mark_bytes-pairs vertices marks (All-take (λ b. b < 256) (mark_len vertices) body fits) mark_count sound.one sound.behind in
+    ∙ mark_bytes-pairs vertices marks (All-take (λ b. b < 256) (mark_len vertices) body fits) mark_count sound.one
+    sound.behind in
     record {
       count = length-states_in width pairs words ∙ pair_count;
       each = states-states_in width bools pairs words sound.typed;
@@ -143,7 +162,10 @@ accepted_spells width vertices bools body fits accepted =
     }
 
 pub accepted_law : AcceptedIsSpelled
-accepted_law width vertices bools body fits accepted = (read_of width vertices body, accepted_spells width vertices bools body fits accepted)
+accepted_law width vertices bools body fits accepted = (
+  read_of width vertices body,
+  accepted_spells width vertices bools body fits accepted,
+)
 
 -- what holds of a result holds of one that follows from it
 pub ok_more : {T E : Type 0} (r : Result T E) (P Q : T → Type 0) → ((x : T) → P x → Q x) → IfOk r P → IfOk r Q

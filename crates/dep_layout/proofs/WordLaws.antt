@@ -21,7 +21,8 @@ drop_below n bytes fits i = let P : ℕ → Type 0 = λ x. x < 256 in subst P (s
 pub eight_bytes : (bytes : List ℕ) → length bytes ≡ 8 → AreBelow bytes → word_bytes (word_of bytes) ≡ bytes
 unfolding word_bytes word_of
 eight_bytes bytes count fits =
-    let below : from_le_bytes w64 bytes < 2 ^ 64 = omega (arith, fits 0, fits 1, fits 2, fits 3, fits 4, fits 5, fits 6, fits 7) in
+    let below : from_le_bytes w64 bytes < 2 ^ 64 =
+    omega (arith, fits 0, fits 1, fits 2, fits 3, fits 4, fits 5, fits 6, fits 7) in
     le_bytes_8 bytes _ count fits (of_z-to_z w64 (from_le_bytes w64 bytes) below)
 
 pub length-word_bytes : (word : ℤ) → length (word_bytes word) ≡ 8
@@ -54,7 +55,8 @@ further n bytes =
     ap (λ k. drop k bytes) e ∙ sym (drop-drop (8 * n) 8 bytes)
 
 -- the words that are read spell the bytes that were read
-pub bytes-words_in : (n : ℕ) (bytes : List ℕ) → 8 * n ≤ length bytes → AreBelow bytes → flat_map word_bytes (words_in n bytes) ++ drop (8 * n) bytes ≡ bytes
+pub bytes-words_in : (n : ℕ) (bytes : List ℕ) → 8 * n ≤ length bytes → AreBelow bytes →
+    flat_map word_bytes (words_in n bytes) ++ drop (8 * n) bytes ≡ bytes
 bytes-words_in zero bytes room fits = refl
 bytes-words_in (suc n) bytes room fits =
     let front = word_bytes (word_of (take 8 bytes)) in
@@ -68,14 +70,17 @@ bytes-words_in (suc n) bytes room fits =
     ∙ take-append-drop 8 bytes
 
 -- words are read from the bytes that they spell
-pub words_again : (words : List ℤ) (rest : List ℕ) → AllByRecursion (FitsSigned w64) words → words_in (length words) (flat_map word_bytes words ++ rest) ≡ words
+pub words_again : (words : List ℤ) (rest : List ℕ) → AllByRecursion (FitsSigned w64) words →
+    words_in (length words) (flat_map word_bytes words ++ rest) ≡ words
 words_again [] rest fits = refl
 words_again (word ∷ words) rest fits =
     let front = word_bytes word in
     let behind = flat_map word_bytes words ++ rest in
     let n = length words in
-    ap (λ bytes. word_of (take 8 bytes) ∷ words_in n (drop 8 bytes)) (append_assoc front (flat_map word_bytes words) rest)
-    ∙ ap (λ bytes. word_of bytes ∷ words_in n (drop 8 (front ++ behind))) (take_at front behind 8 (length-word_bytes word))
+    ap (λ bytes. word_of (take 8 bytes) ∷ words_in n (drop 8 bytes))
+    (append_assoc front (flat_map word_bytes words) rest)
+    ∙ ap (λ bytes. word_of bytes ∷ words_in n (drop 8 (front ++ behind)))
+    (take_at front behind 8 (length-word_bytes word))
     ∙ ap (λ bytes. word_of front ∷ words_in n bytes) (drop_at front behind 8 (length-word_bytes word))
     ∙ ap (λ first. first ∷ words_in n behind) (word_again word fits.0)
     ∙ ap (λ others. word ∷ others) (words_again words rest fits.1)
@@ -83,7 +88,8 @@ words_again (word ∷ words) rest fits =
 pub length-words_bytes : (words : List ℤ) → length (flat_map word_bytes words) ≡ 8 * length words
 length-words_bytes [] = refl
 length-words_bytes (word ∷ words) =
-    length-append (word_bytes word) (flat_map word_bytes words) ∙ omega (arith, length-word_bytes word, length-words_bytes words)
+    length-append (word_bytes word) (flat_map word_bytes words)
+    ∙ omega (arith, length-word_bytes word, length-words_bytes words)
 
 pub length-words_in : (n : ℕ) (bytes : List ℕ) → length (words_in n bytes) ≡ n
 length-words_in zero bytes = refl

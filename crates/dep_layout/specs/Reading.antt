@@ -31,4 +31,5 @@ states_in width (pair ∷ pairs) words =
 
 -- the states that a body is read as
 abbrev pub read_of : ℕ → ℕ → List ℕ → List State
-read_of width vertices body = states_in width (take vertices (pairs_in (take (mark_len vertices) body))) (drop (mark_len vertices) body)
+read_of width vertices body = states_in width (take vertices (pairs_in (take (mark_len vertices) body)))
+    (drop (mark_len vertices) body)

@@ -102,7 +102,8 @@ fn bits_at<const W: usize>(states: &[DepState<W>], vertex: usize) -> u8
 pub(crate) fn mark_byte<const W: usize>(states: &[DepState<W>], vertex: usize) -> u8
     requires within { vertex < length states.now }
     requires few { vertex + 4 < 2 ^ 64 }
-    ensures { mark_bytes (drop vertex (map mark_of (states_of states.now))) ≡ result ∷ mark_bytes (drop (vertex + 4) (map mark_of (states_of states.now))) }
+    ensures { mark_bytes (drop vertex (map mark_of (states_of states.now))) ≡ result
+        ∷ mark_bytes (drop (vertex + 4) (map mark_of (states_of states.now))) }
 {
     bits_at(states, vertex)
         + 4 * bits_at(states, vertex + 1)

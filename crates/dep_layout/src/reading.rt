@@ -21,12 +21,16 @@ pub fn unpack<const W: usize>(
     bools: u8,
 ) -> Result<Vec<DepState<W>>, DepFault>
     requires { W ≤ 8 }
-    ensures found { IfOk result (λ states. Spells W vertices bools body.now (states_of states.items)) }
-    ensures only { IfOk result (λ states. (others : List State) → Spells W vertices bools body.now others → others ≡ states_of states.items) }
+    ensures found { IfOk result (λ states.
+        Spells W vertices bools body.now (states_of states.items)) }
+    ensures only { IfOk result (λ states. (others : List State) →
+        Spells W vertices bools body.now others → others ≡ states_of states.items) }
 
     // A fault is the first one, and comes before memory is asked for. A body without a fault is refused for want alone.
-    ensures refused { (fault : DepFault) → refusal_of W vertices bools body.now ≡ Some fault → result ≡ Err fault }
-    ensures accepted { refusal_of W vertices bools body.now ≡ None → IfErr result (λ fault. fault ≡ DepFault.Want) }
+    ensures refused { (fault : DepFault) → refusal_of W vertices bools body.now ≡ Some fault →
+        result ≡ Err fault }
+    ensures accepted { refusal_of W vertices bools body.now ≡ None →
+        IfErr result (λ fault. fault ≡ DepFault.Want) }
 {
     match fault_of(body, vertices, W, bools) {
         Some(fault) => Err(fault),
@@ -49,7 +53,8 @@ fn read_states<const W: usize>(
     requires marked { vertices ≤ 4 * length marks.now }
     requires enough { 8 * W * started (take vertices (pairs_in marks.now)) ≤ length words.now }
     ensures want { IfErr result (λ fault. fault ≡ DepFault.Want) }
-    ensures states { IfOk result (λ states. states_of states.items ≡ states_in W (take vertices (pairs_in marks.now)) words.now) }
+    ensures states { IfOk result (λ states.
+        states_of states.items ≡ states_in W (take vertices (pairs_in marks.now)) words.now) }
 {
     let mut states = Vec::new(alloc);
     let mut rest = words;

@@ -12,7 +12,8 @@ length-bits [] = refl
 length-bits (b ∷ bs) = let rest = length-bits bs in omega (arith, rest)
 
 -- the bit of a vertex in its byte
-pub bit_is : (bytes : List ℕ) (v : ℕ) → v < 8 * length bytes → bit_and (get_or bytes (v / 8) 0 / 2 ^ (v % 8)) 1 ≡ get_or (bits_in bytes) v 0
+pub bit_is : (bytes : List ℕ) (v : ℕ) → v < 8 * length bytes → bit_and (get_or bytes (v / 8) 0 / 2 ^ (v % 8)) 1
+    ≡ get_or (bits_in bytes) v 0
 unfolding bits_in
 bit_is [] v within = absurd (omega arith)
 bit_is (b ∷ bs) zero within = and_mask (b / 1) 1 ∙ ap (λ n. n % 2) (div-one b)

@@ -23,8 +23,10 @@ below_here : (start : ℕ) (bytes : List ℕ) → AreBelow bytes → AreBelow (t
 below_here start bytes fits i =
     let P : ℕ → Type 0 = λ x. x < 256 in
     elim (cases_lt i 4) [
-      | inl inside ↦ subst P (sym (get_or-take 4 (drop start bytes) i 0 inside ∙ get_or-drop start bytes i 0)) (fits (start + i))
-      | inr past ↦ subst P (sym (get_or_past (take 4 (drop start bytes)) i 0 (omega (arith, length-take 4 (drop start bytes))))) (omega arith)
+      | inl inside ↦ subst P (sym (get_or-take 4 (drop start bytes) i 0 inside ∙ get_or-drop start bytes i 0))
+          (fits (start + i))
+      | inr past ↦ subst P (sym (get_or_past (take 4 (drop start bytes)) i 0
+          (omega (arith, length-take 4 (drop start bytes))))) (omega arith)
     ]
 
 -- the number that four bytes spell has these bytes
@@ -54,7 +56,8 @@ chosen : {X : Type 0} (b : Bool) (x y z : X) → cond b x y ≡ z → ((b ≡ tr
 chosen true x y z e = inl (refl, e)
 chosen false x y z e = inr (refl, e)
 
-code_here : (code : ℕ) (here kind : NameKind) → (eqb code (code_of here) ≡ true) × (Some here ≡ Some kind) → code_of kind ≡ code
+code_here : (code : ℕ) (here kind : NameKind) → (eqb code (code_of here) ≡ true) × (Some here ≡ Some kind) →
+    code_of kind ≡ code
 code_here code here kind found =
     let same : here ≡ kind = cc (found.1) in
     ap code_of (sym same) ∙ sym (eqb-true code (code_of here) found.0)
@@ -77,14 +80,16 @@ code_of-kind_of code kind e =
                             elim (chosen (eqb code 5) _ _ _ n.1) [
                               | inl h ↦ code_here code Tally kind h
                               | inr n ↦
-                                  elim (chosen (eqb code 6) _ _ _ n.1) [ inl h ↦ code_here code Verdict kind h | inr n ↦ absurd (cc (n.1)) ]
+                                  elim (chosen (eqb code 6) _ _ _ n.1)
+                                  [ inl h ↦ code_here code Verdict kind h | inr n ↦ absurd (cc (n.1)) ]
                             ]
                       ]
                 ]
           ]
     ]
 
-named : (f : NameKind → Name) (o : Option NameKind) (x : Name) → option_map f o ≡ Some x → (kind : NameKind) × (o ≡ Some kind) × (f kind ≡ x)
+named : (f : NameKind → Name) (o : Option NameKind) (x : Name) → option_map f o ≡ Some x → (kind : NameKind) ×
+    (o ≡ Some kind) × (f kind ≡ x)
 named f None x e = absurd (cc)
 named f (Some kind) x e = let same : f kind ≡ x = cc in (kind, refl, same)
 
@@ -94,23 +99,27 @@ pub record IsWhole (bytes : List ℕ) : Type 0 where
   pub long : 13 ≤ length bytes
   pub size : 13 + (header_in bytes).size ≡ length bytes
 
-pub whole_from_accepted : (forms : Name → Option BodyShape) (bytes : List ℕ) → refusal_of forms bytes ≡ None → IsWhole bytes
+pub whole_from_accepted : (forms : Name → Option BodyShape) (bytes : List ℕ) → refusal_of forms bytes ≡ None →
+    IsWhole bytes
 whole_from_accepted forms bytes accepted =
     let a = passed _ Short _ accepted in
     let b = passed _ Short _ a.1 in
     record { long = ltb-false _ _ a.0; size = eqb-true _ _ (not-false _ b.0) }
 
 -- bytes as many as their header says are judged by the name and the body
-pub refusal_of-whole : (forms : Name → Option BodyShape) (bytes : List ℕ) → IsWhole bytes → refusal_of forms bytes ≡ refusal_of_named forms (header_in bytes).name (drop 13 bytes)
+pub refusal_of-whole : (forms : Name → Option BodyShape) (bytes : List ℕ) → IsWhole bytes →
+    refusal_of forms bytes ≡ refusal_of_named forms (header_in bytes).name (drop 13 bytes)
 refusal_of-whole forms bytes whole =
     cond-false _ _ _ (le-ltb _ _ whole.long) ∙ cond-false _ _ _ (not_from_true _ (eq-eqb _ _ whole.size))
 
-pub refusal_of-named : (forms : Name → Option BodyShape) (bytes : List ℕ) (x : Name) → IsWhole bytes → (header_in bytes).name ≡ Some x →
+pub refusal_of-named : (forms : Name → Option BodyShape) (bytes : List ℕ) (x : Name) → IsWhole bytes →
+    (header_in bytes).name ≡ Some x →
     refusal_of forms bytes ≡ refusal_of_named forms (Some x) (drop 13 bytes)
 refusal_of-named forms bytes x whole name =
     refusal_of-whole forms bytes whole ∙ ap (λ o. refusal_of_named forms o (drop 13 bytes)) name
 
-some_name : (forms : Name → Option BodyShape) (o : Option Name) (body : List ℕ) → refusal_of_named forms o body ≡ None → (x : Name) × (o ≡ Some x)
+some_name : (forms : Name → Option BodyShape) (o : Option Name) (body : List ℕ) → refusal_of_named forms o body ≡ None
+    → (x : Name) × (o ≡ Some x)
 some_name forms None body e = absurd (cc)
 some_name forms (Some x) body e = (x, refl)
 
@@ -121,7 +130,9 @@ abbrev layout : ℕ → List ℕ → ℕ → ℕ → ℕ → ℕ → List ℕ �
 layout code round step half from to size body = (code ∷ round ++ step ∷ half ∷ from ∷ to ∷ size) ++ body
 
 -- whole bytes are the spelling of what is read from them
-pub spelled_from_whole : (bytes : List ℕ) (x : Name) → AreBelow bytes → 13 ≤ length bytes → 13 + (header_in bytes).size ≡ length bytes → (header_in bytes).name ≡ Some x → spelled_message x (drop 13 bytes) ≡ bytes
+pub spelled_from_whole : (bytes : List ℕ) (x : Name) → AreBelow bytes → 13 ≤ length bytes →
+    13 + (header_in bytes).size ≡ length bytes → (header_in bytes).name ≡ Some x →
+    spelled_message x (drop 13 bytes) ≡ bytes
 spelled_from_whole [] x fits long size name = absurd (omega arith)
 spelled_from_whole (a ∷ []) x fits long size name = absurd (omega arith)
 spelled_from_whole (a ∷ b ∷ []) x fits long size name = absurd (omega arith)
@@ -142,18 +153,27 @@ spelled_from_whole (a ∷ b ∷ c ∷ d ∷ e ∷ s ∷ h ∷ f ∷ t ∷ i ∷ 
     let found = named (name_with bytes) (kind_of a) x name in
     let many : length body ≡ number_of_four (i ∷ j ∷ k ∷ l ∷ []) = omega arith in
     ap (λ y. spelled_message y body) (sym found.2)
-    ∙ ap (λ code. layout code (four_bytes (number_of_four round)) s h f t (four_bytes (length body)) body) (code_of-kind_of a found.0 found.1)
-    ∙ ap (λ four. layout a four s h f t (four_bytes (length body)) body) (four_again round refl (below_here 1 bytes fits))
+    ∙ ap (λ code. layout code (four_bytes (number_of_four round)) s h f t (four_bytes (length body)) body)
+    (code_of-kind_of a found.0 found.1)
+    ∙ ap (λ four. layout a four s h f t (four_bytes (length body)) body)
+    (four_again round refl (below_here 1 bytes fits))
     ∙ ap (λ n. layout a round s h f t (four_bytes n) body) many
     ∙ ap (λ four. layout a round s h f t four body) (four_again count refl (below_here 9 bytes fits))
 
-pub spelling_from_whole : (bytes : List ℕ) (x : Name) → AreBelow bytes → IsWhole bytes → (header_in bytes).name ≡ Some x → HasSpelling x (drop 13 bytes)
+pub spelling_from_whole : (bytes : List ℕ) (x : Name) → AreBelow bytes → IsWhole bytes →
+    (header_in bytes).name ≡ Some x → HasSpelling x (drop 13 bytes)
 spelling_from_whole bytes x fits whole name =
     let found = named (name_with bytes) _ x name in
     let Below : Name → Type 0 = λ y. y.round < 2 ^ 32 in
     record {
       round = subst Below found.2 (four_below (take 4 (drop 1 bytes)) (below_here 1 bytes fits));
-      size = omega (arith, whole.long, whole.size, length-drop 13 bytes, four_below (take 4 (drop 9 bytes)) (below_here 9 bytes fits));
+      size = omega (
+        arith,
+        whole.long,
+        whole.size,
+        length-drop 13 bytes,
+        four_below (take 4 (drop 9 bytes)) (below_here 9 bytes fits),
+      );
     }
 
 -- ---- from a message to bytes
@@ -168,12 +188,15 @@ pub header_law : HeaderIsRead
 unfolding four_bytes
 header_law x size rest round_fits size_fits =
     let bytes = spelled_header x size ++ rest in
-    ap (λ kind. header_with (option_map (name_with bytes) kind) (number_of_four (take 4 (drop 9 bytes)))) (kind_of-code_of x.kind)
-    ∙ ap (λ round. header_with (Some (with_round x round)) (number_of_four (take 4 (drop 9 bytes)))) (number_again x.round round_fits)
+    ap (λ kind. header_with (option_map (name_with bytes) kind) (number_of_four (take 4 (drop 9 bytes))))
+    (kind_of-code_of x.kind)
+    ∙ ap (λ round. header_with (Some (with_round x round)) (number_of_four (take 4 (drop 9 bytes))))
+    (number_again x.round round_fits)
     ∙ ap (λ n. header_with (Some x) n) (number_again size size_fits)
 
 -- the header of what a message is spelled as
-header-spelled : (x : Name) (body : List ℕ) → HasSpelling x body → header_in (spelled_message x body) ≡ header_with (Some x) (length body)
+header-spelled : (x : Name) (body : List ℕ) → HasSpelling x body →
+    header_in (spelled_message x body) ≡ header_with (Some x) (length body)
 header-spelled x body spelling = header_law x (length body) body spelling.round spelling.size
 
 body-spelled : (x : Name) (body : List ℕ) → drop 13 (spelled_message x body) ≡ body
@@ -213,7 +236,8 @@ pub record IsRead (forms : Name → Option BodyShape) (bytes : List ℕ) (x : Na
   pub judged : refusal_of_named forms (Some x) body ≡ None
   pub spelled : spelled_message x body ≡ bytes
 
-pub read_from_accepted : (forms : Name → Option BodyShape) (bytes : List ℕ) (x : Name) → AreBelow bytes → refusal_of forms bytes ≡ None → (header_in bytes).name ≡ Some x →
+pub read_from_accepted : (forms : Name → Option BodyShape) (bytes : List ℕ) (x : Name) → AreBelow bytes →
+    refusal_of forms bytes ≡ None → (header_in bytes).name ≡ Some x →
     IsRead forms bytes x (drop 13 bytes)
 read_from_accepted forms bytes x fits accepted name =
     let whole = whole_from_accepted forms bytes accepted in

@@ -14,7 +14,9 @@ use Rattle.dep_message.specs.Messages.{forms_of, refusal_of_body, refusal_of_nam
 use Rattle.dep_message.proofs.MessageLaws.{refusal_of-spelled}
 
 -- a name by the plan has no step where its kind has none
-proper_by_plan : (part : Part) (kind : NameKind) (x : Name) → goes_by_plan (ring_of part.split.value part.at.machines) kind x ≡ true → (has_steps kind || (eqb x.step 0 && eqb x.half 0)) ≡ true
+proper_by_plan : (part : Part) (kind : NameKind) (x : Name) →
+    goes_by_plan (ring_of part.split.value part.at.machines) kind x ≡ true →
+    (has_steps kind || (eqb x.step 0 && eqb x.half 0)) ≡ true
 proper_by_plan part Refresh x planned = planned
 proper_by_plan part Dep x planned = refl
 proper_by_plan part Update x planned = refl
@@ -32,7 +34,8 @@ proper_from_form part x shape found =
     let planned = given _ _ shape found in
     proper_by_plan part x.kind x (and_parts _ _ (and_parts _ _ planned).1).0
 
-fitting : (forms : Name → Option BodyShape) (x : Name) (body : List ℕ) (shape : BodyShape) → is_proper x ≡ true → forms x ≡ Some shape → is_fit shape body ≡ true → refusal_of_named forms (Some x) body ≡ None
+fitting : (forms : Name → Option BodyShape) (x : Name) (body : List ℕ) (shape : BodyShape) → is_proper x ≡ true →
+    forms x ≡ Some shape → is_fit shape body ≡ true → refusal_of_named forms (Some x) body ≡ None
 fitting forms x body shape proper found fit =
     cond-true _ _ _ proper ∙ ap (λ o. refusal_of_body o body) found ∙ cond-true _ _ _ fit
 

@@ -14,16 +14,20 @@ AreBytes bytes = All (λ byte. byte < 256) bytes
 
 -- bytes that aren't refused spell a message, which isn't refused
 abbrev pub AcceptedIsSpelled : Type 0
-AcceptedIsSpelled = (forms : Name → Option BodyShape) (bytes : List ℕ) → AreBytes bytes → refusal_of forms bytes ≡ None →
-    (x : Name) × (body : List ℕ) × HasSpelling x body × (refusal_of_named forms (Some x) body ≡ None) × (spelled_message x body ≡ bytes)
+AcceptedIsSpelled = (forms : Name → Option BodyShape) (bytes : List ℕ) → AreBytes bytes →
+    refusal_of forms bytes ≡ None →
+    (x : Name) × (body : List ℕ) × HasSpelling x body × (refusal_of_named forms (Some x) body ≡ None) ×
+    (spelled_message x body ≡ bytes)
 
 -- no bytes spell two messages
 abbrev pub SpelledOnce : Type 0
-SpelledOnce = (x y : Name) (a b : List ℕ) → HasSpelling x a → HasSpelling y b → spelled_message x a ≡ spelled_message y b → (x ≡ y) × (a ≡ b)
+SpelledOnce = (x y : Name) (a b : List ℕ) → HasSpelling x a → HasSpelling y b →
+    spelled_message x a ≡ spelled_message y b → (x ≡ y) × (a ≡ b)
 
 -- a header is read as it is spelled, whatever follows it
 abbrev pub HeaderIsRead : Type 0
-HeaderIsRead = (x : Name) (size : ℕ) (rest : List ℕ) → x.round < 2 ^ 32 → size < 2 ^ 32 → header_in (spelled_header x size ++ rest) ≡ record { name = Some x; size = size }
+HeaderIsRead = (x : Name) (size : ℕ) (rest : List ℕ) → x.round < 2 ^ 32 → size < 2 ^ 32 →
+    header_in (spelled_header x size ++ rest) ≡ record { name = Some x; size = size }
 
 -- a spelling has the bytes of the header and those of the body
 abbrev pub SpellingIsCounted : Type 0
@@ -36,4 +40,5 @@ SpelledIsAccepted = (part : Part) (x : Name) (body : List ℕ) (shape : BodyShap
 
 -- a body that fits a shape is at most as long as the longest of the shape
 abbrev pub FitIsBounded : Type 0
-FitIsBounded = (shape : BodyShape) (body : List ℕ) → AreBytes body → is_fit shape body ≡ true → length body ≤ longest_of shape
+FitIsBounded = (shape : BodyShape) (body : List ℕ) → AreBytes body → is_fit shape body ≡ true →
+    length body ≤ longest_of shape

@@ -25,12 +25,16 @@ pub fn encode(alloc: Global, msg: &Message) -> Result<Vec<u8>, Want>
 /// The message that bytes spell, all of the bytes, at a machine that sends or takes it.
 pub fn decode(alloc: Global, bytes: &[u8], part: &Part) -> Result<Message, MessageFault>
     ensures spelled { IfOk result (λ msg. spelled_message msg.name msg.body.items ≡ bytes.now) }
-    ensures only { IfOk result (λ msg. (x : Name) (body : List ℕ) → HasSpelling x body → spelled_message x body ≡ bytes.now → (x ≡ msg.name) × (body ≡ msg.body.items)) }
-    ensures fits { IfOk result (λ msg. refusal_of_named (forms_of part.now) (Some msg.name) msg.body.items ≡ None) }
+    ensures only { IfOk result (λ msg. (x : Name) (body : List ℕ) → HasSpelling x body →
+        spelled_message x body ≡ bytes.now → (x ≡ msg.name) × (body ≡ msg.body.items)) }
+    ensures fits { IfOk result (λ msg.
+        refusal_of_named (forms_of part.now) (Some msg.name) msg.body.items ≡ None) }
 
     // A fault is the first one, and comes before memory is asked for. Bytes without a fault are refused for want alone.
-    ensures refused { (fault : MessageFault) → refusal_of (forms_of part.now) bytes.now ≡ Some fault → result ≡ Err fault }
-    ensures accepted { refusal_of (forms_of part.now) bytes.now ≡ None → IfErr result (λ fault. fault ≡ MessageFault.Want) }
+    ensures refused { (fault : MessageFault) → refusal_of (forms_of part.now) bytes.now
+        ≡ Some fault → result ≡ Err fault }
+    ensures accepted { refusal_of (forms_of part.now) bytes.now ≡ None →
+        IfErr result (λ fault. fault ≡ MessageFault.Want) }
 {
     match judged(bytes, part) {
         Err(fault) => Err(fault),

@@ -17,7 +17,8 @@ pub(crate) fn are_updates(body: &[u8], vertices: u32, slots: u8, reduced: u8) ->
 
 // The bytes behind the update of a vertex, where one stands at the front.
 fn behind_update(bytes: &[u8], slots: u8, reduced: u8) -> Option<&[u8]>
-    ensures { MatchOption result (behind_update slots reduced bytes.now ≡ None) (λ rest. behind_update slots reduced bytes.now ≡ Some rest.now) }
+    ensures { MatchOption result (behind_update slots reduced bytes.now ≡ None) (λ rest.
+        behind_update slots reduced bytes.now ≡ Some rest.now) }
 {
     match bytes {
         [low, high, words @ ..] => {

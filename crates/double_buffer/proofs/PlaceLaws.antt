@@ -77,18 +77,23 @@ same_here : (x y : ℕ) (rest : Bool) → x ≡ y → rest ≡ true → (x == y 
 same_here x y true e same = grind arith
 same_here x y false e same = absurd (grind arith)
 
-round_before : (p : ℕ) (a b : Name) → IsOfRound p a → IsOfRound p b → a.from < b.from → is_below (last_numbers a) (last_numbers b) ≡ true
+round_before : (p : ℕ) (a b : Name) → IsOfRound p a → IsOfRound p b → a.from < b.from →
+    is_below (last_numbers a) (last_numbers b) ≡ true
 round_before p a b can_a can_b lt =
-    less_later a.step b.step _ (can_a.step ∙ sym can_b.step) (less_later a.half b.half _ (can_a.half ∙ sym can_b.half) (less_here a.from b.from _ lt))
+    less_later a.step b.step _ (can_a.step ∙ sym can_b.step)
+    (less_later a.half b.half _ (can_a.half ∙ sym can_b.half) (less_here a.from b.from _ lt))
 
-step_before : (p s t : ℕ) (a b : Name) → IsOfStep p s a → IsOfStep p t b → 2 * a.step + a.half < 2 * b.step + b.half → is_below (last_numbers a) (last_numbers b) ≡ true
+step_before : (p s t : ℕ) (a b : Name) → IsOfStep p s a → IsOfStep p t b → 2 * a.step + a.half < 2 * b.step + b.half →
+    is_below (last_numbers a) (last_numbers b) ≡ true
 step_before p s t a b can_a can_b lt =
     elim (cases_lt a.step b.step) [
       | inl below ↦ less_here a.step b.step _ below
-      | inr most ↦ less_later a.step b.step _ (omega (arith, can_a.half, can_b.half)) (less_here a.half b.half _ (omega (arith, can_a.half, can_b.half)))
+      | inr most ↦ less_later a.step b.step _ (omega (arith, can_a.half, can_b.half))
+          (less_here a.half b.half _ (omega (arith, can_a.half, can_b.half)))
     ]
 
-last_before : (kind : NameKind) (p : ℕ) (a b : Name) → CanTakeKind kind p a → CanTakeKind kind p b → place_in_row kind a < place_in_row kind b → is_below (last_numbers a) (last_numbers b) ≡ true
+last_before : (kind : NameKind) (p : ℕ) (a b : Name) → CanTakeKind kind p a → CanTakeKind kind p b →
+    place_in_row kind a < place_in_row kind b → is_below (last_numbers a) (last_numbers b) ≡ true
 last_before Refresh p a b can_a can_b lt = round_before p a b can_a can_b lt
 last_before Dep p a b can_a can_b lt = step_before p _ _ a b can_a can_b lt
 last_before Update p a b can_a can_b lt = step_before p _ _ a b can_a can_b lt
@@ -97,39 +102,53 @@ last_before Tally p a b can_a can_b lt = round_before p a b can_a.0 can_b.0 lt
 last_before Verdict p a b can_a can_b lt = round_before p a b can_a.0 can_b.0 lt
 
 -- of the names of one round and receiver the one in the earlier place is before the other
-pub place_before : (p : ℕ) (a b : Name) → a.round ≡ b.round → CanTake p a → CanTake p b → place_of p a < place_of p b → is_before a b ≡ true
+pub place_before : (p : ℕ) (a b : Name) → a.round ≡ b.round → CanTake p a → CanTake p b → place_of p a < place_of p b
+    → is_before a b ≡ true
 place_before p a b rounds can_a can_b lt =
-    elim (earlier (2 * p) (kind_place a.kind) (kind_place b.kind) _ _ (in_row a.kind p a can_a) (in_row b.kind p b can_b) lt) [
+    elim (earlier (2 * p) (kind_place a.kind) (kind_place b.kind) _ _ (in_row a.kind p a can_a)
+    (in_row b.kind p b can_b) lt) [
       | inl below ↦ less_here (kind_place a.kind) (kind_place b.kind) _ below
       | inr both ↦
           (let kinds : b.kind ≡ a.kind = sym (same_kind a.kind b.kind both.0) in
           less_later (kind_place a.kind) (kind_place b.kind) _ both.0 (less_later a.round b.round _ rounds
-          (last_before a.kind p a b can_a (subst (λ (k : NameKind). CanTakeKind k p b) kinds can_b) (subst (λ (k : NameKind). place_in_row a.kind a < place_in_row k b) kinds both.1))))
+          (last_before a.kind p a b can_a (subst (λ (k : NameKind). CanTakeKind k p b) kinds can_b)
+          (subst (λ (k : NameKind). place_in_row a.kind a < place_in_row k b) kinds both.1))))
     ]
 
-round_same : (p : ℕ) (a b : Name) → a.to ≡ b.to → IsOfRound p a → IsOfRound p b → a.from ≡ b.from → same_numbers (last_numbers a) (last_numbers b) ≡ true
+round_same : (p : ℕ) (a b : Name) → a.to ≡ b.to → IsOfRound p a → IsOfRound p b → a.from ≡ b.from →
+    same_numbers (last_numbers a) (last_numbers b) ≡ true
 round_same p a b tos can_a can_b froms =
-    same_here a.step b.step _ (can_a.step ∙ sym can_b.step) (same_here a.half b.half _ (can_a.half ∙ sym can_b.half) (same_here a.from b.from _ froms (same_here a.to b.to true tos refl)))
+    same_here a.step b.step _ (can_a.step ∙ sym can_b.step)
+    (same_here a.half b.half _ (can_a.half ∙ sym can_b.half)
+    (same_here a.from b.from _ froms (same_here a.to b.to true tos refl)))
 
-step_same : (p s t : ℕ) (a b : Name) → a.to ≡ b.to → IsOfStep p s a → IsOfStep p t b → (a.step ≡ b.step → s ≡ t) → 2 * a.step + a.half ≡ 2 * b.step + b.half → same_numbers (last_numbers a) (last_numbers b) ≡ true
+step_same : (p s t : ℕ) (a b : Name) → a.to ≡ b.to → IsOfStep p s a → IsOfStep p t b → (a.step ≡ b.step → s ≡ t) →
+    2 * a.step + a.half ≡ 2 * b.step + b.half → same_numbers (last_numbers a) (last_numbers b) ≡ true
 step_same p s t a b tos can_a can_b senders places =
     let steps : a.step ≡ b.step = omega (arith, can_a.half, can_b.half) in
-    same_here a.step b.step _ steps (same_here a.half b.half _ (omega arith) (same_here a.from b.from _ (can_a.from ∙ senders steps ∙ sym can_b.from) (same_here a.to b.to true tos refl)))
+    same_here a.step b.step _ steps (same_here a.half b.half _ (omega arith)
+    (same_here a.from b.from _ (can_a.from ∙ senders steps ∙ sym can_b.from) (same_here a.to b.to true tos refl)))
 
-last_same : (kind : NameKind) (p : ℕ) (a b : Name) → a.to ≡ b.to → CanTakeKind kind p a → CanTakeKind kind p b → place_in_row kind a ≡ place_in_row kind b → same_numbers (last_numbers a) (last_numbers b) ≡ true
+last_same : (kind : NameKind) (p : ℕ) (a b : Name) → a.to ≡ b.to → CanTakeKind kind p a → CanTakeKind kind p b →
+    place_in_row kind a ≡ place_in_row kind b → same_numbers (last_numbers a) (last_numbers b) ≡ true
 last_same Refresh p a b tos can_a can_b e = round_same p a b tos can_a can_b e
 last_same Dep p a b tos can_a can_b e =
-    step_same p (before_machine a.to p) (before_machine b.to p) a b tos can_a can_b (λ steps. ap (λ n. before_machine n p) tos) e
+    step_same p (before_machine a.to p) (before_machine b.to p) a b tos can_a can_b (λ steps.
+    ap (λ n. before_machine n p) tos) e
 last_same Update p a b tos can_a can_b e =
-    step_same p (order_of a.to a.step p) (order_of b.to b.step p) a b tos can_a can_b (λ steps. ap (λ n. order_of n a.step p) tos ∙ ap (λ n. order_of b.to n p) steps) e
+    step_same p (order_of a.to a.step p) (order_of b.to b.step p) a b tos can_a can_b (λ steps.
+    ap (λ n. order_of n a.step p) tos ∙ ap (λ n. order_of b.to n p) steps) e
 last_same Push p a b tos can_a can_b e = round_same p a b tos can_a can_b e
 last_same Tally p a b tos can_a can_b e = round_same p a b tos can_a.0 can_b.0 e
 last_same Verdict p a b tos can_a can_b e = round_same p a b tos can_a.0 can_b.0 e
 
 -- two names of one round and receiver have places of their own
-pub place_same : (p : ℕ) (a b : Name) → a.round ≡ b.round → a.to ≡ b.to → CanTake p a → CanTake p b → place_of p a ≡ place_of p b → same_name a b ≡ true
+pub place_same : (p : ℕ) (a b : Name) → a.round ≡ b.round → a.to ≡ b.to → CanTake p a → CanTake p b →
+    place_of p a ≡ place_of p b → same_name a b ≡ true
 place_same p a b rounds tos can_a can_b e =
-    let both = in_one_row (2 * p) (kind_place a.kind) (kind_place b.kind) (place_in_row a.kind a) (place_in_row b.kind b) (in_row a.kind p a can_a) (in_row b.kind p b can_b) e in
+    let both = in_one_row (2 * p) (kind_place a.kind) (kind_place b.kind) (place_in_row a.kind a)
+    (place_in_row b.kind b) (in_row a.kind p a can_a) (in_row b.kind p b can_b) e in
     let kinds : b.kind ≡ a.kind = sym (same_kind a.kind b.kind both.0) in
     same_here (kind_place a.kind) (kind_place b.kind) _ both.0 (same_here a.round b.round _ rounds
-    (last_same a.kind p a b tos can_a (subst (λ (k : NameKind). CanTakeKind k p b) kinds can_b) (subst (λ (k : NameKind). place_in_row a.kind a ≡ place_in_row k b) kinds both.1)))
+    (last_same a.kind p a b tos can_a (subst (λ (k : NameKind). CanTakeKind k p b) kinds can_b)
+    (subst (λ (k : NameKind). place_in_row a.kind a ≡ place_in_row k b) kinds both.1)))

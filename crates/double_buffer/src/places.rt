@@ -6,7 +6,8 @@ use vert_base::{Message, Name};
 
 /// The message of a name, where its place holds it.
 pub(crate) fn held<'a>(places: &'a [Option<Message>], at: usize, name: &Name) -> Option<&'a Message>
-    ensures { option_map letter_of (option_copied result) ≡ letter_at name.now (slice_index_or places.now at None) }
+    ensures { option_map letter_of (option_copied result)
+        ≡ letter_at name.now (slice_index_or places.now at None) }
 {
     match places.get(at) {
         Some(Some(message)) if message.name == *name => Some(message),
@@ -24,8 +25,10 @@ pub(crate) fn fill(places: &mut Vec<Option<Message>>, at: usize, msg: Message)
 
 /// Takes the message of a name out of its place, where that holds it.
 pub(crate) fn clear(places: &mut Vec<Option<Message>>, at: usize, name: &Name) -> Option<Message>
-    ensures message { option_map letter_of result ≡ letter_at name.now (slice_index_or places.old.items at None) }
-    ensures rest { places.new.items ≡ (if is_some result then slice_set places.old.items at None else places.old.items) }
+    ensures message { option_map letter_of result
+        ≡ letter_at name.now (slice_index_or places.old.items at None) }
+    ensures rest { places.new.items
+        ≡ (if is_some result then slice_set places.old.items at None else places.old.items) }
 {
     if held(places, at, name).is_none() {
         return None;

@@ -75,7 +75,8 @@ impl<const CAP: usize> Slots<CAP> {
 
     /// Takes the body of a name out, and frees its place.
     pub fn lift(&mut self, name: &Name) -> Option<Vec<u8>>
-        ensures body { option_map (λ body. body.items) result ≡ option_map (λ y. y.body) (found name.now self.old.letters) }
+        ensures body { option_map (λ body. body.items) result
+            ≡ option_map (λ y. y.body) (found name.now self.old.letters) }
         ensures rest { self.new ≡ without_name name.now self.old }
     {
         let at = place_of(self.machines, name);
@@ -91,7 +92,8 @@ impl<const CAP: usize> Slots<CAP> {
 
     /// The body of a name, where it is held.
     pub fn peek(&self, name: &Name) -> Option<&[u8]>
-        ensures { option_map (λ body. body.now) result ≡ option_map (λ y. y.body) (found name.now self.now.letters) }
+        ensures { option_map (λ body. body.now) result
+            ≡ option_map (λ y. y.body) (found name.now self.now.letters) }
     {
         match held(&self.places, place_of(self.machines, name), name) {
             Some(message) => Some(&message.body),

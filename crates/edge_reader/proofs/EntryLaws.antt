@@ -26,19 +26,30 @@ weight_limit true = lit< tt
 weight_limit false = lit< tt
 
 -- numbers above the cap are as large as the cap
-pub edge_capped : (a b : ℕ) (w : Weight) → edge_of (min a 1099511627776) (min b 1099511627776) (capped 1099511627776 w) ≡ edge_of a b w
+pub edge_capped : (a b : ℕ) (w : Weight) →
+    edge_of (min a 1099511627776) (min b 1099511627776) (capped 1099511627776 w) ≡ edge_of a b w
 edge_capped a b w =
     let small : cond w.negative 2147483648 2147483647 < 1099511627776 = weight_limit w.negative in
     let most : ℕ = 1099511627776 in
     let id : 4294967295 < most = lit< tt in
     let tests = nat_lt 4294967295 a || nat_lt 4294967295 b || nat_lt (cond w.negative 2147483648 2147483647) w.size in
-    rw (above_min 4294967295 a most id, above_min 4294967295 b most id, above_min (cond w.negative 2147483648 2147483647) w.size most small)
+    rw (
+      above_min 4294967295 a most id,
+      above_min 4294967295 b most id,
+      above_min (cond w.negative 2147483648 2147483647) w.size most small,
+    )
     (if_same tests TooLarge _ _ (λ (fits : tests ≡ false).
     let last = or_false (nat_lt 4294967295 a || nat_lt 4294967295 b) _ fits in
     let ids = or_false (nat_lt 4294967295 a) (nat_lt 4294967295 b) last.0 in
-    rw (not_above 4294967295 a most id ids.0, not_above 4294967295 b most id ids.1, not_above (cond w.negative 2147483648 2147483647) w.size most small last.1) refl))
+    rw (
+      not_above 4294967295 a most id ids.0,
+      not_above 4294967295 b most id ids.1,
+      not_above (cond w.negative 2147483648 2147483647) w.size most small last.1,
+    ) refl))
 
-pub numbers_capped : (a b : Option ℕ) (w : Option Weight) → entry_of_numbers (option_map (λ value. min value 1099511627776) a) (option_map (λ value. min value 1099511627776) b) (option_map (capped 1099511627776) w) ≡ entry_of_numbers a b w
+pub numbers_capped : (a b : Option ℕ) (w : Option Weight) →
+    entry_of_numbers (option_map (λ value. min value 1099511627776) a)
+    (option_map (λ value. min value 1099511627776) b) (option_map (capped 1099511627776) w) ≡ entry_of_numbers a b w
 numbers_capped (Some a) (Some b) (Some w) = edge_capped a b w
 numbers_capped (Some a) (Some b) None = refl
 numbers_capped (Some a) None w = refl

@@ -24,27 +24,32 @@ bound_covers m (edge ∷ edges) h =
     All-cons (IsBelow m) edge edges (from, to) (bound_covers m edges (omega arith))
 
 -- an entry that no code refuses: its edges stand behind those in front, and the other entries go on
-pub entry_added : (given : Option ℕ) (both : Bool) (fault : ℕ → ℕ → EdgeFault) (number : ℕ) (front more : List Edge) (entry : Entry) (left entries : List Entry) (whole : Result (List Edge) EdgeFault)
+pub entry_added : (given : Option ℕ) (both : Bool) (fault : ℕ → ℕ → EdgeFault) (number : ℕ) (front more : List Edge)
+    (entry : Entry) (left entries : List Entry) (whole : Result (List Edge) EdgeFault)
     → left ≡ entry ∷ entries → code_of given both (length front) entry ≡ None → more ≡ front ++ edges_of both entry
-    → edges_from given both fault number front left ≡ whole → edges_from given both fault (number + 1) more entries ≡ whole
+    → edges_from given both fault number front left ≡ whole → edges_from given both fault (number + 1) more entries
+    ≡ whole
 entry_added given both fault number front more entry left entries whole first fine joined reading =
     rw joined (sym (rw (first, fine) refl) ∙ reading)
 
 -- its edges keep to the most
 pub few_added : (given : Option ℕ) (both : Bool) (front more : List Edge) (entry : Entry)
-    → code_of given both (length front) entry ≡ None → more ≡ front ++ edges_of both entry → length front ≤ EDGES → length more ≤ EDGES
+    → code_of given both (length front) entry ≡ None → more ≡ front ++ edges_of both entry → length front ≤ EDGES →
+    length more ≤ EDGES
 few_added given both front more Skipped fine joined few = grind (arith, common_steps, nat_tests)
 few_added given both front more Malformed fine joined few = grind (arith, common_steps, nat_tests)
 few_added given both front more TooLarge fine joined few = grind (arith, common_steps, nat_tests)
 few_added given both front more (Read edge) fine joined few = grind (arith, common_steps, nat_tests)
 
-ids_below : (given : Option ℕ) (both : Bool) (count : ℕ) (edge : Edge) → code_of given both count (Read edge) ≡ None → IsBelow (limit_of given) edge
+ids_below : (given : Option ℕ) (both : Bool) (count : ℕ) (edge : Edge) → code_of given both count (Read edge) ≡ None →
+    IsBelow (limit_of given) edge
 ids_below given both count edge fine =
     let from : edge.from.0 < limit_of given = grind (arith, nat_tests) in
     let to : edge.to.0 < limit_of given = grind (arith, nat_tests) in
     (from, to)
 
-edges_below : (given : Option ℕ) (both : Bool) (count : ℕ) (entry : Entry) → code_of given both count entry ≡ None → AreBelow (limit_of given) (edges_of both entry)
+edges_below : (given : Option ℕ) (both : Bool) (count : ℕ) (entry : Entry) → code_of given both count entry ≡ None →
+    AreBelow (limit_of given) (edges_of both entry)
 edges_below given both count Skipped fine = All-nil _
 edges_below given both count Malformed fine = All-nil _
 edges_below given both count TooLarge fine = All-nil _
@@ -58,6 +63,8 @@ edges_below given true count (Read edge) fine =
 
 -- its edges keep below the limit
 pub below_added : (given : Option ℕ) (both : Bool) (front more : List Edge) (entry : Entry)
-    → code_of given both (length front) entry ≡ None → more ≡ front ++ edges_of both entry → AreBelow (limit_of given) front → AreBelow (limit_of given) more
+    → code_of given both (length front) entry ≡ None → more ≡ front ++ edges_of both entry →
+    AreBelow (limit_of given) front → AreBelow (limit_of given) more
 below_added given both front more entry fine joined below =
-    rw joined (All-append (IsBelow (limit_of given)) front (edges_of both entry) below (edges_below given both (length front) entry fine))
+    rw joined (All-append (IsBelow (limit_of given)) front (edges_of both entry) below
+    (edges_below given both (length front) entry fine))

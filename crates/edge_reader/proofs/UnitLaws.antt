@@ -10,7 +10,8 @@ units_none size bytes short =
     rw none refl
 
 -- the first unit and the others
-pub units_next : (size : ℕ) (bytes : List ℕ) → 0 < size → size ≤ length bytes → units_of size bytes ≡ take size bytes ∷ units_of size (drop size bytes)
+pub units_next : (size : ℕ) (bytes : List ℕ) → 0 < size → size ≤ length bytes →
+    units_of size bytes ≡ take size bytes ∷ units_of size (drop size bytes)
 units_next size bytes some fits =
     let rest = length (drop size bytes) / size in
     let one_less : length bytes / size ≡ (length bytes - size) / size + 1 = div-eq-sub-div some fits in
@@ -19,7 +20,8 @@ units_next size bytes some fits =
     ap (λ q. first_units size q bytes) more
 
 -- a unit further on
-pub place_next : (number size left behind whole : ℕ) → number * size + left ≡ whole → behind + size ≡ left → (number + 1) * size + behind ≡ whole
+pub place_next : (number size left behind whole : ℕ) → number * size + left ≡ whole → behind + size ≡ left →
+    (number + 1) * size + behind ≡ whole
 place_next number size left behind whole before shorter =
     let place : (number + 1) * size ≡ number * size + 1 * size = add-mul number 1 size in
     omega (arith, place, before, shorter)

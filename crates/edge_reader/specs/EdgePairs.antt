@@ -39,5 +39,7 @@ at_unit size code number = Byte code (number * size)
 abbrev pub reading_of_pairs : Bool → Bool → List ℕ → Result Graph EdgeFault
 reading_of_pairs weighted both bytes =
     if nat_lt GRAPH_BYTES (length bytes) then Err (Byte 7 GRAPH_BYTES)
-    else if nat_lt 0 (length bytes % unit_of weighted) then Err (Byte 6 (length bytes - length bytes % unit_of weighted))
-    else graph_of None (edges_from None both (at_unit (unit_of weighted)) 0 [] (map (entry_of_unit weighted) (units_of (unit_of weighted) bytes)))
+    else if nat_lt 0 (length bytes % unit_of weighted)
+    then Err (Byte 6 (length bytes - length bytes % unit_of weighted))
+    else graph_of None (edges_from None both (at_unit (unit_of weighted)) 0 []
+    (map (entry_of_unit weighted) (units_of (unit_of weighted) bytes)))

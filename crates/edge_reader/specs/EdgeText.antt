@@ -45,7 +45,8 @@ unless None result = result
 
 -- the edges in front and then those of the entries, or the first fault
 -- `number` is that of the first entry, and `fault` makes a fault of a code and the number of an entry
-abbrev pub edges_from : Option ℕ → Bool → (ℕ → ℕ → EdgeFault) → ℕ → List Edge → List Entry → Result (List Edge) EdgeFault
+abbrev pub edges_from : Option ℕ → Bool → (ℕ → ℕ → EdgeFault) → ℕ → List Edge → List Entry →
+    Result (List Edge) EdgeFault
 edges_from given both fault number front [] = Ok front
 edges_from given both fault number front (entry ∷ entries) =
     unless (option_map (λ code. fault code number) (code_of given both (length front) entry))

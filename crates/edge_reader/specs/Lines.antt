@@ -46,7 +46,8 @@ signed weight = if weight.negative then neg_ℤ (pos weight.size) else pos weigh
 -- the edge of these numbers, where the ids are below 2^32 and the weight is from -2^31 to 2^31 - 1
 abbrev pub edge_of : ℕ → ℕ → Weight → Entry
 edge_of from to weight =
-    if nat_lt 4294967295 from || nat_lt 4294967295 to || nat_lt (if weight.negative then 2147483648 else 2147483647) weight.size then TooLarge
+    if nat_lt 4294967295 from || nat_lt 4294967295 to
+    || nat_lt (if weight.negative then 2147483648 else 2147483647) weight.size then TooLarge
     else Read (record { from = record { 0 = from }; to = record { 0 = to }; weight = signed weight })
 
 -- the edge of these numbers, where each is one

@@ -15,7 +15,8 @@ is_word_byte byte = not (is_blank byte)
 abbrev pub join_byte : ℕ → List ℕ → List (List ℕ) → List (List ℕ)
 join_byte byte [] words = (byte ∷ []) ∷ words
 join_byte byte (next ∷ rest) [] = (byte ∷ []) ∷ []
-join_byte byte (next ∷ rest) (word ∷ words) = if is_blank next then (byte ∷ []) ∷ (word ∷ words) else (byte ∷ word) ∷ words
+join_byte byte (next ∷ rest) (word ∷ words) = if is_blank next then (byte ∷ []) ∷ (word ∷ words)
+    else (byte ∷ word) ∷ words
 
 -- the words of a text: its longest pieces without a blank
 abbrev pub words_of : List ℕ → List (List ℕ)

@@ -21,7 +21,8 @@ fn line_len(bytes: &[u8]) -> usize
 
 /// The first line without its line feed, where there is one, and what stands behind it.
 pub fn next_line(bytes: &[u8]) -> Option<(&[u8], &[u8])>
-    ensures lines { MatchOption result (lines_of bytes.now ≡ []) (λ found. lines_of bytes.now ≡ found.0.now ∷ lines_of found.1.now) }
+    ensures lines { MatchOption result (lines_of bytes.now ≡ []) (λ found.
+        lines_of bytes.now ≡ found.0.now ∷ lines_of found.1.now) }
     ensures shorter { IfSome result (λ found. length found.1.now < length bytes.now) }
 {
     if bytes.is_empty() {
@@ -91,7 +92,8 @@ pub fn read_line(line: &[u8]) -> Entry
 /// What a line of two numbers with one blank between them says, as most lines are, and what stands behind
 /// its line feed. Nothing is said of other lines.
 fn plain_line(bytes: &[u8]) -> Option<(Entry, &[u8])>
-    ensures entries { IfSome result (λ found. map entry_of_line (lines_of bytes.now) ≡ found.0 ∷ map entry_of_line (lines_of found.1.now)) }
+    ensures entries { IfSome result (λ found. map entry_of_line (lines_of bytes.now) ≡ found.0
+        ∷ map entry_of_line (lines_of found.1.now)) }
     ensures shorter { IfSome result (λ found. length found.1.now < length bytes.now) }
 {
     let (from, rest) = leading_number(bytes)?;
@@ -110,7 +112,9 @@ fn plain_line(bytes: &[u8]) -> Option<(Entry, &[u8])>
 
 /// What the first line says, where there is one, and what stands behind it.
 pub fn next_entry(bytes: &[u8]) -> Option<(Entry, &[u8])>
-    ensures entries { MatchOption result (lines_of bytes.now ≡ []) (λ found. map entry_of_line (lines_of bytes.now) ≡ found.0 ∷ map entry_of_line (lines_of found.1.now)) }
+    ensures entries { MatchOption result (lines_of bytes.now ≡ []) (λ found.
+        map entry_of_line (lines_of bytes.now) ≡ found.0
+        ∷ map entry_of_line (lines_of found.1.now)) }
     ensures shorter { IfSome result (λ found. length found.1.now < length bytes.now) }
 {
     if let Some(found) = plain_line(bytes) {

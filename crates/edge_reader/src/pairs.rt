@@ -28,7 +28,8 @@ fn unit_size(weighted: bool) -> usize
 /// The first unit of so many bytes, where there is a whole one, and what stands behind it.
 fn next_unit(bytes: &[u8], size: usize) -> Option<(&[u8], &[u8])>
     requires { 0 < size }
-    ensures units { MatchOption result (units_of size bytes.now ≡ []) (λ found. units_of size bytes.now ≡ found.0.now ∷ units_of size found.1.now) }
+    ensures units { MatchOption result (units_of size bytes.now ≡ []) (λ found.
+        units_of size bytes.now ≡ found.0.now ∷ units_of size found.1.now) }
     ensures whole { IfSome result (λ found. length found.0.now ≡ size) }
     ensures behind { IfSome result (λ found. length found.1.now + size ≡ length bytes.now) }
 {

@@ -42,7 +42,8 @@ fn word_len(text: &[u8]) -> usize
 
 /// The first word, where there is one, and what stands behind it.
 pub fn next_word(text: &[u8]) -> Option<(&[u8], &[u8])>
-    ensures { MatchOption result (words_of text.now ≡ []) (λ found. words_of text.now ≡ found.0.now ∷ words_of found.1.now) }
+    ensures { MatchOption result (words_of text.now ≡ []) (λ found.
+        words_of text.now ≡ found.0.now ∷ words_of found.1.now) }
 {
     let front = &text[blanks(text)..];
     if front.is_empty() {

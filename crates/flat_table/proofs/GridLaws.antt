@@ -67,7 +67,8 @@ cell_within width count place within =
     omega (arith, all)
 
 -- and has a number of 64 bits
-pub cell_small : (width count place : ℕ) → width < 2 ^ 16 → count < 2 ^ 32 → place < count → width * place + width < 2 ^ 50
+pub cell_small : (width count place : ℕ) → width < 2 ^ 16 → count < 2 ^ 32 → place < count →
+    width * place + width < 2 ^ 50
 cell_small width count place narrow few within =
     let most : width * count ≤ 2 ^ 16 * 2 ^ 32 = mul-le width count (2 ^ 16) (2 ^ 32) (omega arith) (omega arith) in
     omega (arith, most, cell_within width count place within)

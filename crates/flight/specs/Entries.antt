@@ -40,8 +40,10 @@ place x (y ∷ ys) = if is_before y.name x then suc (place x ys) else 0
 -- the entry of a name stands at a place, whatever the messages are
 pub record IsFoundAt (x : Name) (entries : List Entry) (at : ℕ) : Type 0 where
   pub within : at < length entries
-  pub here : (messages : Slab Message) (other : Entry) → found x (letters_by messages entries) ≡ Some (letter_by messages (slice_index_or entries at other))
-  pub rest : (messages : Slab Message) → letters_by messages (remove entries at) ≡ without x (letters_by messages entries)
+  pub here : (messages : Slab Message) (other : Entry) →
+      found x (letters_by messages entries) ≡ Some (letter_by messages (slice_index_or entries at other))
+  pub rest : (messages : Slab Message) → letters_by messages (remove entries at)
+      ≡ without x (letters_by messages entries)
 
 abbrev pub IsNowhere : Name → List Entry → Type 0
 IsNowhere x entries = (messages : Slab Message) → IsMissing x (letters_by messages entries)

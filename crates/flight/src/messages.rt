@@ -17,8 +17,10 @@ pub(crate) fn add(
     requires fresh { found msg.name (letters_by messages.old entries.old.items) ≡ None }
     requires room { length (letters_by messages.old entries.old.items) < 2 ^ 31 }
     ensures sound { IsSound messages.new entries.new.items }
-    ensures sent { OnOk result (letters_by messages.new entries.new.items ≡ placed (letter_of msg) (letters_by messages.old entries.old.items)) }
-    ensures kept { OnErr result (letters_by messages.new entries.new.items ≡ letters_by messages.old entries.old.items) }
+    ensures sent { OnOk result (letters_by messages.new entries.new.items
+        ≡ placed (letter_of msg) (letters_by messages.old entries.old.items)) }
+    ensures kept { OnErr result (letters_by messages.new entries.new.items
+        ≡ letters_by messages.old entries.old.items) }
     ensures back { IfErr result (λ failed. failed.0 ≡ msg) }
 {
     let name = msg.name;
@@ -41,8 +43,10 @@ pub(crate) fn take(
 ) -> Option<Message>
     requires { IsSound messages.old entries.old.items }
     ensures sound { IsSound messages.new entries.new.items }
-    ensures message { option_map letter_of result ≡ found name.now (letters_by messages.old entries.old.items) }
-    ensures rest { letters_by messages.new entries.new.items ≡ without name.now (letters_by messages.old entries.old.items) }
+    ensures message { option_map letter_of result
+        ≡ found name.now (letters_by messages.old entries.old.items) }
+    ensures rest { letters_by messages.new entries.new.items
+        ≡ without name.now (letters_by messages.old entries.old.items) }
 {
     match find_in(entries, name) {
         Some(at) => {
@@ -60,7 +64,8 @@ pub(crate) fn look<'a>(
     name: &Name,
 ) -> Option<&'a Message>
     requires { IsSound messages.now entries.now }
-    ensures { option_map letter_of (option_copied result) ≡ found name.now (letters_by messages.now entries.now) }
+    ensures { option_map letter_of (option_copied result)
+        ≡ found name.now (letters_by messages.now entries.now) }
 {
     match find_in(entries, name) {
         Some(at) => messages.get(entries[at].key),

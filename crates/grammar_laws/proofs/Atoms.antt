@@ -45,17 +45,24 @@ number_is (Name m) e = absurd cc
 pub truth_is : (k : Kind) → is_truth k ≡ true → k ≡ Reserved (truth_word (is_word word.TRUE k))
 truth_is k e = elim (or_cases (is_word word.TRUE k) (is_word word.FALSE k) e) [
   | inl h ↦ same-true k (Reserved word.TRUE) h ∙ ap (λ v. Reserved (truth_word v)) (sym h)
-  | inr h ↦ (let q = same-true k (Reserved word.FALSE) h in subst (λ x. x ≡ Reserved (truth_word (is_word word.TRUE x))) (sym q) refl)
+  | inr h ↦ (let q = same-true k (Reserved word.FALSE) h in
+      subst (λ x. x ≡ Reserved (truth_word (is_word word.TRUE x))) (sym q) refl)
 ]
 
 pub builtin_is : (k : Kind) → is_builtin k ≡ true → k ≡ Reserved (builtin_word (builtin_of (word_in k)))
 unfolding builtin_of
 builtin_is k e =
-    at word.ID refl (or_cases _ _ e) (λ e. at word.N refl (or_cases _ _ e) (λ e. at word.ROUND refl (or_cases _ _ e) (λ e. at word.INDEG refl (or_cases _ _ e) (λ e. at word.OUTDEG refl (or_cases _ _ e)
+    at word.ID refl (or_cases _ _ e) (λ e.
+    at word.N refl (or_cases _ _ e) (λ e.
+    at word.ROUND refl (or_cases _ _ e) (λ e.
+    at word.INDEG refl (or_cases _ _ e) (λ e. at word.OUTDEG refl (or_cases _ _ e)
     (λ e. at word.ACTIVE refl (or_cases _ _ e) (λ e. at word.W refl (inl e) (λ f. f)))))))
   where
-    at : {Q : Type 0} (w : ℕ) → Reserved w ≡ Reserved (builtin_word (builtin_of w)) → (is_word w k ≡ true) ⊎ Q → (Q → k ≡ Reserved (builtin_word (builtin_of (word_in k)))) → k ≡ Reserved (builtin_word (builtin_of (word_in k)))
-    at w is (inl h) go = let q = same-true k (Reserved w) h in subst (λ x. x ≡ Reserved (builtin_word (builtin_of (word_in x)))) (sym q) is
+    at : {Q : Type 0} (w : ℕ) → Reserved w ≡ Reserved (builtin_word (builtin_of w)) → (is_word w k ≡ true) ⊎ Q →
+        (Q → k ≡ Reserved (builtin_word (builtin_of (word_in k)))) →
+        k ≡ Reserved (builtin_word (builtin_of (word_in k)))
+    at w is (inl h) go = let q = same-true k (Reserved w) h in
+        subst (λ x. x ≡ Reserved (builtin_word (builtin_of (word_in x)))) (sym q) is
     at w is (inr h) go = go h
 
 pub builtin_back : (w : Builtin) → (is_builtin (Reserved (builtin_word w)) ≡ true) × (builtin_of (builtin_word w) ≡ w)
@@ -71,13 +78,16 @@ builtin_back Weight = (refl, refl)
 atom_form : (s : Span) (k : Kind) → is_atom k ≡ true → ReadsAtom (atom_of s k) (token s k ∷ [])
 atom_form s k e = go (is_number k) (is_truth k) refl refl e
   where
-    go : (a b : Bool) → is_number k ≡ a → is_truth k ≡ b → (a || (b || is_builtin k)) ≡ true → ReadsAtom (cond a (Literal s (pos (number_in k))) (cond b (Truth s (is_word word.TRUE k)) (Word s (builtin_of (word_in k))))) (token s k ∷ [])
+    go : (a b : Bool) → is_number k ≡ a → is_truth k ≡ b → (a || (b || is_builtin k)) ≡ true →
+        ReadsAtom (cond a (Literal s (pos (number_in k)))
+        (cond b (Truth s (is_word word.TRUE k)) (Word s (builtin_of (word_in k))))) (token s k ∷ [])
     go true b p q e = (number_in k, refl, ap (λ (x : Kind). token s x ∷ []) (number_is k p))
     go false true p q e = ap (λ (x : Kind). token s x ∷ []) (truth_is k q)
     go false false p q e = ap (λ (x : Kind). token s x ∷ []) (builtin_is k e)
 
 -- a builtin's word is none of the others
-word_atom : (s : Span) (w : Builtin) → (is_atom (Reserved (builtin_word w)) ≡ true) × (atom_of s (Reserved (builtin_word w)) ≡ Word s w)
+word_atom : (s : Span) (w : Builtin) → (is_atom (Reserved (builtin_word w)) ≡ true) ×
+    (atom_of s (Reserved (builtin_word w)) ≡ Word s w)
 unfolding builtin_of
 word_atom s Id = (refl, refl)
 word_atom s Count = (refl, refl)
@@ -87,18 +97,21 @@ word_atom s OutDeg = (refl, refl)
 word_atom s Active = (refl, refl)
 word_atom s Weight = (refl, refl)
 
-truth_atom : (s : Span) (v : Bool) → (is_atom (Reserved (truth_word v)) ≡ true) × (atom_of s (Reserved (truth_word v)) ≡ Truth s v)
+truth_atom : (s : Span) (v : Bool) → (is_atom (Reserved (truth_word v)) ≡ true) ×
+    (atom_of s (Reserved (truth_word v)) ≡ Truth s v)
 truth_atom s true = (refl, refl)
 truth_atom s false = (refl, refl)
 
-atom_back : (x : Tree) (u : List Placed) → ReadsAtom x u → (s : Span) × (k : Kind) × (u ≡ token s k ∷ []) × (is_atom k ≡ true) × (atom_of s k ≡ x)
+atom_back : (x : Tree) (u : List Placed) → ReadsAtom x u → (s : Span) × (k : Kind) × (u ≡ token s k ∷ []) ×
+    (is_atom k ≡ true) × (atom_of s k ≡ x)
 atom_back (Literal s value) u h = (s, Number h.0, h.2, refl, ap (λ (v : ℤ). Literal s v) (sym h.1))
 atom_back (Truth s value) u h = let a = truth_atom s value in (s, Reserved (truth_word value), h, a.0, a.1)
 atom_back (Word s w) u h = let a = word_atom s w in (s, Reserved (builtin_word w), h, a.0, a.1)
 atom_back _ u h = absurd h
 
 pub atom_reader : IsReader (free_notion ReadsAtom) (λ m. single is_atom atom_of)
-atom_reader = single_reader ReadsAtom is_atom atom_of (record { form = atom_form; back = atom_back; word = Number 0; is_word = refl })
+atom_reader = single_reader ReadsAtom is_atom atom_of
+    (record { form = atom_form; back = atom_back; word = Number 0; is_word = refl })
 
 -- ---- a name, or what is asked of its slot
 abbrev pub member_word : Bool → ℕ
@@ -119,30 +132,48 @@ member_one = record {
     member_is : (k : Kind) → is_member k ≡ true → k ≡ Reserved (member_word (is_word word.GOT k))
     member_is k e = elim (or_cases (is_word word.GOT k) (is_word word.VALUE k) e) [
       | inl h ↦ same-true k (Reserved word.GOT) h ∙ ap (λ v. Reserved (member_word v)) (sym h)
-      | inr h ↦ (let q = same-true k (Reserved word.VALUE) h in subst (λ x. x ≡ Reserved (member_word (is_word word.GOT x))) (sym q) refl)
+      | inr h ↦ (let q = same-true k (Reserved word.VALUE) h in
+          subst (λ x. x ≡ Reserved (member_word (is_word word.GOT x))) (sym q) refl)
     ]
 
-    known : (x : Bool) → (is_member (Reserved (member_word x)) ≡ true) × (is_word word.GOT (Reserved (member_word x)) ≡ x)
+    known : (x : Bool) → (is_member (Reserved (member_word x)) ≡ true) ×
+        (is_word word.GOT (Reserved (member_word x)) ≡ x)
     known true = (refl, refl)
     known false = (refl, refl)
 
 abbrev member_at : Parser Bool
 member_at = made (λ x. x.1) (both (the_mark mark.DOT) (single is_member (λ s k. is_word word.GOT k)))
 
-member_image : IsImage (both_notion (sign_notion (Mark mark.DOT)) (free_notion (λ (got : Bool). TheWord (member_word got)))) (free_notion ReadsMember) (λ x. x.1)
+member_image : IsImage (both_notion (sign_notion (Mark mark.DOT))
+    (free_notion (λ (got : Bool). TheWord (member_word got)))) (free_notion ReadsMember) (λ x. x.1)
 member_image = record {
   form = λ x u h. record { front = h.front; back = h.back; whole = h.whole; first = (x.0, h.first); second = h.second };
   within = λ l x h. tt;
   shallow = λ b x h. tt;
   follow = λ x r h. tt;
-  back = λ y u h. ((h.first.0, y), refl, record { front = h.front; back = h.back; whole = h.whole; first = h.first.1; second = h.second }, λ l w. (tt, tt));
+  back = λ y u h. (
+    (h.first.0, y),
+    refl,
+    record {
+      front = h.front;
+      back = h.back;
+      whole = h.whole;
+      first = h.first.1;
+      second = h.second;
+    },
+    λ l w. (tt, tt),
+  );
   follow_back = λ x r h. tt;
 }
 
 member_reader : IsReader (free_notion ReadsMember) (λ m. member_at)
 member_reader =
-    made_reader (both_notion (sign_notion (Mark mark.DOT)) (free_notion (λ (got : Bool). TheWord (member_word got)))) (free_notion ReadsMember) (λ x. x.1) (λ m. both (the_mark mark.DOT) (single is_member (λ s k. is_word word.GOT k))) member_image
-    (both_reader (sign_notion (Mark mark.DOT)) (free_notion (λ (got : Bool). TheWord (member_word got))) (λ m. the_mark mark.DOT) (λ m. single is_member (λ s k. is_word word.GOT k)) (λ x y v r h f. tt) (expect_reader (Mark mark.DOT))
+    made_reader (both_notion (sign_notion (Mark mark.DOT)) (free_notion (λ (got : Bool). TheWord (member_word got))))
+    (free_notion ReadsMember) (λ x. x.1) (λ m.
+    both (the_mark mark.DOT) (single is_member (λ s k. is_word word.GOT k))) member_image
+    (both_reader (sign_notion (Mark mark.DOT)) (free_notion (λ (got : Bool). TheWord (member_word got))) (λ m.
+    the_mark mark.DOT) (λ m. single is_member (λ s k. is_word word.GOT k)) (λ x y v r h f. tt)
+    (expect_reader (Mark mark.DOT))
     (single_reader (λ (got : Bool). TheWord (member_word got)) is_member (λ s k. is_word word.GOT k) member_one))
 
 member_opens : (x : Bool) (u r : List Placed) → ReadsMember x u → begins (is_mark mark.DOT) (u ++ r) ≡ true
@@ -152,7 +183,9 @@ abbrev pub named_notion : Notion (Named × Option Bool)
 named_notion = both_notion name_notion (maybe_notion (free_notion ReadsMember) (is_mark mark.DOT))
 
 pub named_reader : IsReader named_notion (λ m. both name_at (maybe (is_mark mark.DOT) member_at))
-named_reader = both_reader name_notion (maybe_notion (free_notion ReadsMember) (is_mark mark.DOT)) (λ m. name_at) (λ m. maybe (is_mark mark.DOT) member_at) (λ x y v r h f. tt) name_reader (maybe_reader (free_notion ReadsMember) (is_mark mark.DOT) member_opens (λ m. member_at) member_reader)
+named_reader = both_reader name_notion (maybe_notion (free_notion ReadsMember) (is_mark mark.DOT)) (λ m. name_at)
+    (λ m. maybe (is_mark mark.DOT) member_at) (λ x y v r h f. tt) name_reader
+    (maybe_reader (free_notion ReadsMember) (is_mark mark.DOT) member_opens (λ m. member_at) member_reader)
 
 -- ---- what is read of the neighbour
 abbrev pub ReadsOther : Named ⊎ Builtin → Form
@@ -164,13 +197,15 @@ other_form s (Name text) e = refl
 other_form s (Number m) e = absurd cc
 other_form s (Mark m) e = absurd cc
 other_form s (Reserved m) e =
-    let b = and_true (is_builtin (Reserved m)) (is_other (builtin_of m)) e in (b.1, (s, ap (λ (x : Kind). token s x ∷ []) (builtin_is (Reserved m) b.0)))
+    let b = and_true (is_builtin (Reserved m)) (is_other (builtin_of m)) e in
+    (b.1, (s, ap (λ (x : Kind). token s x ∷ []) (builtin_is (Reserved m) b.0)))
   where
     and_true : (a b : Bool) → (a && b) ≡ true → (a ≡ true) × (b ≡ true)
     and_true true b e = (refl, e)
     and_true false b e = absurd cc
 
-other_known : (s : Span) (w : Builtin) → IsTrue (is_other w) → (is_other_at (Reserved (builtin_word w)) ≡ true) × (other_in s (Reserved (builtin_word w)) ≡ inr w)
+other_known : (s : Span) (w : Builtin) → IsTrue (is_other w) → (is_other_at (Reserved (builtin_word w)) ≡ true) ×
+    (other_in s (Reserved (builtin_word w)) ≡ inr w)
 unfolding builtin_of
 other_known s Id t = (refl, refl)
 other_known s InDeg t = (refl, refl)
@@ -180,18 +215,25 @@ other_known s Count t = absurd cc
 other_known s Round t = absurd cc
 other_known s Weight t = absurd cc
 
-other_back : (x : Named ⊎ Builtin) (u : List Placed) → ReadsOther x u → (s : Span) × (k : Kind) × (u ≡ token s k ∷ []) × (is_other_at k ≡ true) × (other_in s k ≡ x)
+other_back : (x : Named ⊎ Builtin) (u : List Placed) → ReadsOther x u → (s : Span) × (k : Kind) × (u ≡ token s k ∷ [])
+    × (is_other_at k ≡ true) × (other_in s k ≡ x)
 other_back (inl name) u h = (name.span, Name name.text, h, refl, refl)
 other_back (inr w) u h = let o = other_known h.1.0 w h.0 in (h.1.0, Reserved (builtin_word w), h.1.1, o.0, o.1)
 
 abbrev pub other_notion : Notion (Span × (Span × (Named ⊎ Builtin)))
-other_notion = both_notion (sign_notion (Reserved word.U)) (both_notion (sign_notion (Mark mark.DOT)) (free_notion ReadsOther))
+other_notion = both_notion (sign_notion (Reserved word.U))
+    (both_notion (sign_notion (Mark mark.DOT)) (free_notion ReadsOther))
 
-pub other_reader : IsReader other_notion (λ m. both (the_word word.U) (both (the_mark mark.DOT) (single is_other_at other_in)))
+pub other_reader : IsReader other_notion (λ m.
+    both (the_word word.U) (both (the_mark mark.DOT) (single is_other_at other_in)))
 other_reader =
-    both_reader (sign_notion (Reserved word.U)) (both_notion (sign_notion (Mark mark.DOT)) (free_notion ReadsOther)) (λ m. the_word word.U) (λ m. both (the_mark mark.DOT) (single is_other_at other_in)) (λ x y v r h f. tt) (expect_reader (Reserved word.U))
-    (both_reader (sign_notion (Mark mark.DOT)) (free_notion ReadsOther) (λ m. the_mark mark.DOT) (λ m. single is_other_at other_in) (λ x y v r h f. tt) (expect_reader (Mark mark.DOT))
-    (single_reader ReadsOther is_other_at other_in (record { form = other_form; back = other_back; word = Name []; is_word = refl })))
+    both_reader (sign_notion (Reserved word.U)) (both_notion (sign_notion (Mark mark.DOT)) (free_notion ReadsOther))
+    (λ m. the_word word.U) (λ m. both (the_mark mark.DOT) (single is_other_at other_in)) (λ x y v r h f. tt)
+    (expect_reader (Reserved word.U))
+    (both_reader (sign_notion (Mark mark.DOT)) (free_notion ReadsOther) (λ m. the_mark mark.DOT) (λ m.
+    single is_other_at other_in) (λ x y v r h f. tt) (expect_reader (Mark mark.DOT))
+    (single_reader ReadsOther is_other_at other_in
+    (record { form = other_form; back = other_back; word = Name []; is_word = refl })))
 
 -- ---- a draw
 abbrev pub PlacedNumber : Span × ℕ → Form
@@ -206,13 +248,26 @@ number_one = record {
 }
 
 abbrev pub draw_notion : Notion (Span × (Span × ((Span × ℕ) × Span)))
-draw_notion = both_notion (sign_notion (Reserved word.DRAW)) (both_notion (sign_notion (Mark mark.LEFT_PARENTHESIS)) (both_notion (free_notion PlacedNumber) (sign_notion (Mark mark.RIGHT_PARENTHESIS))))
+draw_notion = both_notion (sign_notion (Reserved word.DRAW))
+    (both_notion (sign_notion (Mark mark.LEFT_PARENTHESIS))
+    (both_notion (free_notion PlacedNumber) (sign_notion (Mark mark.RIGHT_PARENTHESIS))))
 
-pub draw_reader : IsReader draw_notion (λ m. both (the_word word.DRAW) (both (the_mark mark.LEFT_PARENTHESIS) (both (single is_number (λ s k. (s, number_in k))) (the_mark mark.RIGHT_PARENTHESIS))))
+pub draw_reader : IsReader draw_notion (λ m.
+    both (the_word word.DRAW) (both (the_mark mark.LEFT_PARENTHESIS)
+    (both (single is_number (λ s k. (s, number_in k))) (the_mark mark.RIGHT_PARENTHESIS))))
 draw_reader =
-    both_reader (sign_notion (Reserved word.DRAW)) (both_notion (sign_notion (Mark mark.LEFT_PARENTHESIS)) (both_notion (free_notion PlacedNumber) (sign_notion (Mark mark.RIGHT_PARENTHESIS)))) (λ m. the_word word.DRAW)
-    (λ m. both (the_mark mark.LEFT_PARENTHESIS) (both (single is_number (λ s k. (s, number_in k))) (the_mark mark.RIGHT_PARENTHESIS))) (λ x y v r h f. tt) (expect_reader (Reserved word.DRAW))
-    (both_reader (sign_notion (Mark mark.LEFT_PARENTHESIS)) (both_notion (free_notion PlacedNumber) (sign_notion (Mark mark.RIGHT_PARENTHESIS))) (λ m. the_mark mark.LEFT_PARENTHESIS)
-    (λ m. both (single is_number (λ s k. (s, number_in k))) (the_mark mark.RIGHT_PARENTHESIS)) (λ x y v r h f. tt) (expect_reader (Mark mark.LEFT_PARENTHESIS))
-    (both_reader (free_notion PlacedNumber) (sign_notion (Mark mark.RIGHT_PARENTHESIS)) (λ m. single is_number (λ s k. (s, number_in k))) (λ m. the_mark mark.RIGHT_PARENTHESIS) (λ x y v r h f. tt)
-    (single_reader PlacedNumber is_number (λ s k. (s, number_in k)) number_one) (expect_reader (Mark mark.RIGHT_PARENTHESIS))))
+    both_reader (sign_notion (Reserved word.DRAW))
+    (both_notion (sign_notion (Mark mark.LEFT_PARENTHESIS))
+    (both_notion (free_notion PlacedNumber) (sign_notion (Mark mark.RIGHT_PARENTHESIS)))) (λ m. the_word word.DRAW)
+    (λ m. both (the_mark mark.LEFT_PARENTHESIS)
+    (both (single is_number (λ s k. (s, number_in k))) (the_mark mark.RIGHT_PARENTHESIS))) (λ x y v r h f. tt)
+    (expect_reader (Reserved word.DRAW))
+    (both_reader (sign_notion (Mark mark.LEFT_PARENTHESIS))
+    (both_notion (free_notion PlacedNumber) (sign_notion (Mark mark.RIGHT_PARENTHESIS))) (λ m.
+    the_mark mark.LEFT_PARENTHESIS)
+    (λ m. both (single is_number (λ s k. (s, number_in k))) (the_mark mark.RIGHT_PARENTHESIS)) (λ x y v r h f. tt)
+    (expect_reader (Mark mark.LEFT_PARENTHESIS))
+    (both_reader (free_notion PlacedNumber) (sign_notion (Mark mark.RIGHT_PARENTHESIS)) (λ m.
+    single is_number (λ s k. (s, number_in k))) (λ m. the_mark mark.RIGHT_PARENTHESIS) (λ x y v r h f. tt)
+    (single_reader PlacedNumber is_number (λ s k. (s, number_in k)) number_one)
+    (expect_reader (Mark mark.RIGHT_PARENTHESIS))))

@@ -79,33 +79,84 @@ pub record IsLayer (m n : ℕ) : Type 0 where
 
 layer_is : (m : ℕ) → IsLayer m (layer_at m)
 unfolding layer_at
-layer_is m = go (eqb m 7) (ltb m 9) (leb m 14) (leb m 16) (leb m 19) (eqb m 20) (eqb m 21) (eqb m 23) refl refl refl refl refl refl refl refl
+layer_is m = go (eqb m 7) (ltb m 9) (leb m 14) (leb m 16) (leb m 19) (eqb m 20) (eqb m 21) (eqb m 23) refl refl refl
+    refl refl refl refl refl
   where
-    go : (a b c d e f g h : Bool) → eqb m 7 ≡ a → ltb m 9 ≡ b → leb m 14 ≡ c → leb m 16 ≡ d → leb m 19 ≡ e → eqb m 20 ≡ f → eqb m 21 ≡ g → eqb m 23 ≡ h
+    go : (a b c d e f g h : Bool) → eqb m 7 ≡ a → ltb m 9 ≡ b → leb m 14 ≡ c → leb m 16 ≡ d → leb m 19 ≡ e →
+        eqb m 20 ≡ f → eqb m 21 ≡ g → eqb m 23 ≡ h
         → IsLayer m (cond a 0 (cond b 7 (cond c 3 (cond d 2 (cond e 1 (cond f 4 (cond g 5 (cond h 6 7))))))))
-    go true b c d e f g h i1 i2 i3 i4 i5 i6 i7 i8 = record { operators = λ p q. absurd (omega arith); question = λ p. absurd (omega arith); dot = λ p. eqb-true m 7 i1 }
-    go false true c d e f g h i1 i2 i3 i4 i5 i6 i7 i8 = record { operators = λ p q. absurd (omega arith); question = λ p. absurd (omega arith); dot = λ p. absurd (omega arith) }
+    go true b c d e f g h i1 i2 i3 i4 i5 i6 i7 i8 = record {
+      operators = λ p q. absurd (omega arith);
+      question = λ p.
+          absurd (omega arith);
+      dot = λ p. eqb-true m 7 i1;
+    }
+    go false true c d e f g h i1 i2 i3 i4 i5 i6 i7 i8 = record {
+      operators = λ p q. absurd (omega arith);
+      question = λ p. absurd (omega arith);
+      dot = λ p. absurd (omega arith);
+    }
     go false false true d e f g h i1 i2 i3 i4 i5 i6 i7 i8 =
-        record { operators = λ p q. (ltb-false m 9 i2, (let z = leb-true m 14 i3 in omega arith)); question = λ p. absurd (omega arith); dot = λ p. absurd (omega arith) }
+        record {
+          operators = λ p q. (ltb-false m 9 i2, (let z = leb-true m 14 i3 in omega arith));
+          question = λ p.
+              absurd (omega arith);
+          dot = λ p. absurd (omega arith);
+        }
     go false false false true e f g h i1 i2 i3 i4 i5 i6 i7 i8 =
-        record { operators = λ p q. (ltb-false m 9 i2, (let z = leb-true m 16 i4 in omega arith)); question = λ p. absurd (omega arith); dot = λ p. absurd (omega arith) }
+        record {
+          operators = λ p q. (ltb-false m 9 i2, (let z = leb-true m 16 i4 in omega arith));
+          question = λ p.
+              absurd (omega arith);
+          dot = λ p. absurd (omega arith);
+        }
     go false false false false true f g h i1 i2 i3 i4 i5 i6 i7 i8 =
-        record { operators = λ p q. (ltb-false m 9 i2, (let z = leb-true m 19 i5 in omega arith)); question = λ p. absurd (omega arith); dot = λ p. absurd (omega arith) }
+        record {
+          operators = λ p q. (ltb-false m 9 i2, (let z = leb-true m 19 i5 in omega arith));
+          question = λ p.
+              absurd (omega arith);
+          dot = λ p. absurd (omega arith);
+        }
     go false false false false false true g h i1 i2 i3 i4 i5 i6 i7 i8 =
-        record { operators = λ p q. (ltb-false m 9 i2, (let z = eqb-true m 20 i6 in omega arith)); question = λ p. absurd (omega arith); dot = λ p. absurd (omega arith) }
+        record {
+          operators = λ p q. (ltb-false m 9 i2, (let z = eqb-true m 20 i6 in omega arith));
+          question = λ p.
+              absurd (omega arith);
+          dot = λ p. absurd (omega arith);
+        }
     go false false false false false false true h i1 i2 i3 i4 i5 i6 i7 i8 =
-        record { operators = λ p q. (ltb-false m 9 i2, (let z = eqb-true m 21 i7 in omega arith)); question = λ p. absurd (omega arith); dot = λ p. absurd (omega arith) }
-    go false false false false false false false true i1 i2 i3 i4 i5 i6 i7 i8 = record { operators = λ p q. absurd (omega arith); question = λ p. eqb-true m 23 i8; dot = λ p. absurd (omega arith) }
-    go false false false false false false false false i1 i2 i3 i4 i5 i6 i7 i8 = record { operators = λ p q. absurd (omega arith); question = λ p. absurd (omega arith); dot = λ p. absurd (omega arith) }
+        record {
+          operators = λ p q. (ltb-false m 9 i2, (let z = eqb-true m 21 i7 in omega arith));
+          question = λ p.
+              absurd (omega arith);
+          dot = λ p. absurd (omega arith);
+        }
+    go false false false false false false false true i1 i2 i3 i4 i5 i6 i7 i8 = record {
+      operators = λ p q.
+          absurd (omega arith);
+      question = λ p. eqb-true m 23 i8;
+      dot = λ p. absurd (omega arith);
+    }
+    go false false false false false false false false i1 i2 i3 i4 i5 i6 i7 i8 = record {
+      operators = λ p q.
+          absurd (omega arith);
+      question = λ p. absurd (omega arith);
+      dot = λ p. absurd (omega arith);
+    }
 
 -- a mark is that of its operator
 pub record IsOperator (m : ℕ) : Type 0 where
   pub mark : m ≡ mark_of (operator_of m)
   pub layer : layer_of (operator_of m) ≡ layer_at m
 
-among : (P : ℕ → Type 0) → P 9 → P 10 → P 11 → P 12 → P 13 → P 14 → P 15 → P 16 → P 17 → P 18 → P 19 → P 20 → P 21 → (m : ℕ) → 9 ≤ m → m ≤ 21 → P m
+among : (P : ℕ → Type 0) → P 9 → P 10 → P 11 → P 12 → P 13 → P 14 → P 15 → P 16 → P 17 → P 18 → P 19 → P 20 → P 21 →
+    (m : ℕ) → 9 ≤ m → m ≤ 21 → P m
 among P p9 p10 p11 p12 p13 p14 p15 p16 p17 p18 p19 p20 p21 m lo hi =
-    at 9 p9 lo (λ a. at 10 p10 a (λ b. at 11 p11 b (λ c. at 12 p12 c (λ d. at 13 p13 d (λ e. at 14 p14 e (λ f. at 15 p15 f (λ g. at 16 p16 g (λ h. at 17 p17 h (λ i. at 18 p18 i (λ j. at 19 p19 j (λ k. at 20 p20 k (λ l. at 21 p21 l (λ o. absurd (omega arith))))))))))))))
+    at 9 p9 lo (λ a. at 10 p10 a (λ b. at 11 p11 b (λ c.
+    at 12 p12 c (λ d. at 13 p13 d (λ e.
+    at 14 p14 e (λ f. at 15 p15 f (λ g.
+    at 16 p16 g (λ h. at 17 p17 h (λ i.
+    at 18 p18 i (λ j. at 19 p19 j (λ k. at 20 p20 k (λ l. at 21 p21 l (λ o. absurd (omega arith))))))))))))))
   where
     at : (n : ℕ) → P n → n ≤ m → (suc n ≤ m → P m) → P m
     at n p le go = elim (cases_lt n m) [ inl lt ↦ go lt | inr ge ↦ (let e : n ≡ m = omega arith in subst P e p) ]
@@ -128,8 +179,10 @@ operator_is =
     (record { mark = refl; layer = refl })
     (record { mark = refl; layer = refl })
 
-pub marks_operator : (x : Kind) → 1 ≤ layer x → layer x ≤ 5 → (x ≡ Mark (mark_of (operator x))) × (layer_of (operator x) ≡ layer x)
-marks_operator (Mark m) lo hi = let b = (layer_is m).operators lo hi in let o = operator_is m b.0 b.1 in (ap (λ (n : ℕ). Mark n) o.mark, o.layer)
+pub marks_operator : (x : Kind) → 1 ≤ layer x → layer x ≤ 5 → (x ≡ Mark (mark_of (operator x))) ×
+    (layer_of (operator x) ≡ layer x)
+marks_operator (Mark m) lo hi = let b = (layer_is m).operators lo hi in
+    let o = operator_is m b.0 b.1 in (ap (λ (n : ℕ). Mark n) o.mark, o.layer)
 marks_operator (Reserved m) lo hi = absurd (omega arith)
 marks_operator (Number m) lo hi = absurd (omega arith)
 marks_operator (Name m) lo hi = absurd (omega arith)
@@ -164,5 +217,6 @@ no_dot x h = go (is_mark mark.DOT x) refl
 pub dot_less : (x : Kind) → is_mark mark.DOT x ≡ false → 0 < layer x
 dot_less x h = elim (cases_lt 0 (layer x)) [
   | inl lt ↦ lt
-  | inr ge ↦ absurd (let z : layer x ≡ 0 = omega arith in let q : is_mark mark.DOT x ≡ true = ap (is_mark mark.DOT) (dot_zero x z) in cc)
+  | inr ge ↦ absurd (let z : layer x ≡ 0 = omega arith in
+      let q : is_mark mark.DOT x ≡ true = ap (is_mark mark.DOT) (dot_zero x z) in cc)
 ]

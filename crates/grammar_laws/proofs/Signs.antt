@@ -32,18 +32,21 @@ pub is_token : (t : Placed) (k : Kind) → same t.kind k ≡ true → t ≡ toke
 is_token t k e = ap (λ (x : Kind). token t.span x) (same-true t.kind k e)
 
 -- what stands for itself at the front
-pub single_goes : {A : Type 0} (f : Kind → Bool) (g : Span → Kind → A) (s : Span) (k : Kind) (ts : List Placed) → f k ≡ true → single f g (token s k ∷ ts) ≡ Ok (g s k, ts)
+pub single_goes : {A : Type 0} (f : Kind → Bool) (g : Span → Kind → A) (s : Span) (k : Kind) (ts : List Placed) →
+    f k ≡ true → single f g (token s k ∷ ts) ≡ Ok (g s k, ts)
 unfolding single
 single_goes f g s k ts e = rw e refl
 
-pub single_stops : {A : Type 0} (f : Kind → Bool) (g : Span → Kind → A) (ts : List Placed) → begins f ts ≡ false → single f g ts ≡ stop Unexpected ts
+pub single_stops : {A : Type 0} (f : Kind → Bool) (g : Span → Kind → A) (ts : List Placed) → begins f ts ≡ false →
+    single f g ts ≡ stop Unexpected ts
 unfolding single
 single_stops f g ts e = rw e refl
 
 -- one token of a sort, and the values that it may stand for
 pub record IsOne {A : Type 0} (F : A → Form) (f : Kind → Bool) (g : Span → Kind → A) : Type 0 where
   pub form : (s : Span) (k : Kind) → f k ≡ true → F (g s k) (token s k ∷ [])
-  pub back : (x : A) (u : List Placed) → F x u → (s : Span) × (k : Kind) × (u ≡ token s k ∷ []) × (f k ≡ true) × (g s k ≡ x)
+  pub back : (x : A) (u : List Placed) → F x u → (s : Span) × (k : Kind) × (u ≡ token s k ∷ []) × (f k ≡ true) ×
+      (g s k ≡ x)
   pub word : Kind
   pub is_word : f word ≡ true
 
@@ -72,13 +75,14 @@ module _ {A : Type 0} (F : A → Form) (f : Kind → Bool) (g : Span → Kind �
           goes : (ts : List Placed) → begins f ts ≡ true → single f g ts ≡ Err s → ⊥
           goes [] h e = cc
           goes (t ∷ ts) h e = let q = sym (single_goes f g t.span t.kind ts h) ∙ e in cc
-      go false h = subst (Fault (free_notion F) (λ m. single f g) l ts) (err_is (A × List Placed) _ _ (sym (single_stops f g ts h) ∙ e)) (record {
-        used = [];
-        parts = refl;
-        front = (token nowhere one.word ∷ [], g nowhere one.word, one.form nowhere one.word one.is_word, tt);
-        stays = λ m more grows sh. single_stops f g more (begins_same f more ts sh ∙ h);
-        beyond = tt;
-      })
+      go false h = subst (Fault (free_notion F) (λ m. single f g) l ts)
+          (err_is (A × List Placed) _ _ (sym (single_stops f g ts h) ∙ e)) (record {
+            used = [];
+            parts = refl;
+            front = (token nowhere one.word ∷ [], g nowhere one.word, one.form nowhere one.word one.is_word, tt);
+            stays = λ m more grows sh. single_stops f g more (begins_same f more ts sh ∙ h);
+            beyond = tt;
+          })
 
   pub single_reader : IsReader (free_notion F) (λ m. single f g)
   single_reader = record {

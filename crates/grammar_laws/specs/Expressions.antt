@@ -45,15 +45,18 @@ pub record IsTreeFault (b k : ℕ) (ts : List Placed) (s : Stop) : Type 0 where
 
 -- what is read is of the grammar
 abbrev pub TreesAreOfGrammar : Type 0
-TreesAreOfGrammar = (b k : ℕ) → k ≤ 6 → (ts : List Placed) (t : Tree) (r : List Placed) → tree_at b k ts ≡ Ok (t, r) → TookTree b k ts t r
+TreesAreOfGrammar = (b k : ℕ) → k ≤ 6 → (ts : List Placed) (t : Tree) (r : List Placed) → tree_at b k ts ≡ Ok (t, r) →
+    TookTree b k ts t r
 
 -- what is of the grammar is read
 abbrev pub TreesAreRead : Type 0
-TreesAreRead = (b k : ℕ) → k ≤ 6 → (t : Tree) (u r : List Placed) → Reads k t u → depth t ≤ b → Ends k r → tree_at b k (u ++ r) ≡ Ok (t, r)
+TreesAreRead = (b k : ℕ) → k ≤ 6 → (t : Tree) (u r : List Placed) → Reads k t u → depth t ≤ b → Ends k r →
+    tree_at b k (u ++ r) ≡ Ok (t, r)
 
 -- a fault stands at the first token that allows no expression
 abbrev pub TreeFaultsAreFirst : Type 0
-TreeFaultsAreFirst = (b k : ℕ) → 1 ≤ b → k ≤ 6 → (ts : List Placed) (s : Stop) → tree_at b k ts ≡ Err s → IsTreeFault b k ts s
+TreeFaultsAreFirst = (b k : ℕ) → 1 ≤ b → k ≤ 6 → (ts : List Placed) (s : Stop) → tree_at b k ts ≡ Err s →
+    IsTreeFault b k ts s
 
 -- tokens are one expression of a layer at most
 abbrev pub TreesAreUnique : Type 0

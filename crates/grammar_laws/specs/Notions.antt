@@ -38,7 +38,8 @@ SameHead [] (y ∷ ys) = ⊥
 SameHead (x ∷ xs) [] = ⊥
 SameHead (x ∷ xs) (y ∷ ys) = x ≡ y
 
--- What a reader is of: the form of each value, what is within the limits, what is within the depth, and what may follow.
+-- What a reader is of: the form of each value, what is within the limits, what is within the depth, and what may
+-- follow.
 pub record Notion (A : Type 0) : Type 1 where
   pub form : A → Form
   pub within : Limits → A → Type 0
@@ -80,12 +81,15 @@ Beyond N l Unexpected used rest = Unit {0}
 Beyond N l TooDeep used rest = Next N.form Any used rest
 Beyond N l TooMany used rest = Next N.form (N.shallow l.depth) used rest
 
--- The first fault: what was used goes on within the limits, and the reader stops here whatever stands behind the next token.
-pub record Fault {A : Type 0} (N : Notion A) (p : Limits → Parser A) (l : Limits) (ts : List Placed) (s : Stop) : Type 0 where
+-- The first fault: what was used goes on within the limits, and the reader stops here whatever stands behind the next
+-- token.
+pub record Fault {A : Type 0} (N : Notion A) (p : Limits → Parser A) (l : Limits) (ts : List Placed) (s : Stop) : Type
+    0 where
   pub used : List Placed
   pub parts : ts ≡ used ++ s.rest
   pub front : Front N.form (N.within l) used
-  pub stays : (m : Limits) (more : List Placed) → Grows s.why l m → SameHead more s.rest → p m (used ++ more) ≡ stop s.why more
+  pub stays : (m : Limits) (more : List Placed) → Grows s.why l m → SameHead more s.rest →
+      p m (used ++ more) ≡ stop s.why more
   pub beyond : Beyond N l s.why used s.rest
 
 abbrev pub First : {A : Type 0} → Notion A → (Limits → Parser A) → Limits → Type 0
@@ -156,7 +160,8 @@ pub record IsImage {A B : Type 0} (N : Notion A) (M : Notion B) (g : A → B) : 
   pub within : (l : Limits) (x : A) → N.within l x → M.within l (g x)
   pub shallow : (b : ℕ) (x : A) → N.shallow b x → M.shallow b (g x)
   pub follow : (x : A) (r : List Placed) → N.follow x r → M.follow (g x) r
-  pub back : (y : B) (u : List Placed) → M.form y u → (x : A) × (g x ≡ y) × N.form x u × ((l : Limits) → M.within l y → N.within l x)
+  pub back : (y : B) (u : List Placed) → M.form y u → (x : A) × (g x ≡ y) × N.form x u ×
+      ((l : Limits) → M.within l y → N.within l x)
   pub follow_back : (x : A) (r : List Placed) → M.follow (g x) r → N.follow x r
 
 -- a count of the limits, which wider limits don't make smaller
@@ -179,7 +184,8 @@ pub record IsNode {A B : Type 0} (N : Notion A) (K : Notion B) (k : Kind) (f : S
 
 -- the laws where the tokens begin with one of a sort
 abbrev pub SoundWhere : {A : Type 0} → (Kind → Bool) → Notion A → Limits → Parser A → Type 0
-SoundWhere {A} f N l p = (ts : List Placed) (x : A) (r : List Placed) → begins f ts ≡ true → p ts ≡ Ok (x, r) → Took N l ts x r
+SoundWhere {A} f N l p = (ts : List Placed) (x : A) (r : List Placed) → begins f ts ≡ true → p ts ≡ Ok (x, r) →
+    Took N l ts x r
 
 abbrev pub FirstWhere : {A : Type 0} → (Kind → Bool) → Notion A → (Limits → Parser A) → Limits → Type 0
 FirstWhere f N p l = (ts : List Placed) (s : Stop) → begins f ts ≡ true → p l ts ≡ Err s → Fault N p l ts s

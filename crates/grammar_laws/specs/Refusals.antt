@@ -11,9 +11,11 @@ abbrev pub CauseOf : {A : Type 0} → Notion A → Limits → Why → List Place
 CauseOf {A} N l Unexpected used [] = (x : A) → N.form x used → ⊥
 CauseOf N l Unexpected used (t ∷ rest) = Front N.form Any (used ++ t ∷ []) → ⊥
 CauseOf N l TooDeep used [] = ⊥
-CauseOf N l TooDeep used (t ∷ rest) = Front N.form Any (used ++ t ∷ []) × (Front N.form (N.shallow l.depth) (used ++ t ∷ []) → ⊥)
+CauseOf N l TooDeep used (t ∷ rest) = Front N.form Any (used ++ t ∷ []) ×
+    (Front N.form (N.shallow l.depth) (used ++ t ∷ []) → ⊥)
 CauseOf N l TooMany used [] = ⊥
-CauseOf N l TooMany used (t ∷ rest) = Front N.form (N.shallow l.depth) (used ++ t ∷ []) × (Front N.form (N.within l) (used ++ t ∷ []) → ⊥)
+CauseOf N l TooMany used (t ∷ rest) = Front N.form (N.shallow l.depth) (used ++ t ∷ []) ×
+    (Front N.form (N.within l) (used ++ t ∷ []) → ⊥)
 
 -- a front within the limits, which with the next token is none
 pub record RefusedAs {A : Type 0} (N : Notion A) (l : Limits) (ts : List Placed) (s : Stop) : Type 0 where

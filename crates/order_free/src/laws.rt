@@ -16,9 +16,12 @@ use order_laws::order_free_runs;
 /// does nothing.
 pub fn order_free_programs()
     ensures apart { (classes : List Class) → (body : List Stmt) → FormsApart classes body }
-    ensures conditions { (p : Program) → IsTrue (is_typed p) → IsTrue (is_free (freedom_of p)) → IsOrderFree p }
-    ensures runs { (job : Job) → IsTrue (is_typed job.program) → IsTrue (is_free (freedom_of job.program)) → RunsAlike job }
-    ensures resumes { (job : Job) → IsTrue (is_typed job.program) → IsTrue (is_free (freedom_of job.program)) → ResumesAlike job }
+    ensures conditions { (p : Program) → IsTrue (is_typed p) → IsTrue (is_free (freedom_of p)) →
+        IsOrderFree p }
+    ensures runs { (job : Job) → IsTrue (is_typed job.program) →
+        IsTrue (is_free (freedom_of job.program)) → RunsAlike job }
+    ensures resumes { (job : Job) → IsTrue (is_typed job.program) →
+        IsTrue (is_free (freedom_of job.program)) → ResumesAlike job }
 {
     order_free_runs();
 }

@@ -22,7 +22,8 @@ pub record Counting : Type 0 where
 abbrev pub LoadAnswer : {Z : Type 0} → ℕ → Option (List ℕ) → Result (Vec ℕ Z) LoadFault → Type 0
 LoadAnswer limit None result = result ≡ Err Missing
 LoadAnswer limit (Some bytes) result =
-    MatchBool (nat_le (length bytes) limit) (MatchResult result (λ given. given.items ≡ bytes) (λ fault. fault ≡ Want)) (result ≡ Err TooLong)
+    MatchBool (nat_le (length bytes) limit)
+    (MatchResult result (λ given. given.items ≡ bytes) (λ fault. fault ≡ Want)) (result ≡ Err TooLong)
 
 -- how many bytes these contents are
 abbrev pub size_of : Option (List ℕ) → ℕ

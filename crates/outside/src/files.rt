@@ -45,9 +45,14 @@ impl Files {
 // The place of the first file of that name, or the place past the last file.
 fn place_of(files: &[(String, Vec<u8>)], name: &str) -> usize
     ensures within { result ≤ length files.now }
-    ensures here { (other : _) → result < length files.now → bytes_eq (string_bytes (slice_index_or files.now result other).0) name.now ≡ true }
-    ensures named { file_named name.now (drop result (files_of files.now)) ≡ file_named name.now (files_of files.now) }
-    ensures others { (bytes : List ℕ) → take result (files_of files.now) ++ with_file name.now bytes (drop result (files_of files.now)) ≡ with_file name.now bytes (files_of files.now) }
+    ensures here { (other : _) → result < length files.now →
+        bytes_eq (string_bytes (slice_index_or files.now result other).0) name.now ≡ true }
+    ensures named { file_named name.now (drop result (files_of files.now))
+        ≡ file_named name.now (files_of files.now) }
+    ensures others { (bytes : List ℕ) →
+        take result (files_of files.now)
+        ++ with_file name.now bytes (drop result (files_of files.now))
+        ≡ with_file name.now bytes (files_of files.now) }
 {
     let mut at = 0;
     while at < files.len() {
@@ -76,7 +81,8 @@ fn put_at(
     name: &str,
     bytes: &[u8],
 ) -> Result<(), Want>
-    ensures put { OnOk result (files_of files.new.items ≡ with_file name.now bytes.now (files_of files.old.items)) }
+    ensures put { OnOk result (files_of files.new.items
+        ≡ with_file name.now bytes.now (files_of files.old.items)) }
     ensures want { OnErr result (files_of files.new.items ≡ files_of files.old.items) }
 {
     let Ok(fresh) = Vec::from_slice(alloc, bytes) else {

@@ -27,7 +27,11 @@ impl Model for MemSource {
 
 impl MemSource {
     pub fn new(pieces: Vec<Vec<u8>>, fails: Vec<u64>) -> MemSource
-        ensures { result ≡ record { pieces = contents pieces.items; calls = record { fails = fails.items; count = 0 }; faults = 0 } }
+        ensures { result ≡ record {
+          pieces = contents pieces.items;
+          calls = record { fails = fails.items; count = 0 };
+          faults = 0;
+        } }
     {
         MemSource {
             unread: Unread::new(pieces),
@@ -43,11 +47,17 @@ impl Source for MemSource {
     ghost faults = { λ source. source.faults };
 
     fn take(&mut self, into: &mut [u8]) -> Result<usize, SourceFault>
-        ensures answer { result ≡ (if next_fails self.old.calls then Err (record {}) else Ok (length (first_bytes (length into.old) self.old.pieces))) }
-        ensures into { into.new ≡ (if next_fails self.old.calls then into.old else first_bytes (length into.old) self.old.pieces ++ drop (length (first_bytes (length into.old) self.old.pieces)) into.old) }
-        ensures pieces { self.new.pieces ≡ (if next_fails self.old.calls then self.old.pieces else without_first (length into.old) self.old.pieces) }
+        ensures answer { result ≡ (if next_fails self.old.calls then Err (record {})
+            else Ok (length (first_bytes (length into.old) self.old.pieces))) }
+        ensures into { into.new ≡ (if next_fails self.old.calls then into.old
+            else first_bytes (length into.old) self.old.pieces
+            ++ drop (length (first_bytes (length into.old) self.old.pieces)) into.old) }
+        ensures pieces { self.new.pieces
+            ≡ (if next_fails self.old.calls then self.old.pieces
+            else without_first (length into.old) self.old.pieces) }
         ensures calls { self.new.calls ≡ called self.old.calls }
-        ensures faults { self.new.faults ≡ (if next_fails self.old.calls then one_more self.old.faults else self.old.faults) }
+        ensures faults { self.new.faults
+            ≡ (if next_fails self.old.calls then one_more self.old.faults else self.old.faults) }
     {
         if self.calls.next_fails() {
             self.fault_count = self.fault_count.saturating_add(1);

@@ -47,9 +47,12 @@ impl Unread {
 
 // The place of the next byte, past pieces that are empty or given.
 fn next_place(pieces: &[Vec<u8>], first: usize, given_of_first: usize) -> (usize, usize)
-    ensures bytes { (size : ℕ) → first_bytes size (unread result.0 result.1 (contents pieces.now)) ≡ first_bytes size (unread first given_of_first (contents pieces.now)) }
-    ensures rest { (size : ℕ) → without_first size (unread result.0 result.1 (contents pieces.now)) ≡ without_first size (unread first given_of_first (contents pieces.now)) }
-    ensures there { (other : _) → result.0 < length pieces.now → result.1 < length (slice_index_or pieces.now result.0 other).items }
+    ensures bytes { (size : ℕ) → first_bytes size (unread result.0 result.1 (contents pieces.now))
+        ≡ first_bytes size (unread first given_of_first (contents pieces.now)) }
+    ensures rest { (size : ℕ) → without_first size (unread result.0 result.1 (contents pieces.now))
+        ≡ without_first size (unread first given_of_first (contents pieces.now)) }
+    ensures there { (other : _) → result.0 < length pieces.now →
+        result.1 < length (slice_index_or pieces.now result.0 other).items }
 {
     let mut at = first;
     let mut given = given_of_first;
@@ -62,10 +65,14 @@ fn next_place(pieces: &[Vec<u8>], first: usize, given_of_first: usize) -> (usize
 
 // Copies what fits of the piece at a place, and answers how much it is.
 fn copy_at(pieces: &[Vec<u8>], at: usize, given: usize, into: &mut [u8]) -> usize
-    requires { (other : _) → at < length pieces.now → given < length (slice_index_or pieces.now at other).items }
-    ensures size { result ≡ length (first_bytes (length into.old) (unread at given (contents pieces.now))) }
-    ensures into { into.new ≡ first_bytes (length into.old) (unread at given (contents pieces.now)) ++ drop result into.old }
-    ensures rest { unread at (given + result) (contents pieces.now) ≡ without_first (length into.old) (unread at given (contents pieces.now)) }
+    requires { (other : _) → at < length pieces.now →
+        given < length (slice_index_or pieces.now at other).items }
+    ensures size { result ≡ length (first_bytes (length into.old)
+        (unread at given (contents pieces.now))) }
+    ensures into { into.new ≡ first_bytes (length into.old) (unread at given (contents pieces.now))
+        ++ drop result into.old }
+    ensures rest { unread at (given + result) (contents pieces.now)
+        ≡ without_first (length into.old) (unread at given (contents pieces.now)) }
     ensures fits { given + result < 2 ^ 64 }
 {
     if at < pieces.len() {

@@ -48,7 +48,8 @@ impl Shelf for FirmShelf {
 
     fn load(&mut self, alloc: Global, name: &str, limit: u64) -> Result<Vec<u8>, LoadFault>
         ensures answer { LoadAnswer limit (file_named name.now self.old.files) result }
-        ensures state { self.new ≡ record self.old { came = size_of (file_named name.now self.old.files) } }
+        ensures state { self.new ≡ record self.old
+            { came = size_of (file_named name.now self.old.files) } }
     {
         let found = self.files.find(name);
         let size = size_of(found);
@@ -58,7 +59,8 @@ impl Shelf for FirmShelf {
     }
 
     fn store(&mut self, name: &str, bytes: &[u8]) -> Result<(), StoreFault>
-        ensures stored { OnOk result (self.new ≡ record self.old { files = with_file name.now bytes.now self.old.files }) }
+        ensures stored { OnOk result
+            (self.new ≡ record self.old { files = with_file name.now bytes.now self.old.files }) }
         ensures want { IfErr result (λ fault. (fault ≡ StoreFault.Want) × (self.new ≡ self.old)) }
     {
         match self.files.put(name, bytes) {
@@ -84,13 +86,25 @@ impl Model for MemShelf {
 
     ghost Value = { Counting };
 
-    ghost view = { λ shelf. record { files = shelf.files; came = shelf.came; calls = shelf.calls; loads = shelf.load_count; stores = shelf.store_count } };
+    ghost view = { λ shelf. record {
+      files = shelf.files;
+      came = shelf.came;
+      calls = shelf.calls;
+      loads = shelf.load_count;
+      stores = shelf.store_count;
+    } };
 }
 
 impl MemShelf {
     pub fn new(alloc: Global, files: Vec<(String, Vec<u8>)>, fails: Vec<u64>) -> MemShelf
         requires { IsTrue (names_differ (files_of files.items)) }
-        ensures { result ≡ record { files = files_of files.items; came = 0; calls = record { fails = fails.items; count = 0 }; loads = 0; stores = 0 } }
+        ensures { result ≡ record {
+          files = files_of files.items;
+          came = 0;
+          calls = record { fails = fails.items; count = 0 };
+          loads = 0;
+          stores = 0;
+        } }
     {
         MemShelf {
             files: Files::new(alloc, files),
@@ -112,9 +126,18 @@ impl Shelf for MemShelf {
     ghost came = { λ shelf. shelf.came };
 
     fn load(&mut self, alloc: Global, name: &str, limit: u64) -> Result<Vec<u8>, LoadFault>
-        ensures failed { next_fails self.old.calls ≡ true → (result ≡ Err LoadFault.Failed) × (self.new ≡ record self.old { calls = called self.old.calls; loads = one_more self.old.loads }) }
-        ensures answer { next_fails self.old.calls ≡ false → LoadAnswer limit (file_named name.now self.old.files) result }
-        ensures state { next_fails self.old.calls ≡ false → self.new ≡ record self.old { calls = called self.old.calls; came = size_of (file_named name.now self.old.files) } }
+        ensures failed { next_fails self.old.calls ≡ true → (result ≡ Err LoadFault.Failed) ×
+            (self.new ≡ record self.old {
+              calls = called self.old.calls;
+              loads = one_more self.old.loads;
+            }) }
+        ensures answer { next_fails self.old.calls ≡ false →
+            LoadAnswer limit (file_named name.now self.old.files) result }
+        ensures state { next_fails self.old.calls ≡ false →
+            self.new ≡ record self.old {
+              calls = called self.old.calls;
+              came = size_of (file_named name.now self.old.files);
+            } }
     {
         if self.calls.next_fails() {
             self.load_count = self.load_count.saturating_add(1);
@@ -128,9 +151,19 @@ impl Shelf for MemShelf {
     }
 
     fn store(&mut self, name: &str, bytes: &[u8]) -> Result<(), StoreFault>
-        ensures failed { next_fails self.old.calls ≡ true → (result ≡ Err StoreFault.Failed) × (self.new ≡ record self.old { calls = called self.old.calls; stores = one_more self.old.stores }) }
-        ensures stored { next_fails self.old.calls ≡ false → OnOk result (self.new ≡ record self.old { calls = called self.old.calls; files = with_file name.now bytes.now self.old.files }) }
-        ensures want { next_fails self.old.calls ≡ false → IfErr result (λ fault. (fault ≡ StoreFault.Want) × (self.new ≡ record self.old { calls = called self.old.calls })) }
+        ensures failed { next_fails self.old.calls ≡ true → (result ≡ Err StoreFault.Failed) ×
+            (self.new ≡ record self.old {
+              calls = called self.old.calls;
+              stores = one_more self.old.stores;
+            }) }
+        ensures stored { next_fails self.old.calls ≡ false →
+            OnOk result (self.new ≡ record self.old {
+              calls = called self.old.calls;
+              files = with_file name.now bytes.now self.old.files;
+            }) }
+        ensures want { next_fails self.old.calls ≡ false →
+            IfErr result (λ fault. (fault ≡ StoreFault.Want) ×
+            (self.new ≡ record self.old { calls = called self.old.calls })) }
     {
         if self.calls.next_fails() {
             self.store_count = self.store_count.saturating_add(1);

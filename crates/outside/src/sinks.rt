@@ -50,8 +50,10 @@ impl Sink for FirmSink {
     ghost spare = { λ sink. sink.room - length sink.bytes };
 
     fn put(&mut self, bytes: &[u8]) -> Result<usize, SinkFault>
-        ensures answer { result ≡ (if fits self.old bytes.now then Ok (length bytes.now) else Err (record {})) }
-        ensures state { self.new ≡ (if fits self.old bytes.now then with_bytes bytes.now self.old else with_fault self.old) }
+        ensures answer { result ≡ (if fits self.old bytes.now then Ok (length bytes.now)
+            else Err (record {})) }
+        ensures state { self.new ≡ (if fits self.old bytes.now then with_bytes bytes.now self.old
+            else with_fault self.old) }
     {
         if bytes.len() <= self.held.room_left() {
             self.held.hold(bytes);
@@ -103,8 +105,10 @@ impl Sink for DripSink {
     ghost spare = { λ sink. sink.room - length sink.bytes };
 
     fn put(&mut self, bytes: &[u8]) -> Result<usize, SinkFault>
-        ensures answer { result ≡ (if fits self.old (take 1 bytes.now) then Ok (length (take 1 bytes.now)) else Err (record {})) }
-        ensures state { self.new ≡ (if fits self.old (take 1 bytes.now) then with_bytes (take 1 bytes.now) self.old else with_fault self.old) }
+        ensures answer { result ≡ (if fits self.old (take 1 bytes.now)
+            then Ok (length (take 1 bytes.now)) else Err (record {})) }
+        ensures state { self.new ≡ (if fits self.old (take 1 bytes.now)
+            then with_bytes (take 1 bytes.now) self.old else with_fault self.old) }
     {
         let drop = &bytes[..bytes.len().min(1)];
         if drop.len() <= self.held.room_left() {
@@ -136,7 +140,11 @@ impl Model for MemSink {
 impl MemSink {
     /// Takes the memory for all of its room.
     pub fn new(alloc: Global, room: usize, fails: Vec<u64>) -> Result<MemSink, Want>
-        ensures { IfOk result (λ sink. sink ≡ record { held = record { bytes = []; room = room; faults = 0 }; calls = record { fails = fails.items; count = 0 } }) }
+        ensures { IfOk result (λ sink.
+            sink ≡ record {
+              held = record { bytes = []; room = room; faults = 0 };
+              calls = record { fails = fails.items; count = 0 };
+            }) }
     {
         Ok(MemSink {
             held: Held::new(alloc, room)?,
@@ -158,8 +166,11 @@ impl Sink for MemSink {
     ghost faults = { λ sink. sink.held.faults };
 
     fn put(&mut self, bytes: &[u8]) -> Result<usize, SinkFault>
-        ensures answer { result ≡ (if not (next_fails self.old.calls) && fits self.old.held bytes.now then Ok (length bytes.now) else Err (record {})) }
-        ensures held { self.new.held ≡ (if not (next_fails self.old.calls) && fits self.old.held bytes.now then with_bytes bytes.now self.old.held else with_fault self.old.held) }
+        ensures answer { result ≡ (if not (next_fails self.old.calls)
+            && fits self.old.held bytes.now then Ok (length bytes.now) else Err (record {})) }
+        ensures held { self.new.held
+            ≡ (if not (next_fails self.old.calls) && fits self.old.held bytes.now
+            then with_bytes bytes.now self.old.held else with_fault self.old.held) }
         ensures calls { self.new.calls ≡ called self.old.calls }
     {
         let fails = self.calls.next_fails();

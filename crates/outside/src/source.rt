@@ -22,7 +22,8 @@ pub trait Source {
         ensures within { IfOk result (λ n. n ≤ length into.old) }
         ensures rest { IfOk result (λ n. drop n into.new ≡ drop n into.old) }
         // 0 is answered only at the end, or for an empty slice.
-        ensures end { result ≡ Ok 0 → 0 < length into.old → (bytes : List ℕ) → left self.old ≡ Some bytes → bytes ≡ [] }
+        ensures end { result ≡ Ok 0 → 0 < length into.old → (bytes : List ℕ) →
+            left self.old ≡ Some bytes → bytes ≡ [] }
         ensures counted { OnOk result (faults self.new ≡ faults self.old) }
         ensures nothing { OnErr result (left self.new ≡ left self.old) }
         ensures failed { OnErr result (Rose (faults self.old) (faults self.new)) }

@@ -44,21 +44,39 @@ pub record Gap (b : ℕ) : Type 0 where
 
 pub gap_space : Gap 32
 unfolding marks
-gap_space = record { blank = refl; no_letter = refl; no_digit = refl; no_word = refl; no_slash = refl; no_mark = refl; itself = refl }
+gap_space = record {
+  blank = refl;
+  no_letter = refl;
+  no_digit = refl;
+  no_word = refl;
+  no_slash = refl;
+  no_mark = refl;
+  itself = refl;
+}
 
 pub gap_line : Gap 10
 unfolding marks
-gap_line = record { blank = refl; no_letter = refl; no_digit = refl; no_word = refl; no_slash = refl; no_mark = refl; itself = refl }
+gap_line = record {
+  blank = refl;
+  no_letter = refl;
+  no_digit = refl;
+  no_word = refl;
+  no_slash = refl;
+  no_mark = refl;
+  itself = refl;
+}
 
 kind_is : (b : ℕ) (u : List ℕ)
     → kind_of (b ∷ u)
     ≡ cond (is_letter b) (cond (list_all is_word u) (Some (word_at (place_of reserved_words (b ∷ u)) (b ∷ u))) None)
-    (cond (is_digit b) (cond (list_all is_digit u) (Some (Number (digits_value 10 (b ∷ u)))) None) (mark_at (place_of marks (b ∷ u))))
+    (cond (is_digit b) (cond (list_all is_digit u) (Some (Number (digits_value 10 (b ∷ u)))) None)
+    (mark_at (place_of marks (b ∷ u))))
 unfolding kind_of
 kind_is b u = refl
 
 module _ (b : ℕ) (g : Gap b) where
-  fails_at : (p : ℕ → Bool) → p b ≡ false → (u : List ℕ) (i : ℕ) → i < length u → get_or u i 0 ≡ b → list_all p u ≡ false
+  fails_at : (p : ℕ → Bool) → p b ≡ false → (u : List ℕ) (i : ℕ) → i < length u → get_or u i 0 ≡ b →
+      list_all p u ≡ false
   fails_at p h u i lt e = list_all_at p u i 0 lt (ap p e ∙ h)
 
   mark_gap : (u : List ℕ) (i : ℕ) → i < length u → get_or u i 0 ≡ b → mark_at (place_of marks u) ≡ None
@@ -84,7 +102,8 @@ module _ (b : ℕ) (g : Gap b) where
 
       go : (v y : Bool)
           → cond v (cond (list_all is_word u) (Some (word_at (place_of reserved_words (x ∷ u)) (x ∷ u))) None)
-          (cond y (cond (list_all is_digit u) (Some (Number (digits_value 10 (x ∷ u)))) None) (mark_at (place_of marks (x ∷ u))))
+          (cond y (cond (list_all is_digit u) (Some (Number (digits_value 10 (x ∷ u)))) None)
+          (mark_at (place_of marks (x ∷ u))))
           ≡ None
       go true y = rw w refl
       go false true = rw d refl
@@ -103,14 +122,16 @@ module _ (b : ℕ) (g : Gap b) where
   cut_length (x ∷ u) more (suc j) lt = let q = cut_length u more j (omega arith) in omega arith
 
   -- a token before it is the longest there
-  before_gap : (x : ℕ) (u more : List ℕ) → is_token (x ∷ u) ≡ true → longest (length ((x ∷ u) ++ b ∷ more)) ((x ∷ u) ++ b ∷ more) ≡ length (x ∷ u)
+  before_gap : (x : ℕ) (u more : List ℕ) → is_token (x ∷ u) ≡ true →
+      longest (length ((x ∷ u) ++ b ∷ more)) ((x ∷ u) ++ b ∷ more) ≡ length (x ∷ u)
   before_gap x u more e =
       let text = (x ∷ u) ++ b ∷ more in
       let n = length u in
       let f : take (suc n) text ≡ x ∷ u = take_at (x ∷ u) (b ∷ more) (suc n) refl in
       let len : suc n + (1 + length more) ≡ length text = omega (arith, length-append (x ∷ u) (b ∷ more)) in
       subst (λ m. longest m text ≡ suc n) len
-      (longest_is (1 + length more) n text (ap is_token f ∙ e) (λ j lt le. ap is_some (no_gap (take j text) (suc n) (cut_length (x ∷ u) more j lt) (at_cut (x ∷ u) more j lt))))
+      (longest_is (1 + length more) n text (ap is_token f ∙ e) (λ j lt le.
+      ap is_some (no_gap (take j text) (suc n) (cut_length (x ∷ u) more j lt) (at_cut (x ∷ u) more j lt))))
 
 -- ---- how a token begins
 blank_first : list_all (λ m. not (is_blank (get_or m 0 0))) marks ≡ true
@@ -120,7 +141,8 @@ blank_first = refl
 blank_tests : (b : ℕ) → is_blank b ≡ true → (is_letter b ≡ false) × (is_digit b ≡ false)
 blank_tests b h = (grind (arith, nat_tests, h), grind (arith, nat_tests, h))
 
-no_token : (x : ℕ) (u : List ℕ) → is_letter x ≡ false → is_digit x ≡ false → place_of marks (x ∷ u) ≡ None → is_token (x ∷ u) ≡ false
+no_token : (x : ℕ) (u : List ℕ) → is_letter x ≡ false → is_digit x ≡ false → place_of marks (x ∷ u) ≡ None →
+    is_token (x ∷ u) ≡ false
 no_token x u l d m = let none : kind_of (x ∷ u) ≡ None = kind_is x u ∙ rw (l, d, m) refl in ap is_some none
 
 pub no_blank : (x : ℕ) (u : List ℕ) → is_token (x ∷ u) ≡ true → is_blank x ≡ false
@@ -130,7 +152,8 @@ no_blank x u e = go (is_blank x) refl
     go false h = h
     go true h =
         let t = blank_tests x h in
-        let none = no_token x u t.0 t.1 (unmarked (λ m. not (is_blank (get_or m 0 0))) (x ∷ u) blank_first (ap not h)) in
+        let none = no_token x u t.0 t.1 (unmarked (λ m. not (is_blank (get_or m 0 0))) (x ∷ u) blank_first (ap not h))
+        in
         absurd cc
 
 slash_first : list_all (λ m. not (is_comment (get_or m 0 0) (drop 1 m))) marks ≡ true
@@ -147,10 +170,12 @@ no_comment x u e = go (is_comment x u) refl
     go false h = h
     go true h =
         let t = comment_tests x u h in
-        let none = no_token x u t.0 t.1 (unmarked (λ m. not (is_comment (get_or m 0 0) (drop 1 m))) (x ∷ u) slash_first (ap not h)) in
+        let none = no_token x u t.0 t.1 (unmarked (λ m. not (is_comment (get_or m 0 0) (drop 1 m))) (x ∷ u)
+        slash_first (ap not h)) in
         absurd cc
 
-no_comment_before : (b : ℕ) (g : Gap b) (x : ℕ) (u more : List ℕ) → is_token (x ∷ u) ≡ true → is_comment x (u ++ b ∷ more) ≡ false
+no_comment_before : (b : ℕ) (g : Gap b) (x : ℕ) (u more : List ℕ) → is_token (x ∷ u) ≡ true →
+    is_comment x (u ++ b ∷ more) ≡ false
 no_comment_before b g x [] more e = go (eqb x 47)
   where
     go : (v : Bool) → (v && eqb b 47) ≡ false
@@ -162,8 +187,10 @@ no_comment_before b g x (y ∷ u) more e = no_comment x (y ∷ u) e
 passed : Span → Kind → Result (List Placed) LexFault → Result (List Placed) LexFault
 passed s k r = followed s (Ok k) r
 
-pub read_on : (b : ℕ) (g : Gap b) (s : Span) (x : ℕ) (u more : List ℕ) (k : Kind) (ts : List Placed) → kind_of (x ∷ u) ≡ Some k → judged s (Some k) ≡ Ok k
-    → tokens_at false 0 (after (through s (x ∷ u)) b) more ≡ Ok ts → tokens_at false 0 s ((x ∷ u) ++ b ∷ more) ≡ Ok (record { span = s; kind = k } ∷ ts)
+pub read_on : (b : ℕ) (g : Gap b) (s : Span) (x : ℕ) (u more : List ℕ) (k : Kind) (ts : List Placed) →
+    kind_of (x ∷ u) ≡ Some k → judged s (Some k) ≡ Ok k
+    → tokens_at false 0 (after (through s (x ∷ u)) b) more ≡ Ok ts → tokens_at false 0 s ((x ∷ u) ++ b ∷ more)
+    ≡ Ok (record { span = s; kind = k } ∷ ts)
 read_on b g s x u more k ts e fits h =
     let token : is_token (x ∷ u) ≡ true = ap is_some e in
     let l = before_gap b g x u more token in

@@ -18,29 +18,38 @@ AreTokens [] = Unit {0}
 AreTokens (k ∷ ks) = IsToken k × AreTokens ks
 
 -- ---- what was lexed are tokens
-module _ (s : Span) (bytes : List ℕ) (others : Result (List Placed) LexFault) (deeper : (ts : List Placed) → others ≡ Ok ts → AreTokens (kinds ts)) where
+module _ (s : Span) (bytes : List ℕ) (others : Result (List Placed) LexFault) (deeper : (ts : List Placed) →
+    others ≡ Ok ts → AreTokens (kinds ts)) where
   first_token : (ts : List Placed) → followed s (judged s (kind_of bytes)) others ≡ Ok ts → AreTokens (kinds ts)
   first_token ts h = go (judged s (kind_of bytes)) others refl refl h
     where
-      go : (j : Result Kind LexFault) (r : Result (List Placed) LexFault) → judged s (kind_of bytes) ≡ j → others ≡ r → followed s j r ≡ Ok ts → AreTokens (kinds ts)
+      go : (j : Result Kind LexFault) (r : Result (List Placed) LexFault) → judged s (kind_of bytes) ≡ j →
+          others ≡ r → followed s j r ≡ Ok ts → AreTokens (kinds ts)
       go (Err f) r e i h = absurd cc
       go (Ok k) (Err f) e i h = absurd cc
       go (Ok k) (Ok rest) e i h =
           let same : record { span = s; kind = k } ∷ rest ≡ ts = cc in
           subst (λ l. AreTokens (kinds l)) same (judged_token s bytes k e, deeper rest i)
 
-lexed_at : (comment : Bool) (n : ℕ) (s : Span) (text : List ℕ) (ts : List Placed) → tokens_at comment n s text ≡ Ok ts → AreTokens (kinds ts)
+lexed_at : (comment : Bool) (n : ℕ) (s : Span) (text : List ℕ) (ts : List Placed) → tokens_at comment n s text ≡ Ok ts
+    → AreTokens (kinds ts)
 lexed_at comment n s [] ts h = let same : [] ≡ ts = cc in subst (λ l. AreTokens (kinds l)) same tt
 lexed_at true n s (b ∷ bs) ts h = lexed_at (not (b == 10)) 0 (after s b) bs ts h
 lexed_at false (suc n) s (b ∷ bs) ts h = lexed_at false n (after s b) bs ts h
 lexed_at false zero s (b ∷ bs) ts h =
     let n = longest (length (b ∷ bs)) (b ∷ bs) in
     go (is_blank b) (is_comment b bs) (lexed_at false 0 (after s b) bs ts) (lexed_at true 0 (after s b) bs ts)
-    (first_token s (take n (b ∷ bs)) (tokens_at false (pred n) (after s b) bs) (λ us e. lexed_at false (pred n) (after s b) bs us e) ts) h
+    (first_token s (take n (b ∷ bs)) (tokens_at false (pred n) (after s b) bs) (λ us e.
+    lexed_at false (pred n) (after s b) bs us e) ts) h
   where
-    go : (v w : Bool) → (tokens_at false 0 (after s b) bs ≡ Ok ts → AreTokens (kinds ts)) → (tokens_at true 0 (after s b) bs ≡ Ok ts → AreTokens (kinds ts))
-        → (followed s (judged s (kind_of (take (longest (length (b ∷ bs)) (b ∷ bs)) (b ∷ bs)))) (tokens_at false (pred (longest (length (b ∷ bs)) (b ∷ bs))) (after s b) bs) ≡ Ok ts → AreTokens (kinds ts))
-        → cond v (tokens_at false 0 (after s b) bs) (cond w (tokens_at true 0 (after s b) bs) (followed s (judged s (kind_of (take (longest (length (b ∷ bs)) (b ∷ bs)) (b ∷ bs)))) (tokens_at false (pred (longest (length (b ∷ bs)) (b ∷ bs))) (after s b) bs)))
+    go : (v w : Bool) → (tokens_at false 0 (after s b) bs ≡ Ok ts → AreTokens (kinds ts)) →
+        (tokens_at true 0 (after s b) bs ≡ Ok ts → AreTokens (kinds ts))
+        → (followed s (judged s (kind_of (take (longest (length (b ∷ bs)) (b ∷ bs)) (b ∷ bs))))
+        (tokens_at false (pred (longest (length (b ∷ bs)) (b ∷ bs))) (after s b) bs) ≡ Ok ts → AreTokens (kinds ts))
+        → cond v (tokens_at false 0 (after s b) bs)
+        (cond w (tokens_at true 0 (after s b) bs)
+        (followed s (judged s (kind_of (take (longest (length (b ∷ bs)) (b ∷ bs)) (b ∷ bs))))
+        (tokens_at false (pred (longest (length (b ∷ bs)) (b ∷ bs))) (after s b) bs)))
         ≡ Ok ts → AreTokens (kinds ts)
     go true w x y z h = x h
     go false true x y z h = y h
@@ -66,15 +75,18 @@ gap_of k = go (ends_line k)
     go true = gap_line
     go false = gap_space
 
-one_more : (k : Kind) (ks : List Kind) (bytes : List ℕ) (s : Span) → text_of k ≡ bytes → IsToken k → ((t : Span) → Lexed t ks (laid ks)) → Lexed s (k ∷ ks) ((bytes ++ behind k ∷ []) ++ laid ks)
-one_more k ks [] s e token deeper = absurd (let bad : None ≡ Some k = sym kind_nothing ∙ ap kind_of (sym e) ∙ token.read in cc)
+one_more : (k : Kind) (ks : List Kind) (bytes : List ℕ) (s : Span) → text_of k ≡ bytes → IsToken k →
+    ((t : Span) → Lexed t ks (laid ks)) → Lexed s (k ∷ ks) ((bytes ++ behind k ∷ []) ++ laid ks)
+one_more k ks [] s e token deeper = absurd (let bad : None ≡ Some k = sym kind_nothing ∙ ap kind_of (sym e)
+    ∙ token.read in cc)
 one_more k ks (x ∷ u) s e token deeper =
     let b = behind k in
     let d = deeper (after (through s (x ∷ u)) b) in
     let shape : ((x ∷ u) ++ b ∷ []) ++ laid ks ≡ (x ∷ u) ++ b ∷ laid ks = append_assoc (x ∷ u) (b ∷ []) (laid ks) in
     record {
       tokens = record { span = s; kind = k } ∷ d.tokens;
-      lexed = ap (tokens_at false 0 s) shape ∙ read_on b (gap_of k) s x u (laid ks) k d.tokens (ap kind_of (sym e) ∙ token.read) (token.fits s) d.lexed;
+      lexed = ap (tokens_at false 0 s) shape
+          ∙ read_on b (gap_of k) s x u (laid ks) k d.tokens (ap kind_of (sym e) ∙ token.read) (token.fits s) d.lexed;
       same = ap (λ l. k ∷ l) d.same;
     }
 

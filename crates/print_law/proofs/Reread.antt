@@ -17,7 +17,11 @@ ok_same : (a b : List Placed) → ◌≡◌ {A = Result (List Placed) LexFault} 
 ok_same a b e = cc
 
 pub prints_again : PrinterLaw
-prints_again text p h = record { layout = λ all lexed. layout ∙ ap laid (sym (kinds_of all lexed)); again = λ le. says (lexed_again (spelled_program p) tokens (subst (λ t. length t ≤ 65536) layout le)) }
+prints_again text p h = record {
+  layout = λ all lexed. layout ∙ ap laid (sym (kinds_of all lexed));
+  again = λ le.
+      says (lexed_again (spelled_program p) tokens (subst (λ t. length t ≤ 65536) layout le));
+}
   where
     spelled_so : kinds h.tokens ≡ spelled_program p
     spelled_so = program_kinds p h.tokens h.reads.reads
@@ -37,5 +41,9 @@ prints_again text p h = record { layout = λ all lexed. layout ∙ ap laid (sym 
         record {
           tree = f.value;
           same = f.same;
-          says = record { tokens = l.tokens; lexed = ap tokens_of layout ∙ l.lexed; reads = record { reads = f.form; small = same_small limits p f.value f.same h.reads.small } };
+          says = record {
+            tokens = l.tokens;
+            lexed = ap tokens_of layout ∙ l.lexed;
+            reads = record { reads = f.form; small = same_small limits p f.value f.same h.reads.small };
+          };
         }

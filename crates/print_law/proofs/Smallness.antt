@@ -19,22 +19,27 @@ plain_depth (OtherWord s word) = refl
 plain_depth (Draw s at number) = refl
 plain_depth (Negative s inner) = ap suc (plain_depth inner)
 plain_depth (Not s inner) = ap suc (plain_depth inner)
-plain_depth (Pair s op left right) = ap (λ n. suc (max n (depth (plain right)))) (plain_depth left) ∙ ap (λ n. suc (max (depth left) n)) (plain_depth right)
+plain_depth (Pair s op left right) = ap (λ n. suc (max n (depth (plain right)))) (plain_depth left)
+    ∙ ap (λ n. suc (max (depth left) n)) (plain_depth right)
 plain_depth (Choice s test held otherwise) =
     ap (λ n. suc (max n (max (depth (plain held)) (depth (plain otherwise))))) (plain_depth test)
     ∙ ap (λ n. suc (max (depth test) (max n (depth (plain otherwise))))) (plain_depth held)
     ∙ ap (λ n. suc (max (depth test) (max (depth held) n))) (plain_depth otherwise)
-plain_depth (Least s left right) = ap (λ n. suc (max n (depth (plain right)))) (plain_depth left) ∙ ap (λ n. suc (max (depth left) n)) (plain_depth right)
-plain_depth (Greatest s left right) = ap (λ n. suc (max n (depth (plain right)))) (plain_depth left) ∙ ap (λ n. suc (max (depth left) n)) (plain_depth right)
+plain_depth (Least s left right) = ap (λ n. suc (max n (depth (plain right)))) (plain_depth left)
+    ∙ ap (λ n. suc (max (depth left) n)) (plain_depth right)
+plain_depth (Greatest s left right) = ap (λ n. suc (max n (depth (plain right)))) (plain_depth left)
+    ∙ ap (λ n. suc (max (depth left) n)) (plain_depth right)
 plain_depth (Group s inner) = ap suc (plain_depth inner)
 
 mutual
   plain_statement_depth : (s : Statement) → statement_depth (plain_statement s) ≡ statement_depth s
   plain_statement_depth (Assign target op value) = plain_depth value
   plain_statement_depth (SetActive s value) = plain_depth value
-  plain_statement_depth (If s test held) = ap (λ n. suc (max n (block_depth (plain_block held)))) (plain_depth test) ∙ ap (λ n. suc (max (depth test) n)) (plain_block_depth held)
+  plain_statement_depth (If s test held) = ap (λ n. suc (max n (block_depth (plain_block held)))) (plain_depth test)
+      ∙ ap (λ n. suc (max (depth test) n)) (plain_block_depth held)
   plain_statement_depth (IfElse s test held otherwise) =
-      ap (λ n. suc (max n (max (block_depth (plain_block held)) (block_depth (plain_block otherwise))))) (plain_depth test)
+      ap (λ n. suc (max n (max (block_depth (plain_block held)) (block_depth (plain_block otherwise)))))
+      (plain_depth test)
       ∙ ap (λ n. suc (max (depth test) (max n (block_depth (plain_block otherwise))))) (plain_block_depth held)
       ∙ ap (λ n. suc (max (depth test) (max (block_depth held) n))) (plain_block_depth otherwise)
   plain_statement_depth (Emit s slot value) = plain_depth value
@@ -43,7 +48,8 @@ mutual
   plain_block_depth : (b : Statements) → block_depth (plain_block b) ≡ block_depth b
   plain_block_depth End = refl
   plain_block_depth (More first others) =
-      ap (λ n. max n (block_depth (plain_block others))) (plain_statement_depth first) ∙ ap (λ n. max (statement_depth first) n) (plain_block_depth others)
+      ap (λ n. max n (block_depth (plain_block others))) (plain_statement_depth first)
+      ∙ ap (λ n. max (statement_depth first) n) (plain_block_depth others)
 
 abbrev Within : ℕ → ℕ → Type 0
 Within b n = n ≤ b
@@ -70,29 +76,52 @@ module _ (b : ℕ) where
   declarations_from [] h = h
   declarations_from (d ∷ ds) h = (tree_from d.value h.0, declarations_from ds h.1)
 
-  totals_to : (ds : List TotalDeclaration) → AllByRecursion (λ d. depth d.value ≤ b) ds → AllByRecursion (λ d. depth d.value ≤ b) (map plain_total ds)
+  totals_to : (ds : List TotalDeclaration) → AllByRecursion (λ d. depth d.value ≤ b) ds →
+      AllByRecursion (λ d. depth d.value ≤ b) (map plain_total ds)
   totals_to [] h = h
   totals_to (d ∷ ds) h = (tree_to d.value h.0, totals_to ds h.1)
 
-  totals_from : (ds : List TotalDeclaration) → AllByRecursion (λ d. depth d.value ≤ b) (map plain_total ds) → AllByRecursion (λ d. depth d.value ≤ b) ds
+  totals_from : (ds : List TotalDeclaration) → AllByRecursion (λ d. depth d.value ≤ b) (map plain_total ds) →
+      AllByRecursion (λ d. depth d.value ≤ b) ds
   totals_from [] h = h
   totals_from (d ∷ ds) h = (tree_from d.value h.0, totals_from ds h.1)
 
   dense_to : (o : Option DenseBlock) → Given (IsShallowDense b) o → Given (IsShallowDense b) (option_map plain_dense o)
   dense_to None h = h
-  dense_to (Some d) h = record { test = tree_to d.test h.test; lets = declarations_to d.lets h.lets; body = block_to d.body h.body; tail = block_to d.tail h.tail }
+  dense_to (Some d) h = record {
+    test = tree_to d.test h.test;
+    lets = declarations_to d.lets h.lets;
+    body = block_to d.body h.body;
+    tail = block_to d.tail h.tail;
+  }
 
-  dense_from : (o : Option DenseBlock) → Given (IsShallowDense b) (option_map plain_dense o) → Given (IsShallowDense b) o
+  dense_from : (o : Option DenseBlock) → Given (IsShallowDense b) (option_map plain_dense o) →
+      Given (IsShallowDense b) o
   dense_from None h = h
-  dense_from (Some d) h = record { test = tree_from d.test h.test; lets = declarations_from d.lets h.lets; body = block_from d.body h.body; tail = block_from d.tail h.tail }
+  dense_from (Some d) h = record {
+    test = tree_from d.test h.test;
+    lets = declarations_from d.lets h.lets;
+    body = block_from d.body h.body;
+    tail = block_from d.tail h.tail;
+  }
 
-  sparse_to : (o : Option SparseBlock) → Given (IsShallowSparse b) o → Given (IsShallowSparse b) (option_map plain_sparse o)
+  sparse_to : (o : Option SparseBlock) → Given (IsShallowSparse b) o →
+      Given (IsShallowSparse b) (option_map plain_sparse o)
   sparse_to None h = h
-  sparse_to (Some d) h = record { test = tree_to d.test h.test; sends = declarations_to d.sends h.sends; body = block_to d.body h.body }
+  sparse_to (Some d) h = record {
+    test = tree_to d.test h.test;
+    sends = declarations_to d.sends h.sends;
+    body = block_to d.body h.body;
+  }
 
-  sparse_from : (o : Option SparseBlock) → Given (IsShallowSparse b) (option_map plain_sparse o) → Given (IsShallowSparse b) o
+  sparse_from : (o : Option SparseBlock) → Given (IsShallowSparse b) (option_map plain_sparse o) →
+      Given (IsShallowSparse b) o
   sparse_from None h = h
-  sparse_from (Some d) h = record { test = tree_from d.test h.test; sends = declarations_from d.sends h.sends; body = block_from d.body h.body }
+  sparse_from (Some d) h = record {
+    test = tree_from d.test h.test;
+    sends = declarations_from d.sends h.sends;
+    body = block_from d.body h.body;
+  }
 
   stop_to : (o : Option Tree) → Given (λ t. depth t ≤ b) o → Given (λ t. depth t ≤ b) (option_map plain o)
   stop_to None h = h
@@ -131,19 +160,23 @@ module _ {A B : Type 0} (f : A → B) (b : ℕ) (xs : List A) where
   count_from : length (map f xs) ≤ b → length xs ≤ b
   count_from h = subst (Within b) (length-map xs f) h
 
-lets_to : (b : ℕ) (o : Option DenseBlock) → Given (λ d. length d.lets ≤ b) o → Given (λ d. length d.lets ≤ b) (option_map plain_dense o)
+lets_to : (b : ℕ) (o : Option DenseBlock) → Given (λ d. length d.lets ≤ b) o →
+    Given (λ d. length d.lets ≤ b) (option_map plain_dense o)
 lets_to b None h = h
 lets_to b (Some d) h = count_to plain_declaration b d.lets h
 
-lets_from : (b : ℕ) (o : Option DenseBlock) → Given (λ d. length d.lets ≤ b) (option_map plain_dense o) → Given (λ d. length d.lets ≤ b) o
+lets_from : (b : ℕ) (o : Option DenseBlock) → Given (λ d. length d.lets ≤ b) (option_map plain_dense o) →
+    Given (λ d. length d.lets ≤ b) o
 lets_from b None h = h
 lets_from b (Some d) h = count_from plain_declaration b d.lets h
 
-sends_to : (b : ℕ) (o : Option SparseBlock) → Given (λ d. length d.sends ≤ b) o → Given (λ d. length d.sends ≤ b) (option_map plain_sparse o)
+sends_to : (b : ℕ) (o : Option SparseBlock) → Given (λ d. length d.sends ≤ b) o →
+    Given (λ d. length d.sends ≤ b) (option_map plain_sparse o)
 sends_to b None h = h
 sends_to b (Some d) h = count_to plain_declaration b d.sends h
 
-sends_from : (b : ℕ) (o : Option SparseBlock) → Given (λ d. length d.sends ≤ b) (option_map plain_sparse o) → Given (λ d. length d.sends ≤ b) o
+sends_from : (b : ℕ) (o : Option SparseBlock) → Given (λ d. length d.sends ≤ b) (option_map plain_sparse o) →
+    Given (λ d. length d.sends ≤ b) o
 sends_from b None h = h
 sends_from b (Some d) h = count_from plain_declaration b d.sends h
 

@@ -25,15 +25,19 @@ pub record IsToken (k : Kind) : Type 0 where
   pub fits : (s : Span) → judged s (Some k) ≡ Ok k
 
 -- ---- words, names and marks
-placed_text : (texts : List (List ℕ)) (text : List ℕ) (place : ℕ) → place_of texts text ≡ Some place → get_or texts place [] ≡ text
-placed_text texts text place e = (bytes_eq-Decides (get_or texts place []) text).0 (position-Some (λ t. bytes_eq t text) texts place [] e).1
+placed_text : (texts : List (List ℕ)) (text : List ℕ) (place : ℕ) → place_of texts text ≡ Some place →
+    get_or texts place [] ≡ text
+placed_text texts text place e = (bytes_eq-Decides (get_or texts place []) text).0
+    (position-Some (λ t. bytes_eq t text) texts place [] e).1
 
 word_text : (bytes : List ℕ) (o : Option ℕ) → place_of reserved_words bytes ≡ o → text_of (word_at o bytes) ≡ bytes
 word_text bytes (Some place) e = placed_text reserved_words bytes place e
 word_text bytes None e = refl
 
-mark_text : (bytes : List ℕ) (k : Kind) (o : Option ℕ) → place_of marks bytes ≡ o → mark_at o ≡ Some k → text_of k ≡ bytes
-mark_text bytes k (Some place) e f = let same : Mark place ≡ k = cc in sym (ap text_of same) ∙ placed_text marks bytes place e
+mark_text : (bytes : List ℕ) (k : Kind) (o : Option ℕ) → place_of marks bytes ≡ o → mark_at o ≡ Some k →
+    text_of k ≡ bytes
+mark_text bytes k (Some place) e f = let same : Mark place ≡ k = cc in sym (ap text_of same)
+    ∙ placed_text marks bytes place e
 mark_text bytes k None e f = absurd cc
 
 -- a token's text are the bytes that it was read from, but for numbers
@@ -43,7 +47,8 @@ kind_text bytes k e n = go (is_letter (get_or bytes 0 0)) refl (is_digit (get_or
     token : is_token bytes ≡ true
     token = ap is_some e
 
-    go : (x : Bool) → is_letter (get_or bytes 0 0) ≡ x → (y : Bool) → is_digit (get_or bytes 0 0) ≡ y → text_of k ≡ bytes
+    go : (x : Bool) → is_letter (get_or bytes 0 0) ≡ x → (y : Bool) → is_digit (get_or bytes 0 0) ≡ y →
+        text_of k ≡ bytes
     go true l y d =
         let f : Some k ≡ Some (word_at (place_of reserved_words bytes) bytes) = sym e ∙ word_kind bytes token l in
         let same : k ≡ word_at (place_of reserved_words bytes) bytes = cc in
@@ -65,7 +70,8 @@ digits_all (c ∷ cs) h =
     let t = digit_tests c r.0 r.1 in
     rw t.0 (digits_all cs h.1)
 
-number_is : (c : ℕ) (cs : List ℕ) → is_letter c ≡ false → is_digit c ≡ true → list_all is_digit cs ≡ true → kind_of (c ∷ cs) ≡ Some (Number (digits_value 10 (c ∷ cs)))
+number_is : (c : ℕ) (cs : List ℕ) → is_letter c ≡ false → is_digit c ≡ true → list_all is_digit cs ≡ true →
+    kind_of (c ∷ cs) ≡ Some (Number (digits_value 10 (c ∷ cs)))
 unfolding kind_of
 number_is c cs l d a = rw (l, d, a) refl
 
@@ -85,19 +91,24 @@ number_token : (v : ℕ) → nat_lt 9223372036854775807 v ≡ false → IsToken 
 number_token v e = record { read = number_read v (grind (arith, nat_tests)); fits = λ s. rw e refl }
 
 -- ---- what was judged to be a token is one
-other_token : (bytes : List ℕ) (k : Kind) → kind_of bytes ≡ Some k → is_number k ≡ false → ((s : Span) → judged s (Some k) ≡ Ok k) → IsToken k
+other_token : (bytes : List ℕ) (k : Kind) → kind_of bytes ≡ Some k → is_number k ≡ false →
+    ((s : Span) → judged s (Some k) ≡ Ok k) → IsToken k
 other_token bytes k e n f = record { read = ap kind_of (kind_text bytes k e n) ∙ e; fits = f }
 
 pub judged_token : (s : Span) (bytes : List ℕ) (k : Kind) → judged s (kind_of bytes) ≡ Ok k → IsToken k
 judged_token s bytes k h = go (kind_of bytes) refl h
   where
-    number : (v : ℕ) (b : Bool) → nat_lt 9223372036854775807 v ≡ b → cond b (Err (BadNumber s)) (Ok (Number v)) ≡ Ok k → IsToken k
+    number : (v : ℕ) (b : Bool) → nat_lt 9223372036854775807 v ≡ b → cond b (Err (BadNumber s)) (Ok (Number v)) ≡ Ok k
+        → IsToken k
     number v true e f = absurd cc
     number v false e f = let same : Number v ≡ k = cc in subst IsToken same (number_token v e)
 
     go : (o : Option Kind) → kind_of bytes ≡ o → judged s o ≡ Ok k → IsToken k
     go None e f = absurd cc
     go (Some (Number v)) e f = number v (nat_lt 9223372036854775807 v) refl f
-    go (Some (Reserved place)) e f = let same : Reserved place ≡ k = cc in subst IsToken same (other_token bytes (Reserved place) e refl (λ z. refl))
-    go (Some (Mark place)) e f = let same : Mark place ≡ k = cc in subst IsToken same (other_token bytes (Mark place) e refl (λ z. refl))
-    go (Some (Name text)) e f = let same : Name text ≡ k = cc in subst IsToken same (other_token bytes (Name text) e refl (λ z. refl))
+    go (Some (Reserved place)) e f = let same : Reserved place ≡ k = cc in
+        subst IsToken same (other_token bytes (Reserved place) e refl (λ z. refl))
+    go (Some (Mark place)) e f = let same : Mark place ≡ k = cc in
+        subst IsToken same (other_token bytes (Mark place) e refl (λ z. refl))
+    go (Some (Name text)) e f = let same : Name text ≡ k = cc in
+        subst IsToken same (other_token bytes (Name text) e refl (λ z. refl))

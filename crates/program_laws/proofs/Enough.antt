@@ -13,19 +13,26 @@ all_from : {A : Type 0} (f : A → ℕ) (xs : List A) → From (λ b. AllByRecur
 all_from f [] = (0, λ b le. tt)
 all_from f (x ∷ xs) = let r = all_from f xs in (f x + r.0, λ b le. (omega arith, r.1 b (omega arith)))
 
-given_from : {A : Type 0} (P : ℕ → A → Type 0) (o : Option A) → ((x : A) → From (λ b. P b x)) → From (λ b. Given (P b) o)
+given_from : {A : Type 0} (P : ℕ → A → Type 0) (o : Option A) → ((x : A) → From (λ b. P b x)) →
+    From (λ b. Given (P b) o)
 given_from P None f = (0, λ b le. tt)
 given_from P (Some x) f = f x
 
 dense_from : (d : DenseBlock) → From (λ b. IsShallowDense b d)
 dense_from d =
-    let r = all_from (λ x. depth x.value) d.lets in
-    (depth d.test + (r.0 + (block_depth d.body + block_depth d.tail)), λ b le. record { test = omega arith; lets = r.1 b (omega arith); body = omega arith; tail = omega arith })
+    let r = all_from (λ x. depth x.value) d.lets in (
+      depth d.test + (r.0 + (block_depth d.body + block_depth d.tail)),
+      λ b le.
+          record { test = omega arith; lets = r.1 b (omega arith); body = omega arith; tail = omega arith },
+    )
 
 sparse_from : (d : SparseBlock) → From (λ b. IsShallowSparse b d)
 sparse_from d =
-    let r = all_from (λ x. depth x.value) d.sends in
-    (depth d.test + (r.0 + block_depth d.body), λ b le. record { test = omega arith; sends = r.1 b (omega arith); body = omega arith })
+    let r = all_from (λ x. depth x.value) d.sends in (
+      depth d.test + (r.0 + block_depth d.body),
+      λ b le.
+          record { test = omega arith; sends = r.1 b (omega arith); body = omega arith },
+    )
 
 shallow_from : (p : ProgramTree) → From (λ b. IsShallow b p)
 shallow_from p =
@@ -47,7 +54,8 @@ shallow_from p =
     )
 
 -- of the same depth, and wide enough for what isn't deeper
-pub enough_names : (k : Limits) (p : ProgramTree) → IsShallow k.depth p → (m : Limits) × (k.depth ≡ m.depth) × Covers k m × IsSmall m p
+pub enough_names : (k : Limits) (p : ProgramTree) → IsShallow k.depth p → (m : Limits) × (k.depth ≡ m.depth) ×
+    Covers k m × IsSmall m p
 enough_names k p shallow =
     let lets = given_from (λ b d. length d.lets ≤ b) p.dense (λ d. (length d.lets, λ b le. le)) in
     let sends = given_from (λ b d. length d.sends ≤ b) p.sparse (λ d. (length d.sends, λ b le. le)) in (
@@ -60,7 +68,14 @@ enough_names k p shallow =
         sends = k.sends + sends.0;
       },
       refl,
-      record { depth = omega arith; fields = omega arith; slots = omega arith; totals = omega arith; lets = omega arith; sends = omega arith },
+      record {
+        depth = omega arith;
+        fields = omega arith;
+        slots = omega arith;
+        totals = omega arith;
+        lets = omega arith;
+        sends = omega arith;
+      },
       record {
         shallow = shallow;
         fields = omega arith;
@@ -75,7 +90,24 @@ enough_names k p shallow =
 pub enough : (k : Limits) (p : ProgramTree) → (m : Limits) × Covers k m × IsSmall m p
 enough k p =
     let s = shallow_from p in
-    let l : Limits = record { depth = k.depth + s.0; fields = k.fields; slots = k.slots; totals = k.totals; lets = k.lets; sends = k.sends } in
+    let l : Limits = record {
+      depth = k.depth + s.0;
+      fields = k.fields;
+      slots = k.slots;
+      totals = k.totals;
+      lets = k.lets;
+      sends = k.sends;
+    } in
     let e = enough_names l p (s.1 (k.depth + s.0) (omega arith)) in
-    let c = e.2 in
-    (e.0, record { depth = (let d = c.depth in omega arith); fields = c.fields; slots = c.slots; totals = c.totals; lets = c.lets; sends = c.sends }, e.3)
+    let c = e.2 in (
+      e.0,
+      record {
+        depth = (let d = c.depth in omega arith);
+        fields = c.fields;
+        slots = c.slots;
+        totals = c.totals;
+        lets = c.lets;
+        sends = c.sends;
+      },
+      e.3,
+    )

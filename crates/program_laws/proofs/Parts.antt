@@ -62,7 +62,13 @@ abbrev pub signs : (s : Span) (k : Kind) → Maps (Is s k) (Sign k)
 signs s k u h = (s, h)
 
 abbrev pub then_map : {P Q R S : Form} → Maps P R → Maps Q S → Maps (Then P Q) (Then R S)
-then_map f g u h = record { front = h.front; back = h.back; whole = h.whole; first = f h.front h.first; second = g h.back h.second }
+then_map f g u h = record {
+  front = h.front;
+  back = h.back;
+  whole = h.whole;
+  first = f h.front h.first;
+  second = g h.back h.second;
+}
 
 pub then_assoc : {P Q R : Form} → Maps (Then (Then P Q) R) (Then P (Then Q R))
 then_assoc u h = record {
@@ -99,14 +105,16 @@ known F x u h = (x, h)
 abbrev pub signed : (k : Kind) → Values (λ s. Is s k) (Sign k)
 signed k u h = h
 
-abbrev pub then_values : {A B : Type 0} {F : A → Form} {G : B → Form} {P Q : Form} → Values F P → Values G Q → Values (λ (z : A × B). Then (F z.0) (G z.1)) (Then P Q)
+abbrev pub then_values : {A B : Type 0} {F : A → Form} {G : B → Form} {P Q : Form} → Values F P → Values G Q →
+    Values (λ (z : A × B). Then (F z.0) (G z.1)) (Then P Q)
 then_values f g u h =
     let x = f h.front h.first in
     let y = g h.back h.second in
     ((x.0, y.0), record { front = h.front; back = h.back; whole = h.whole; first = x.1; second = y.1 })
 
 -- tokens by the first of them
-pub begins_front : (f : Kind → Bool) (s : Span) (k : Kind) (u v r : List Placed) → u ≡ token s k ∷ v → begins f (u ++ r) ≡ f k
+pub begins_front : (f : Kind → Bool) (s : Span) (k : Kind) (u v r : List Placed) → u ≡ token s k ∷ v →
+    begins f (u ++ r) ≡ f k
 begins_front f s k u v r e = rw e refl
 
 -- a form that begins with a token
@@ -121,4 +129,9 @@ pub signing : {Q : Form} (s : Span) (k : Kind) (u : List Placed) → Q u → The
 signing s k u h = record { front = token s k ∷ []; back = u; whole = refl; first = (s, refl); second = h }
 
 pub as_into : {A B : Type 0} {N : Notion A} {M : Notion B} {g : A → B} → IsImage N M g → (l : Limits) → IsInto N M g l
-as_into i l = record { form = i.form; within = λ x u h. i.within l x; shallow = λ x u h. i.shallow l.depth x; follow = λ x u r h. i.follow x r }
+as_into i l = record {
+  form = i.form;
+  within = λ x u h. i.within l x;
+  shallow = λ x u h. i.shallow l.depth x;
+  follow = λ x u r h. i.follow x r;
+}

@@ -62,9 +62,13 @@ sort_notion rights n = only (statement_notion rights) (λ x. sort x ≡ n)
 abbrev break_parts : Reader (Span × Span)
 break_parts = sign_then (Reserved word.BREAK) (sign (Mark mark.SEMICOLON))
 
-break_image : (rights : Rights) → IsTrue rights.breaks → IsImage break_parts.notion (sort_notion rights 4) (λ x. Break x.0)
+break_image : (rights : Rights) → IsTrue rights.breaks →
+    IsImage break_parts.notion (sort_notion rights 4) (λ x. Break x.0)
 break_image rights right = record {
-  form = λ x u h. ((right, then_map (keeps (Is x.0 (Reserved word.BREAK))) (signs x.1 (Mark mark.SEMICOLON)) u h), refl);
+  form = λ x u h. (
+    (right, then_map (keeps (Is x.0 (Reserved word.BREAK))) (signs x.1 (Mark mark.SEMICOLON)) u h),
+    refl,
+  );
   within = λ l x h. omega arith;
   shallow = λ b x h. omega arith;
   follow = λ x r h. tt;
@@ -72,7 +76,8 @@ break_image rights right = record {
   follow_back = λ x r h. tt;
 }
   where
-    back : (y : Statement) (u : List Placed) → (sort_notion rights 4).form y u → (x : Span × Span) × (Break x.0 ≡ y) × break_parts.notion.form x u × ((l : Limits) → (sort_notion rights 4).within l y → break_parts.notion.within l x)
+    back : (y : Statement) (u : List Placed) → (sort_notion rights 4).form y u → (x : Span × Span) × (Break x.0 ≡ y) ×
+        break_parts.notion.form x u × ((l : Limits) → (sort_notion rights 4).within l y → break_parts.notion.within l x)
     back (Assign target op value) u h = absurd (omega arith)
     back (SetActive s value) u h = absurd (omega arith)
     back (If s test held) u h = absurd (omega arith)
@@ -84,7 +89,8 @@ break_image rights right = record {
 
 pub break_reader : (rights : Rights) → IsTrue rights.breaks → IsReader (sort_notion rights 4) (λ l. break_at)
 unfolding break_at
-break_reader rights right = made_reader break_parts.notion (sort_notion rights 4) (λ x. Break x.0) break_parts.run (break_image rights right) break_parts.law
+break_reader rights right = made_reader break_parts.notion (sort_notion rights 4) (λ x. Break x.0) break_parts.run
+    (break_image rights right) break_parts.law
 
 -- ---- assignments
 abbrev assign_parts : Reader (Named × (AssignOp × (Tree × Span)))
@@ -95,7 +101,16 @@ assign_of x = Assign x.0 x.1.0 x.1.1.0
 
 assign_image : (rights : Rights) → IsTrue rights.assigns → IsImage assign_parts.notion (sort_notion rights 0) assign_of
 assign_image rights right = record {
-  form = λ x u h. ((right, then_map (keeps (TheName x.0)) (then_map (keeps (ReadsOp x.1.0)) (then_map (keeps (Reads 6 x.1.1.0)) (signs x.1.1.1 (Mark mark.SEMICOLON)))) u h), refl);
+  form = λ x u h. (
+    (
+      right,
+      then_map (keeps (TheName x.0))
+          (then_map (keeps (ReadsOp x.1.0))
+          (then_map (keeps (Reads 6 x.1.1.0)) (signs x.1.1.1 (Mark mark.SEMICOLON)))) u
+          h,
+    ),
+    refl,
+  );
   within = λ l x h. h.1.1.0;
   shallow = λ b x h. h.1.1.0;
   follow = λ x r h. tt;
@@ -103,30 +118,45 @@ assign_image rights right = record {
   follow_back = λ x r h. tt;
 }
   where
-    back : (y : Statement) (u : List Placed) → (sort_notion rights 0).form y u → (x : Named × (AssignOp × (Tree × Span))) × (assign_of x ≡ y) × assign_parts.notion.form x u × ((l : Limits) → (sort_notion rights 0).within l y → assign_parts.notion.within l x)
+    back : (y : Statement) (u : List Placed) → (sort_notion rights 0).form y u →
+        (x : Named × (AssignOp × (Tree × Span))) × (assign_of x ≡ y) × assign_parts.notion.form x u ×
+        ((l : Limits) → (sort_notion rights 0).within l y → assign_parts.notion.within l x)
     back (SetActive s value) u h = absurd (omega arith)
     back (If s test held) u h = absurd (omega arith)
     back (IfElse s test held otherwise) u h = absurd (omega arith)
     back (Emit s slot value) u h = absurd (omega arith)
     back (Break s) u h = absurd (omega arith)
     back (Assign target op value) u h =
-        let b = then_values (known TheName target) (then_values (known ReadsOp op) (then_values (known (Reads 6) value) (signed (Mark mark.SEMICOLON)))) u h.0.1 in
+        let b = then_values (known TheName target)
+        (then_values (known ReadsOp op) (then_values (known (Reads 6) value) (signed (Mark mark.SEMICOLON)))) u
+        h.0.1 in
         (b.0, refl, b.1, λ l w. (tt, (tt, (w, tt))))
 
 pub assign_reader : (rights : Rights) → IsTrue rights.assigns → IsReader (sort_notion rights 0) (λ l. assign_at l.depth)
 unfolding assign_at
-assign_reader rights right = made_reader assign_parts.notion (sort_notion rights 0) assign_of assign_parts.run (assign_image rights right) assign_parts.law
+assign_reader rights right = made_reader assign_parts.notion (sort_notion rights 0) assign_of assign_parts.run
+    (assign_image rights right) assign_parts.law
 
 -- ---- active
 abbrev active_parts : Reader (Span × (Span × (Tree × Span)))
-active_parts = sign_then (Reserved word.ACTIVE) (sign_then (Mark mark.ASSIGN) (value_then mark.SEMICOLON free_semicolon))
+active_parts = sign_then (Reserved word.ACTIVE)
+    (sign_then (Mark mark.ASSIGN) (value_then mark.SEMICOLON free_semicolon))
 
 abbrev active_of : Span × (Span × (Tree × Span)) → Statement
 active_of x = SetActive x.0 x.1.1.0
 
-active_image : (rights : Rights) → IsTrue rights.activates → IsImage active_parts.notion (sort_notion rights 1) active_of
+active_image : (rights : Rights) → IsTrue rights.activates →
+    IsImage active_parts.notion (sort_notion rights 1) active_of
 active_image rights right = record {
-  form = λ x u h. ((right, then_map (keeps (Is x.0 (Reserved word.ACTIVE))) (then_map (signs x.1.0 (Mark mark.ASSIGN)) (then_map (keeps (Reads 6 x.1.1.0)) (signs x.1.1.1 (Mark mark.SEMICOLON)))) u h), refl);
+  form = λ x u h. (
+    (
+      right,
+      then_map (keeps (Is x.0 (Reserved word.ACTIVE)))
+          (then_map (signs x.1.0 (Mark mark.ASSIGN))
+          (then_map (keeps (Reads 6 x.1.1.0)) (signs x.1.1.1 (Mark mark.SEMICOLON)))) u h,
+    ),
+    refl,
+  );
   within = λ l x h. h.1.1.0;
   shallow = λ b x h. h.1.1.0;
   follow = λ x r h. tt;
@@ -134,19 +164,25 @@ active_image rights right = record {
   follow_back = λ x r h. tt;
 }
   where
-    back : (y : Statement) (u : List Placed) → (sort_notion rights 1).form y u → (x : Span × (Span × (Tree × Span))) × (active_of x ≡ y) × active_parts.notion.form x u × ((l : Limits) → (sort_notion rights 1).within l y → active_parts.notion.within l x)
+    back : (y : Statement) (u : List Placed) → (sort_notion rights 1).form y u → (x : Span × (Span × (Tree × Span))) ×
+        (active_of x ≡ y) × active_parts.notion.form x u ×
+        ((l : Limits) → (sort_notion rights 1).within l y → active_parts.notion.within l x)
     back (Assign target op value) u h = absurd (omega arith)
     back (If s test held) u h = absurd (omega arith)
     back (IfElse s test held otherwise) u h = absurd (omega arith)
     back (Emit s slot value) u h = absurd (omega arith)
     back (Break s) u h = absurd (omega arith)
     back (SetActive s value) u h =
-        let b = then_values (known (λ s. Is s (Reserved word.ACTIVE)) s) (then_values (signed (Mark mark.ASSIGN)) (then_values (known (Reads 6) value) (signed (Mark mark.SEMICOLON)))) u h.0.1 in
+        let b = then_values (known (λ s. Is s (Reserved word.ACTIVE)) s)
+        (then_values (signed (Mark mark.ASSIGN))
+        (then_values (known (Reads 6) value) (signed (Mark mark.SEMICOLON)))) u h.0.1 in
         (b.0, refl, b.1, λ l w. (tt, (tt, (w, tt))))
 
-pub active_reader : (rights : Rights) → IsTrue rights.activates → IsReader (sort_notion rights 1) (λ l. set_active_at l.depth)
+pub active_reader : (rights : Rights) → IsTrue rights.activates →
+    IsReader (sort_notion rights 1) (λ l. set_active_at l.depth)
 unfolding set_active_at
-active_reader rights right = made_reader active_parts.notion (sort_notion rights 1) active_of active_parts.run (active_image rights right) active_parts.law
+active_reader rights right = made_reader active_parts.notion (sort_notion rights 1) active_of active_parts.run
+    (active_image rights right) active_parts.law
 
 -- ---- emissions
 abbrev emit_parts : Reader (Span × (Named × (Tree × Span)))
@@ -157,7 +193,16 @@ emit_of x = Emit x.0 x.1.0 x.1.1.0
 
 emit_image : (rights : Rights) → IsTrue rights.emits → IsImage emit_parts.notion (sort_notion rights 3) emit_of
 emit_image rights right = record {
-  form = λ x u h. ((right, then_map (keeps (Is x.0 (Reserved word.EMIT))) (then_map (keeps (TheName x.1.0)) (then_map (keeps (Reads 6 x.1.1.0)) (signs x.1.1.1 (Mark mark.SEMICOLON)))) u h), refl);
+  form = λ x u h. (
+    (
+      right,
+      then_map (keeps (Is x.0 (Reserved word.EMIT)))
+          (then_map (keeps (TheName x.1.0))
+          (then_map (keeps (Reads 6 x.1.1.0)) (signs x.1.1.1 (Mark mark.SEMICOLON)))) u
+          h,
+    ),
+    refl,
+  );
   within = λ l x h. h.1.1.0;
   shallow = λ b x h. h.1.1.0;
   follow = λ x r h. tt;
@@ -165,16 +210,21 @@ emit_image rights right = record {
   follow_back = λ x r h. tt;
 }
   where
-    back : (y : Statement) (u : List Placed) → (sort_notion rights 3).form y u → (x : Span × (Named × (Tree × Span))) × (emit_of x ≡ y) × emit_parts.notion.form x u × ((l : Limits) → (sort_notion rights 3).within l y → emit_parts.notion.within l x)
+    back : (y : Statement) (u : List Placed) → (sort_notion rights 3).form y u → (x : Span × (Named × (Tree × Span)))
+        × (emit_of x ≡ y) × emit_parts.notion.form x u ×
+        ((l : Limits) → (sort_notion rights 3).within l y → emit_parts.notion.within l x)
     back (Assign target op value) u h = absurd (omega arith)
     back (SetActive s value) u h = absurd (omega arith)
     back (If s test held) u h = absurd (omega arith)
     back (IfElse s test held otherwise) u h = absurd (omega arith)
     back (Break s) u h = absurd (omega arith)
     back (Emit s slot value) u h =
-        let b = then_values (known (λ s. Is s (Reserved word.EMIT)) s) (then_values (known TheName slot) (then_values (known (Reads 6) value) (signed (Mark mark.SEMICOLON)))) u h.0.1 in
+        let b = then_values (known (λ s. Is s (Reserved word.EMIT)) s)
+        (then_values (known TheName slot) (then_values (known (Reads 6) value) (signed (Mark mark.SEMICOLON)))) u
+        h.0.1 in
         (b.0, refl, b.1, λ l w. (tt, (tt, (w, tt))))
 
 pub emit_reader : (rights : Rights) → IsTrue rights.emits → IsReader (sort_notion rights 3) (λ l. emit_at l.depth)
 unfolding emit_at
-emit_reader rights right = made_reader emit_parts.notion (sort_notion rights 3) emit_of emit_parts.run (emit_image rights right) emit_parts.law
+emit_reader rights right = made_reader emit_parts.notion (sort_notion rights 3) emit_of emit_parts.run
+    (emit_image rights right) emit_parts.law

@@ -46,7 +46,8 @@ type_one = record {
   is_word = refl;
 }
   where
-    back : (x : ValueType) (u : List Placed) → TheWord (type_word x) u → (s : Span) × (k : Kind) × (u ≡ token s k ∷ []) × (is_type k ≡ true) × (type_of k ≡ x)
+    back : (x : ValueType) (u : List Placed) → TheWord (type_word x) u → (s : Span) × (k : Kind) ×
+        (u ≡ token s k ∷ []) × (is_type k ≡ true) × (type_of k ≡ x)
     back types.Int u h = (h.0, Reserved word.INT, h.1, refl, refl)
     back types.Bool u h = (h.0, Reserved word.BOOL, h.1, refl, refl)
 
@@ -65,7 +66,10 @@ combine_form s k e = elim (or_cases (is_word word.MIN k) _ e) [
     | inl h ↦ at_kind (λ k. TheWord (combine_word (combine_of k)) (token s k ∷ [])) k (Reserved word.MAX) h (s, refl)
     | inr h ↦ elim (or_cases (is_word word.SUM k) _ h) [
       | inl h ↦ at_kind (λ k. TheWord (combine_word (combine_of k)) (token s k ∷ [])) k (Reserved word.SUM) h (s, refl)
-      | inr h ↦ at_kind (λ k. TheWord (combine_word (combine_of k)) (token s k ∷ [])) k (Reserved word.FIRST) h (s, refl)
+      | inr h ↦ at_kind (λ k. TheWord (combine_word (combine_of k)) (token s k ∷ [])) k (Reserved word.FIRST) h (
+        s,
+        refl,
+      )
     ]
   ]
 ]
@@ -73,7 +77,8 @@ combine_form s k e = elim (or_cases (is_word word.MIN k) _ e) [
 pub combine_one : IsOne (λ c. TheWord (combine_word c)) is_combine (λ s k. combine_of k)
 combine_one = record { form = combine_form; back = back; word = Reserved word.MIN; is_word = refl }
   where
-    back : (x : Combine) (u : List Placed) → TheWord (combine_word x) u → (s : Span) × (k : Kind) × (u ≡ token s k ∷ []) × (is_combine k ≡ true) × (combine_of k ≡ x)
+    back : (x : Combine) (u : List Placed) → TheWord (combine_word x) u → (s : Span) × (k : Kind) ×
+        (u ≡ token s k ∷ []) × (is_combine k ≡ true) × (combine_of k ≡ x)
     back combine.Min u h = (h.0, Reserved word.MIN, h.1, refl, refl)
     back combine.Max u h = (h.0, Reserved word.MAX, h.1, refl, refl)
     back combine.Sum u h = (h.0, Reserved word.SUM, h.1, refl, refl)
@@ -88,13 +93,17 @@ FoldWord c u = IsTrue (is_fold c) × TheWord (combine_word c) u
 
 pub fold_one : IsOne FoldWord is_fold_at (λ s k. combine_of k)
 fold_one = record {
-  form = λ s k e. (and_second (is_combine k) (is_fold (combine_of k)) e, combine_form s k (and_first (is_combine k) (is_fold (combine_of k)) e));
+  form = λ s k e. (
+    and_second (is_combine k) (is_fold (combine_of k)) e,
+    combine_form s k (and_first (is_combine k) (is_fold (combine_of k)) e),
+  );
   back = back;
   word = Reserved word.MIN;
   is_word = refl;
 }
   where
-    back : (x : Combine) (u : List Placed) → FoldWord x u → (s : Span) × (k : Kind) × (u ≡ token s k ∷ []) × (is_fold_at k ≡ true) × (combine_of k ≡ x)
+    back : (x : Combine) (u : List Placed) → FoldWord x u → (s : Span) × (k : Kind) × (u ≡ token s k ∷ []) ×
+        (is_fold_at k ≡ true) × (combine_of k ≡ x)
     back combine.Min u h = (h.1.0, Reserved word.MIN, h.1.1, refl, refl)
     back combine.Max u h = (h.1.0, Reserved word.MAX, h.1.1, refl, refl)
     back combine.Sum u h = (h.1.0, Reserved word.SUM, h.1.1, refl, refl)
@@ -135,7 +144,8 @@ mode_one = record {
   is_word = refl;
 }
   where
-    back : (at : Span) (x : Mode) (u : List Placed) → PlacedMode (at, x) u → (s : Span) × (k : Kind) × (u ≡ token s k ∷ []) × (is_mode k ≡ true) × ◌≡◌ {A = Span × Mode} (s, mode_of k) (at, x)
+    back : (at : Span) (x : Mode) (u : List Placed) → PlacedMode (at, x) u → (s : Span) × (k : Kind) ×
+        (u ≡ token s k ∷ []) × (is_mode k ≡ true) × ◌≡◌ {A = Span × Mode} (s, mode_of k) (at, x)
     back at modes.Auto u h = (at, Reserved word.AUTO, h, refl, refl)
     back at modes.Dense u h = (at, Reserved word.DENSE, h, refl, refl)
     back at modes.Sparse u h = (at, Reserved word.SPARSE, h, refl, refl)
@@ -177,14 +187,16 @@ large_one = record {
   is_word = refl;
 }
   where
-    back : (x : AssignOp) (u : List Placed) → LargeWord x u → (s : Span) × (k : Kind) × (u ≡ token s k ∷ []) × (is_large_op k ≡ true) × (large_op k ≡ x)
+    back : (x : AssignOp) (u : List Placed) → LargeWord x u → (s : Span) × (k : Kind) × (u ≡ token s k ∷ []) ×
+        (is_large_op k ≡ true) × (large_op k ≡ x)
     back assign.Set u h = absurd h
     back assign.Add u h = absurd h
     back assign.Least u h = (h.0, Reserved word.MIN, h.1, refl, refl)
     back assign.Greatest u h = (h.0, Reserved word.MAX, h.1, refl, refl)
 
 abbrev large_parts : Reader (AssignOp × Span)
-large_parts = then (one LargeWord is_large_op (λ s k. large_op k) large_one) (sign (Mark mark.ASSIGN)) (λ x y v r h f. tt)
+large_parts = then (one LargeWord is_large_op (λ s k. large_op k) large_one) (sign (Mark mark.ASSIGN)) (λ x y v r h f.
+    tt)
 
 large_image : IsImage large_parts.notion (only op_notion IsLarge) (λ x. x.0)
 large_image = record {
@@ -196,17 +208,47 @@ large_image = record {
   follow_back = λ x r h. tt;
 }
   where
-    form : (x : AssignOp) (s : Span) (u : List Placed) → Then (LargeWord x) (Is s (Mark mark.ASSIGN)) u → ReadsOp x u × IsLarge x
+    form : (x : AssignOp) (s : Span) (u : List Placed) → Then (LargeWord x) (Is s (Mark mark.ASSIGN)) u →
+        ReadsOp x u × IsLarge x
     form assign.Set s u h = absurd h.first
     form assign.Add s u h = absurd h.first
-    form assign.Least s u h = (record { front = h.front; back = h.back; whole = h.whole; first = h.first; second = (s, h.second) }, tt)
-    form assign.Greatest s u h = (record { front = h.front; back = h.back; whole = h.whole; first = h.first; second = (s, h.second) }, tt)
+    form assign.Least s u h = (
+      record {
+        front = h.front;
+        back = h.back;
+        whole = h.whole;
+        first = h.first;
+        second = (s, h.second);
+      },
+      tt,
+    )
+    form assign.Greatest s u h = (
+      record {
+        front = h.front;
+        back = h.back;
+        whole = h.whole;
+        first = h.first;
+        second = (s, h.second);
+      },
+      tt,
+    )
 
-    back : (y : AssignOp) (u : List Placed) → ReadsOp y u × IsLarge y → (x : AssignOp × Span) × (x.0 ≡ y) × Then (LargeWord x.0) (Is x.1 (Mark mark.ASSIGN)) u × ((l : Limits) → Unit {0} → Unit {0} × Unit {0})
+    back : (y : AssignOp) (u : List Placed) → ReadsOp y u × IsLarge y → (x : AssignOp × Span) × (x.0 ≡ y) ×
+        Then (LargeWord x.0) (Is x.1 (Mark mark.ASSIGN)) u × ((l : Limits) → Unit {0} → Unit {0} × Unit {0})
     back assign.Set u h = absurd h.1
     back assign.Add u h = absurd h.1
-    back assign.Least u h = ((assign.Least, h.0.second.0), refl, record { front = h.0.front; back = h.0.back; whole = h.0.whole; first = h.0.first; second = h.0.second.1 }, λ l w. (tt, tt))
-    back assign.Greatest u h = ((assign.Greatest, h.0.second.0), refl, record { front = h.0.front; back = h.0.back; whole = h.0.whole; first = h.0.first; second = h.0.second.1 }, λ l w. (tt, tt))
+    back assign.Least u h = (
+      (assign.Least, h.0.second.0),
+      refl,
+      record { front = h.0.front; back = h.0.back; whole = h.0.whole; first = h.0.first; second = h.0.second.1 },
+      λ l w. (tt, tt),
+    )
+    back assign.Greatest u h = (
+      (assign.Greatest, h.0.second.0),
+      refl,
+      record { front = h.0.front; back = h.0.back; whole = h.0.whole; first = h.0.first; second = h.0.second.1 },
+      λ l w. (tt, tt),
+    )
 
 abbrev SmallMark : AssignOp → Form
 SmallMark x u = ReadsOp x u × IsSmall x
@@ -222,7 +264,8 @@ small_one = record {
   is_word = refl;
 }
   where
-    back : (x : AssignOp) (u : List Placed) → SmallMark x u → (s : Span) × (k : Kind) × (u ≡ token s k ∷ []) × (is_small_op k ≡ true) × (small_op k ≡ x)
+    back : (x : AssignOp) (u : List Placed) → SmallMark x u → (s : Span) × (k : Kind) × (u ≡ token s k ∷ []) ×
+        (is_small_op k ≡ true) × (small_op k ≡ x)
     back assign.Set u h = (h.0.0, Mark mark.ASSIGN, h.0.1, refl, refl)
     back assign.Add u h = (h.0.0, Mark mark.PLUS_ASSIGN, h.0.1, refl, refl)
     back assign.Least u h = absurd h.1
@@ -231,16 +274,22 @@ small_one = record {
 small_only : IsReader (only op_notion IsSmall) (λ l. single is_small_op (λ s k. small_op k))
 small_only = let h = single_reader SmallMark is_small_op (λ s k. small_op k) small_one in made_same h
   where
-    made_same : IsReader (free_notion SmallMark) (λ l. single is_small_op (λ s k. small_op k)) → IsReader (only op_notion IsSmall) (λ l. single is_small_op (λ s k. small_op k))
+    made_same : IsReader (free_notion SmallMark) (λ l. single is_small_op (λ s k. small_op k)) →
+        IsReader (only op_notion IsSmall) (λ l. single is_small_op (λ s k. small_op k))
     made_same h = h
 
 pub op_reader : IsReader op_notion (λ l. op_at)
 unfolding op_at
 op_reader =
-    either_reader op_notion IsLarge IsSmall is_large_op (λ l. made (λ x. x.0) (both (single is_large_op (λ s k. large_op k)) (expect (Mark mark.ASSIGN)))) (λ l. single is_small_op (λ s k. small_op k))
-    (made_reader large_parts.notion (only op_notion IsLarge) (λ x. x.0) large_parts.run large_image large_parts.law) small_only split
+    either_reader op_notion IsLarge IsSmall is_large_op (λ l.
+    made (λ x. x.0) (both (single is_large_op (λ s k. large_op k)) (expect (Mark mark.ASSIGN)))) (λ l.
+    single is_small_op (λ s k. small_op k))
+    (made_reader large_parts.notion (only op_notion IsLarge) (λ x. x.0) large_parts.run large_image large_parts.law)
+    small_only split
   where
-    split : (x : AssignOp) (u : List Placed) → ReadsOp x u → (IsLarge x × ((r : List Placed) → begins is_large_op (u ++ r) ≡ true)) ⊎ (IsSmall x × ((r : List Placed) → begins is_large_op (u ++ r) ≡ false))
+    split : (x : AssignOp) (u : List Placed) → ReadsOp x u →
+        (IsLarge x × ((r : List Placed) → begins is_large_op (u ++ r) ≡ true)) ⊎
+        (IsSmall x × ((r : List Placed) → begins is_large_op (u ++ r) ≡ false))
     split assign.Set u h = inr (tt, λ r. rw (h.1) refl)
     split assign.Add u h = inr (tt, λ r. rw (h.1) refl)
     split assign.Least u h = inl (tt, λ r. rw (h.whole, h.first.1) refl)

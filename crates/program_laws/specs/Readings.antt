@@ -9,7 +9,8 @@ use Rattle.vert_grammar.specs.Reading.{Stop, reading}
 
 -- What is read is a program within the limits, and all of the tokens are.
 abbrev pub ReadsSoundly : List Placed → Type 0
-ReadsSoundly tokens = (p : ProgramTree) (rest : List Placed) → reading tokens ≡ Ok (p, rest) → IsReading tokens p × (rest ≡ [])
+ReadsSoundly tokens = (p : ProgramTree) (rest : List Placed) → reading tokens ≡ Ok (p, rest) → IsReading tokens p ×
+    (rest ≡ [])
 
 -- Each program within the limits is read.
 abbrev pub ReadsFully : List Placed → Type 0
@@ -25,19 +26,23 @@ RefusesSoundly tokens = (s : Stop) → reading tokens ≡ Err s → IsRefused s.
 
 -- Where the tokens are refused reading stops.
 abbrev pub RefusesFully : List Placed → Type 0
-RefusesFully tokens = (why : Why) (rest : List Placed) → IsRefused why tokens rest → reading tokens ≡ Err (record { why = why; rest = rest })
+RefusesFully tokens = (why : Why) (rest : List Placed) → IsRefused why tokens rest →
+    reading tokens ≡ Err (record { why = why; rest = rest })
 
 -- The tokens are refused for one cause at most, at one token.
 abbrev pub IsRefusedOnce : List Placed → Type 0
-IsRefusedOnce tokens = (why other : Why) (rest behind : List Placed) → IsRefused why tokens rest → IsRefused other tokens behind → (why ≡ other) × (rest ≡ behind)
+IsRefusedOnce tokens = (why other : Why) (rest behind : List Placed) → IsRefused why tokens rest →
+    IsRefused other tokens behind → (why ≡ other) × (rest ≡ behind)
 
 -- What is refused is no program within the limits.
 abbrev pub RefusesNoProgram : List Placed → Type 0
-RefusesNoProgram tokens = (why : Why) (rest : List Placed) (p : ProgramTree) → IsRefused why tokens rest → IsReading tokens p → ⊥
+RefusesNoProgram tokens = (why : Why) (rest : List Placed) (p : ProgramTree) → IsRefused why tokens rest →
+    IsReading tokens p → ⊥
 
 -- The tokens are a program within the limits, or they are refused.
 abbrev pub IsJudged : List Placed → Type 0
-IsJudged tokens = ((p : ProgramTree) × IsReading tokens p) ⊎ ((why : Why) × (rest : List Placed) × IsRefused why tokens rest)
+IsJudged tokens = ((p : ProgramTree) × IsReading tokens p) ⊎
+    ((why : Why) × (rest : List Placed) × IsRefused why tokens rest)
 
 -- Where reading stops is the first fault of the tokens of a text that ends here.
 abbrev pub StopsAtFault : List Placed → Span → Type 0
@@ -45,4 +50,5 @@ StopsAtFault tokens end = (s : Stop) → reading tokens ≡ Err s → IsFirstFau
 
 -- They have one first fault at most.
 abbrev pub HasOneFault : List Placed → Span → Type 0
-HasOneFault tokens end = (why other : Why) (at place : Span) → IsFirstFault why at tokens end → IsFirstFault other place tokens end → (why ≡ other) × (at ≡ place)
+HasOneFault tokens end = (why other : Why) (at place : Span) → IsFirstFault why at tokens end →
+    IsFirstFault other place tokens end → (why ≡ other) × (at ≡ place)

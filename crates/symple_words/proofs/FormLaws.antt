@@ -32,7 +32,8 @@ is_false false e = refl
 -- a name that is in the list passes what all pass
 passes_in : (p : Text → Bool) (n : Text) (xs : List Text) → list_all p xs ≡ true → has n xs ≡ true → p n ≡ true
 passes_in p n [] all e = absurd (true≢false (sym e))
-passes_in p n (x ∷ xs) all e = go (bytes_eq x n) (λ h. (bytes_eq-Decides x n).0 h) e (λ h. passes_in p n xs (and_parts (p x) (list_all p xs) all).1 h)
+passes_in p n (x ∷ xs) all e = go (bytes_eq x n) (λ h. (bytes_eq-Decides x n).0 h) e (λ h.
+    passes_in p n xs (and_parts (p x) (list_all p xs) all).1 h)
   where
     go : (b : Bool) → (b ≡ true → x ≡ n) → (b || has n xs) ≡ true → (has n xs ≡ true → p n ≡ true) → p n ≡ true
     go true is h later = ap p (sym (is refl)) ∙ (and_parts (p x) (list_all p xs) all).0
@@ -61,31 +62,36 @@ not_among m n ps absent there = go (bytes_eq m n) refl
     go false h = refl
     go true h = absurd (true≢false (sym there ∙ (ap (λ x. has x ps) (sym ((bytes_eq-Decides m n).0 h)) ∙ absent)))
 
-distinct_at : (ps : List Text) (j k : ℕ) (m n : Text) → is_distinct ps ≡ true → j < k → slice_get ps j ≡ Some m → slice_get ps k ≡ Some n → bytes_eq m n ≡ false
+distinct_at : (ps : List Text) (j k : ℕ) (m n : Text) → is_distinct ps ≡ true → j < k → slice_get ps j ≡ Some m →
+    slice_get ps k ≡ Some n → bytes_eq m n ≡ false
 distinct_at [] j k m n d lt a b = absurd (true≢false (ap is_some (sym a)))
 distinct_at (p ∷ ps) zero zero m n d lt a b = absurd (omega arith)
 distinct_at (p ∷ ps) zero (suc k) m n d lt a b =
     let alone = is_false _ (and_parts (not (has p ps)) (is_distinct ps) d).0 in
     ap (λ x. bytes_eq x n) (sym (same_some p m a)) ∙ not_among p n ps alone (has_at ps k n b)
 distinct_at (p ∷ ps) (suc j) zero m n d lt a b = absurd (omega arith)
-distinct_at (p ∷ ps) (suc j) (suc k) m n d lt a b = distinct_at ps j k m n (and_parts (not (has p ps)) (is_distinct ps) d).1 (omega arith) a b
+distinct_at (p ∷ ps) (suc j) (suc k) m n d lt a b = distinct_at ps j k m n
+    (and_parts (not (has p ps)) (is_distinct ps) d).1 (omega arith) a b
 
 -- a list of which no name passes a test
-refused_in : (p : Text → Bool) (n : Text) (xs : List Text) → list_all (λ x. not (p x)) xs ≡ true → p n ≡ true → has n xs ≡ false
+refused_in : (p : Text → Bool) (n : Text) (xs : List Text) → list_all (λ x. not (p x)) xs ≡ true → p n ≡ true →
+    has n xs ≡ false
 refused_in p n xs all holds = go (has n xs) refl
   where
     go : (b : Bool) → has n xs ≡ b → b ≡ false
     go false h = refl
     go true h = absurd (true≢false (sym holds ∙ is_false (p n) (passes_in (λ x. not (p x)) n xs all h)))
 
-no_such_flag : (n : Text) (xs : List Text) → list_all (λ x. has x flag_names) xs ≡ true → has n flag_names ≡ false → has n xs ≡ false
+no_such_flag : (n : Text) (xs : List Text) → list_all (λ x. has x flag_names) xs ≡ true → has n flag_names ≡ false →
+    has n xs ≡ false
 no_such_flag n xs all absent = go (has n xs) refl
   where
     go : (b : Bool) → has n xs ≡ b → b ≡ false
     go false h = refl
     go true h = absurd (true≢false (sym (passes_in (λ x. has x flag_names) n xs all h) ∙ absent))
 
-first_parts : (p q : Text → Bool) (xs : List Text) → list_all (λ x. p x && q x) xs ≡ true → (list_all p xs ≡ true) × (list_all q xs ≡ true)
+first_parts : (p q : Text → Bool) (xs : List Text) → list_all (λ x. p x && q x) xs ≡ true → (list_all p xs ≡ true) ×
+    (list_all q xs ≡ true)
 first_parts p q [] e = (refl, refl)
 first_parts p q (x ∷ xs) e =
     let h = and_parts (p x && q x) (list_all (λ y. p y && q y) xs) e in
@@ -100,7 +106,8 @@ form_from f e =
     let places = and_parts (list_all (λ n. not (has n flag_names)) f.positionals) _ distinct.1 in
     let rest = and_parts (list_all (λ n. not (has n f.positionals) && not (has n flag_names)) f.options) _ places.1 in
     let options = first_parts (λ n. not (has n f.positionals)) (λ n. not (has n flag_names)) f.options rest.0 in
-    let named : (n : Text) → has n f.flags ≡ true → has n flag_names ≡ true = λ n h. passes_in (λ x. has x flag_names) n f.flags rest.1 h in
+    let named : (n : Text) → has n f.flags ≡ true → has n flag_names ≡ true = λ n h.
+    passes_in (λ x. has x flag_names) n f.flags rest.1 h in
     record {
       few = grind (arith, common_steps);
       options = λ n h. (
@@ -133,7 +140,8 @@ forms_right verb.Worker = refl
 
 -- ---- what the calls of clap say, of words whose first is the command
 
-first_and_rest : (words : List (String Global)) → 0 < length words → (w : Text) × (words_of words ≡ w ∷ words_of (drop 1 words))
+first_and_rest : (words : List (String Global)) → 0 < length words → (w : Text) ×
+    (words_of words ≡ w ∷ words_of (drop 1 words))
 first_and_rest [] lt = absurd (omega arith)
 first_and_rest (w ∷ words) lt = (string_bytes w, refl)
 
@@ -141,26 +149,34 @@ from_some : (o : Option Given) → true ≡ is_some o → o ≡ Some (unwrap_or 
 from_some (Some g) e = refl
 from_some None e = absurd (true≢false e)
 
-pub taken : (name : Text) (f : Form) (words : List (String Global)) → is_form f ≡ true → 0 < length words → true ≡ is_some (given_by f (words_of (drop 1 words)))
+pub taken : (name : Text) (f : Form) (words : List (String Global)) → is_form f ≡ true → 0 < length words →
+    true ≡ is_some (given_by f (words_of (drop 1 words)))
     → takes (app_for name f) (words_of words) ≡ true
 taken name f words form lt e =
     let w = first_and_rest words lt in
-    ap (takes (app_for name f)) w.1 ∙ right_takes name f w.0 (words_of (drop 1 words)) _ (form_from f form) (from_some _ e)
+    ap (takes (app_for name f)) w.1 ∙ right_takes name f w.0 (words_of (drop 1 words)) _ (form_from f form)
+    (from_some _ e)
 
 -- what clap has at a flag that the form has, or may have
-says_flag : (name : Text) (f : Form) (first : Text) (words : List Text) (given : Given) (id : Text) → IsForm f → given_by f words ≡ Some given → has id flag_names ≡ true
-    → unwrap_or (one_of id (matches_of (app_for name f) (first ∷ words))) (codes "false") ≡ flag_text (has_given id given)
+says_flag : (name : Text) (f : Form) (first : Text) (words : List Text) (given : Given) (id : Text) → IsForm f →
+    given_by f words ≡ Some given → has id flag_names ≡ true
+    → unwrap_or (one_of id (matches_of (app_for name f) (first ∷ words))) (codes "false")
+    ≡ flag_text (has_given id given)
 says_flag name f first words given id form e known = go (has id f.flags) refl
   where
-    go : (b : Bool) → has id f.flags ≡ b → unwrap_or (one_of id (matches_of (app_for name f) (first ∷ words))) (codes "false") ≡ flag_text (has_given id given)
+    go : (b : Bool) → has id f.flags ≡ b →
+        unwrap_or (one_of id (matches_of (app_for name f) (first ∷ words))) (codes "false")
+        ≡ flag_text (has_given id given)
     go true h = ap (λ o. unwrap_or o (codes "false")) (right_flag name f first words given id form e h)
     go false h =
         let alone = form.flag_alone id known in
         let nothing = nothing_there name f first words given id form e alone.0 alone.1 h in
         ap (λ o. unwrap_or o (codes "false")) nothing.0 ∙ sym (ap flag_text nothing.1)
 
-pub reads_as : (name : Text) (f : Form) (words : List (String Global)) (m : ArgMatches) → is_form f ≡ true → 0 < length words
-    → true ≡ is_some (given_by f (words_of (drop 1 words))) → rows_of (found_of m) ≡ matches_of (app_for name f) (words_of words)
+pub reads_as : (name : Text) (f : Form) (words : List (String Global)) (m : ArgMatches) → is_form f ≡ true →
+    0 < length words
+    → true ≡ is_some (given_by f (words_of (drop 1 words))) →
+    rows_of (found_of m) ≡ matches_of (app_for name f) (words_of words)
     → ReadsAs f (words_of (drop 1 words)) m
 reads_as name f words m form lt e is =
     let w = first_and_rest words lt in
@@ -170,7 +186,8 @@ reads_as name f words m form lt e is =
     record {
       spelt = spelt;
       values = λ id h. first_value-rows (found_of m) id
-          ∙ (ap (first_of id) rows ∙ right_value name f w.0 rest _ id (form_from f form) spelt ((form_from f form).no_flag id h));
+          ∙ (ap (first_of id) rows ∙ right_value name f w.0 rest _ id (form_from f form) spelt
+          ((form_from f form).no_flag id h));
       flags = λ id h. ap (λ o. unwrap_or o (codes "false")) (one_text-rows (found_of m) id ∙ ap (one_of id) rows)
           ∙ says_flag name f w.0 rest _ id (form_from f form) spelt h;
     }
@@ -184,7 +201,8 @@ behind_first (w ∷ words) = take_all words
     take_all xs = take_whole (suc (length xs) - 1) xs (omega arith)
 
 -- what the own check says of them
-pub right_spelling : (f : Form) (words : List (String Global)) (b : Bool) → b ≡ is_some (given_by f (words_of (take (length words - 1) (drop 1 words)))) → b ≡ true
+pub right_spelling : (f : Form) (words : List (String Global)) (b : Bool) →
+    b ≡ is_some (given_by f (words_of (take (length words - 1) (drop 1 words)))) → b ≡ true
     → true ≡ is_some (given_by f (words_of (drop 1 words)))
 right_spelling f words b e h = sym h ∙ (e ∙ ap (λ l. is_some (given_by f (words_of l))) (behind_first words))
 

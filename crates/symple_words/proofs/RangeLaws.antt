@@ -32,7 +32,8 @@ in_range low high text n e = go (is_number text && (nat_le low value && nat_le v
         → cond b (Some (digits_value 10 text)) None ≡ Some n → (low ≤ n) × (n ≤ high)
     go false h e' = never n e'
     go true h e' =
-        let parts = and_parts (nat_le low (digits_value 10 text)) (nat_le (digits_value 10 text) high) (and_parts (is_number text) _ h).1 in
+        let parts = and_parts (nat_le low (digits_value 10 text)) (nat_le (digits_value 10 text) high)
+        (and_parts (is_number text) _ h).1 in
         subst (λ v. (low ≤ v) × (v ≤ high)) (same _ n e') (grind (arith, common_steps), grind (arith, common_steps))
 
 are_machines : (given : Given) (n : ℕ) → machines_from given ≡ Some n → AreMachines n
@@ -57,28 +58,37 @@ few_vertices (Some text) v e x is = go (number_in 0 VERTICES text) refl e
     go None at h = never v h
     go (Some n) at h = subst (λ m. m ≤ VERTICES) (same n x (same (Some n) v h ∙ is)) (in_range 0 VERTICES text n at).1
 
-form_within : (both binary weighted : Bool) (vertices : Option ℕ) (form : GraphForm) → ForSome vertices (λ n. n ≤ VERTICES)
-    → cond ((weighted && not binary) || (is_some vertices && binary)) None (Some (record { vertices = vertices; both = both; binary = binary; weighted = weighted })) ≡ Some form
+form_within : (both binary weighted : Bool) (vertices : Option ℕ) (form : GraphForm) →
+    ForSome vertices (λ n. n ≤ VERTICES)
+    → cond ((weighted && not binary) || (is_some vertices && binary)) None
+    (Some (record { vertices = vertices; both = both; binary = binary; weighted = weighted })) ≡ Some form
     → IsGraphForm form
 form_within both true true (Some v) form few e = never form e
-form_within both true true None form few e = subst IsGraphForm (same _ form e) (record { vertices = few; text = λ h. refl; binary = λ h. refl })
+form_within both true true None form few e = subst IsGraphForm (same _ form e)
+    (record { vertices = few; text = λ h. refl; binary = λ h. refl })
 form_within both false true v form few e = never form e
 form_within both true false (Some v) form few e = never form e
-form_within both true false None form few e = subst IsGraphForm (same _ form e) (record { vertices = few; text = λ h. refl; binary = λ h. refl })
-form_within both false false (Some v) form few e = subst IsGraphForm (same _ form e) (record { vertices = few; text = λ h. absurd (true≢false (sym h)); binary = λ h. absurd (true≢false (sym h)) })
-form_within both false false None form few e = subst IsGraphForm (same _ form e) (record { vertices = few; text = λ h. refl; binary = λ h. absurd (true≢false (sym h)) })
+form_within both true false None form few e = subst IsGraphForm (same _ form e)
+    (record { vertices = few; text = λ h. refl; binary = λ h. refl })
+form_within both false false (Some v) form few e = subst IsGraphForm (same _ form e)
+    (record { vertices = few; text = λ h. absurd (true≢false (sym h)); binary = λ h. absurd (true≢false (sym h)) })
+form_within both false false None form few e = subst IsGraphForm (same _ form e)
+    (record { vertices = few; text = λ h. refl; binary = λ h. absurd (true≢false (sym h)) })
 
 is_graph_form : (given : Given) (form : GraphForm) → graph_form_from given ≡ Some form → IsGraphForm form
 is_graph_form given form e = go (number_if 0 VERTICES (value_at (codes "vertices") given)) refl e
   where
     go : (o : Option (Option ℕ)) → number_if 0 VERTICES (value_at (codes "vertices") given) ≡ o
-        → graph_form_by o (has_given (codes "both") given) (has_given (codes "binary") given) (has_given (codes "weighted") given) ≡ Some form → IsGraphForm form
+        → graph_form_by o (has_given (codes "both") given) (has_given (codes "binary") given)
+        (has_given (codes "weighted") given) ≡ Some form → IsGraphForm form
     go None at h = never form h
-    go (Some v) at h = form_within (has_given (codes "both") given) (has_given (codes "binary") given) (has_given (codes "weighted") given) v form
+    go (Some v) at h = form_within (has_given (codes "both") given) (has_given (codes "binary") given)
+        (has_given (codes "weighted") given) v form
         (few_vertices (value_at (codes "vertices") given) v at) h
 
 job_within : (given : Given) (job : PlainJob) → job_from given ≡ Some job → IsGraphForm job.form
-job_within given job e = go (value_at (codes "program") given) (value_at (codes "graph") given) (graph_form_from given) (draws_from given) refl e
+job_within given job e = go (value_at (codes "program") given) (value_at (codes "graph") given)
+    (graph_form_from given) (draws_from given) refl e
   where
     go : (program graph : Option Text) (form : Option GraphForm) (draws : Option ℕ) → graph_form_from given ≡ form
         → job_by program graph form (lines_from given) draws ≡ Some job → IsGraphForm job.form
@@ -86,15 +96,18 @@ job_within given job e = go (value_at (codes "program") given) (value_at (codes 
     go (Some p) None form draws at h = never job h
     go (Some p) (Some g) None draws at h = never job h
     go (Some p) (Some g) (Some f) None at h = never job h
-    go (Some p) (Some g) (Some f) (Some d) at h = subst (λ (j : PlainJob). IsGraphForm j.form) (same _ job h) (is_graph_form given f at)
+    go (Some p) (Some g) (Some f) (Some d) at h = subst (λ (j : PlainJob). IsGraphForm j.form) (same _ job h)
+        (is_graph_form given f at)
 
 -- ---- the lines
 
-one_within : (make : Text → PlainLine) → ((t : Text) → IsWithin (make t)) → (o : Option Text) (line : PlainLine) → one_text make o ≡ Some line → IsWithin line
+one_within : (make : Text → PlainLine) → ((t : Text) → IsWithin (make t)) → (o : Option Text) (line : PlainLine) →
+    one_text make o ≡ Some line → IsWithin line
 one_within make right None line e = never line e
 one_within make right (Some t) line e = subst IsWithin (same _ line e) (right t)
 
-two_within : (make : Text → Text → PlainLine) → ((t u : Text) → IsWithin (make t u)) → (o p : Option Text) (line : PlainLine) → two_texts make o p ≡ Some line → IsWithin line
+two_within : (make : Text → Text → PlainLine) → ((t u : Text) → IsWithin (make t u)) →
+    (o p : Option Text) (line : PlainLine) → two_texts make o p ≡ Some line → IsWithin line
 two_within make right None p line e = never line e
 two_within make right (Some t) None line e = never line e
 two_within make right (Some t) (Some u) line e = subst IsWithin (same _ line e) (right t u)
@@ -105,13 +118,15 @@ Forms o = (job : PlainJob) → o ≡ Some job → IsGraphForm job.form
 abbrev Machines : Option ℕ → Type 0
 Machines o = (n : ℕ) → o ≡ Some n → AreMachines n
 
-run_within : (job : Option PlainJob) (machines : Option ℕ) (image : Option Text) (line : PlainLine) → Forms job → Machines machines
+run_within : (job : Option PlainJob) (machines : Option ℕ) (image : Option Text) (line : PlainLine) → Forms job →
+    Machines machines
     → run_by job machines image ≡ Some line → IsWithin line
 run_within None m image line f g e = never line e
 run_within (Some j) None image line f g e = never line e
 run_within (Some j) (Some n) image line f g e = subst IsWithin (same _ line e) (f j refl, g n refl)
 
-record_within : (job : Option PlainJob) (schedule : Option Text) (machines seed : Option ℕ) (lossy : Bool) (line : PlainLine) → Forms job → Machines machines
+record_within : (job : Option PlainJob) (schedule : Option Text) (machines seed : Option ℕ) (lossy : Bool)
+    (line : PlainLine) → Forms job → Machines machines
     → record_by job schedule machines seed lossy ≡ Some line → IsWithin line
 record_within None s m k lossy line f g e = never line e
 record_within (Some j) None m k lossy line f g e = never line e
@@ -125,26 +140,30 @@ replay_within None s line f e = never line e
 replay_within (Some j) None line f e = never line e
 replay_within (Some j) (Some s) line f e = subst IsWithin (same _ line e) (f j refl)
 
-resume_within : (job : Option PlainJob) (image : Option Text) (machines : Option ℕ) (line : PlainLine) → Forms job → Machines machines
+resume_within : (job : Option PlainJob) (image : Option Text) (machines : Option ℕ) (line : PlainLine) → Forms job →
+    Machines machines
     → resume_by job image machines ≡ Some line → IsWithin line
 resume_within None i m line f g e = never line e
 resume_within (Some j) None m line f g e = never line e
 resume_within (Some j) (Some i) None line f g e = never line e
 resume_within (Some j) (Some i) (Some n) line f g e = subst IsWithin (same _ line e) (f j refl, g n refl)
 
-plan_within : (graph : Option Text) (form : Option GraphForm) (machines : Option ℕ) (line : PlainLine) → ((x : GraphForm) → form ≡ Some x → IsGraphForm x) → Machines machines
+plan_within : (graph : Option Text) (form : Option GraphForm) (machines : Option ℕ) (line : PlainLine) →
+    ((x : GraphForm) → form ≡ Some x → IsGraphForm x) → Machines machines
     → plan_by graph form machines ≡ Some line → IsWithin line
 plan_within None form m line f g e = never line e
 plan_within (Some t) None m line f g e = never line e
 plan_within (Some t) (Some x) None line f g e = never line e
 plan_within (Some t) (Some x) (Some n) line f g e = subst IsWithin (same _ line e) (f x refl, g n refl)
 
-demo_within : (seed machines : Option ℕ) (line : PlainLine) → Machines machines → demo_by seed machines ≡ Some line → IsWithin line
+demo_within : (seed machines : Option ℕ) (line : PlainLine) → Machines machines → demo_by seed machines ≡ Some line →
+    IsWithin line
 demo_within None m line g e = never line e
 demo_within (Some k) None line g e = never line e
 demo_within (Some k) (Some n) line g e = subst IsWithin (same _ line e) (g n refl)
 
-split_within : (program graph prefix : Option Text) (form : Option GraphForm) (machines draws : Option ℕ) (line : PlainLine) → ((x : GraphForm) → form ≡ Some x → IsGraphForm x) → Machines machines
+split_within : (program graph prefix : Option Text) (form : Option GraphForm) (machines draws : Option ℕ)
+    (line : PlainLine) → ((x : GraphForm) → form ≡ Some x → IsGraphForm x) → Machines machines
     → split_by program graph prefix form machines draws ≡ Some line → IsWithin line
 split_within None g p form m d line f h e = never line e
 split_within (Some t) None p form m d line f h e = never line e
@@ -152,7 +171,8 @@ split_within (Some t) (Some u) None form m d line f h e = never line e
 split_within (Some t) (Some u) (Some v) None m d line f h e = never line e
 split_within (Some t) (Some u) (Some v) (Some x) None d line f h e = never line e
 split_within (Some t) (Some u) (Some v) (Some x) (Some n) None line f h e = never line e
-split_within (Some t) (Some u) (Some v) (Some x) (Some n) (Some k) line f h e = subst IsWithin (same _ line e) (f x refl, h n refl)
+split_within (Some t) (Some u) (Some v) (Some x) (Some n) (Some k) line f h e = subst IsWithin (same _ line e)
+    (f x refl, h n refl)
 
 -- the line of a command is within the ranges of its numbers
 pub line_within : (v : Verb) (given : Given) (line : PlainLine) → line_from v given ≡ Some line → IsWithin line

@@ -25,20 +25,26 @@ row_at p = record { id = p.0; values = p.1 ∷ []; count = None; source = Some C
 abbrev pub rows : Given → List Row
 rows = map row_at
 
-row_missing : (id : Text) (change : Row → List Row) (missing : List Row) (given : Given) → has_given id given ≡ false → at_row id change missing (rows given) ≡ rows given ++ missing
+row_missing : (id : Text) (change : Row → List Row) (missing : List Row) (given : Given) → has_given id given ≡ false
+    → at_row id change missing (rows given) ≡ rows given ++ missing
 row_missing id change missing [] e = refl
 row_missing id change missing (p ∷ given) e = go (bytes_eq p.0 id) e (row_missing id change missing given)
   where
-    go : (b : Bool) → (b || has_given id given) ≡ false → (has_given id given ≡ false → at_row id change missing (rows given) ≡ rows given ++ missing)
-        → cond b (change (row_at p) ++ rows given) (row_at p ∷ at_row id change missing (rows given)) ≡ row_at p ∷ (rows given ++ missing)
+    go : (b : Bool) → (b || has_given id given) ≡ false →
+        (has_given id given ≡ false → at_row id change missing (rows given) ≡ rows given ++ missing)
+        → cond b (change (row_at p) ++ rows given) (row_at p ∷ at_row id change missing (rows given)) ≡ row_at p
+        ∷ (rows given ++ missing)
     go true h ih = absurd (true≢false h)
     go false h ih = ap (λ rs. row_at p ∷ rs) (ih h)
 
 pub rows_with : (id value : Text) (given : Given) → has_given id given ≡ false
-    → with_values id reading.AsWritten CommandLine (value ∷ []) (without id (rows given)) ≡ rows (given ++ (id, value) ∷ [])
+    → with_values id reading.AsWritten CommandLine (value ∷ []) (without id (rows given))
+    ≡ rows (given ++ (id, value) ∷ [])
 rows_with id value given e =
-    ap (with_values id reading.AsWritten CommandLine (value ∷ [])) (row_missing id (λ _. []) [] given e ∙ append-nil (rows given))
-    ∙ (row_missing id (more_values CommandLine (value ∷ [])) (row_at (id, value) ∷ []) given e ∙ sym (map-append row_at given ((id, value) ∷ [])))
+    ap (with_values id reading.AsWritten CommandLine (value ∷ [])) (row_missing id (λ _. []) [] given e
+    ∙ append-nil (rows given))
+    ∙ (row_missing id (more_values CommandLine (value ∷ [])) (row_at (id, value) ∷ []) given e
+    ∙ sym (map-append row_at given ((id, value) ∷ [])))
 
 pub has_row_given : (id : Text) (given : Given) → has_row id (rows given) ≡ has_given id given
 has_row_given id [] = refl
@@ -59,7 +65,8 @@ walk_at h w position = record { held = h; waiting = w; position = position; is_t
 
 abbrev pub StandsBy : Form → Given → ℕ → Walk → Option Text → Type 0
 StandsBy f given count w None = (h : Held) × (w ≡ walk_at h idle (suc count)) × Settles f given h
-StandsBy f given count w (Some id) = (w ≡ walk_at (awaiting given id []) (option id) (suc count)) × (has id f.options ≡ true) × (has_given id given ≡ false)
+StandsBy f given count w (Some id) = (w ≡ walk_at (awaiting given id []) (option id) (suc count)) ×
+    (has id f.options ≡ true) × (has_given id given ≡ false)
 
 -- the walk of clap holds what was read
 abbrev pub Stands : Form → Stand → Walk → Type 0
@@ -72,7 +79,8 @@ pub record IsForm (f : Form) : Type 0 where
   pub flags : (n : Text) → has n f.flags ≡ true → has n f.positionals ≡ false
   pub no_flag : (n : Text) → has n flag_names ≡ false → has n f.flags ≡ false
   pub flag_alone : (n : Text) → has n flag_names ≡ true → (has n f.positionals ≡ false) × (has n f.options ≡ false)
-  pub apart : (j k : ℕ) (m n : Text) → j < k → slice_get f.positionals j ≡ Some m → slice_get f.positionals k ≡ Some n → bytes_eq m n ≡ false
+  pub apart : (j k : ℕ) (m n : Text) → j < k → slice_get f.positionals j ≡ Some m → slice_get f.positionals k ≡ Some n
+      → bytes_eq m n ≡ false
   pub places : (k : ℕ) (n : Text) → slice_get f.positionals k ≡ Some n → has n f.positionals ≡ true
   pub below : (k : ℕ) (n : Text) → slice_get f.positionals k ≡ Some n → k < length f.positionals
 
@@ -85,7 +93,8 @@ Fresh f given count = (k : ℕ) (n : Text) → count ≤ k → slice_get f.posit
 dashes : Text
 dashes = 45 ∷ 45 ∷ []
 
-pub not_dashes_option : (word : Text) (p : Text × Option Text) → option_of word ≡ Some p → bytes_eq word (45 ∷ 45 ∷ []) ≡ false
+pub not_dashes_option : (word : Text) (p : Text × Option Text) → option_of word ≡ Some p →
+    bytes_eq word (45 ∷ 45 ∷ []) ≡ false
 not_dashes_option word p e = go (bytes_eq word (45 ∷ 45 ∷ [])) refl
   where
     go : (b : Bool) → bytes_eq word (45 ∷ 45 ∷ []) ≡ b → b ≡ false
@@ -114,10 +123,12 @@ plain_word (b ∷ rest) e = go (b == 45) refl e
 
 -- ---- what one word does, where it is not `--`
 
-pub walked_word : (c : List Rule) (h : Held) (w : Waiting) (position : ℕ) (word : Text) → bytes_eq word (45 ∷ 45 ∷ []) ≡ false
+pub walked_word : (c : List Rule) (h : Held) (w : Waiting) (position : ℕ) (word : Text) →
+    bytes_eq word (45 ∷ 45 ∷ []) ≡ false
     → Rattle.clap.specs.Walk.subcommand_met [] w word ≡ None
     → walked c [] (walk_at h w position) word
-    ≡ after_step c word (walk_at h w position) (long_or_other c w word (long_of word) h).0 (long_or_other c w word (long_of word) h).1
+    ≡ after_step c word (walk_at h w position) (long_or_other c w word (long_of word) h).0
+    (long_or_other c w word (long_of word) h).1
 unfolding walked
 walked_word c h w position word other none = rw (none, other) refl
 
@@ -125,7 +136,8 @@ pub turn_word : (s : Shape) (h : Held) (w : Waiting) (position : ℕ) (word : Te
     → Rattle.clap.specs.Walk.subcommand_met [] w word ≡ None
     → turn_passes s [] (walk_at h w position) word
     ≡ (flag_word_passes s.rules s.args_override_self (long_of word) word h
-    && step_passes s position (long_or_other s.rules w word (long_of word) h).0 (long_or_other s.rules w word (long_of word) h).1)
+    && step_passes s position (long_or_other s.rules w word (long_of word) h).0
+    (long_or_other s.rules w word (long_of word) h).1)
 turn_word s h w position word other none = rw (none, other) refl
 
 and_false : (a : Bool) → (a && false) ≡ false
@@ -140,9 +152,11 @@ pub record Keeps (name : Text) (f : Form) (s : Stand) (w : Walk) (word : Text) :
   pub stands : Stands f s (walked (rules f) [] w word)
 
 -- `--name=value`
-pub attached : (n : Text) (f : Form) (given : Given) (count : ℕ) (h : Held) (word name value : Text) → Settles f given h → option_of word ≡ Some (name, Some value)
+pub attached : (n : Text) (f : Form) (given : Given) (count : ℕ) (h : Held) (word name value : Text) →
+    Settles f given h → option_of word ≡ Some (name, Some value)
     → has name f.options ≡ true → has_given name given ≡ false
-    → Keeps n f (record { given = given ++ (name, value) ∷ []; waiting = None; count = count }) (walk_at h idle (suc count)) word
+    → Keeps n f (record { given = given ++ (name, value) ∷ []; waiting = None; count = count })
+    (walk_at h idle (suc count)) word
 attached n f given count h word name value held is known new =
     let other = not_dashes_option word _ is in
     let long : long_of word ≡ Some (name, Some value) = same_option word ∙ is in
@@ -154,13 +168,16 @@ attached n f given count h word name value held is known new =
       stands = (
         record { rows = rows (given ++ (name, value) ∷ []); pending = None; skip = 0 },
         walked_word (rules f) h idle (suc count) word other refl
-            ∙ rw (long, found) (rw (held.rows, held.skip) (ap (λ rs. walk_at (record { rows = rs; pending = None; skip = 0 }) idle (suc count)) (rows_with name value given new))),
+            ∙ rw (long, found) (rw (held.rows, held.skip)
+            (ap (λ rs. walk_at (record { rows = rs; pending = None; skip = 0 }) idle (suc count))
+            (rows_with name value given new))),
         record { rows = refl; skip = refl; passes = refl },
       );
     }
 
 -- `--name`, whose value is the next word
-pub begun : (n : Text) (f : Form) (given : Given) (count : ℕ) (h : Held) (word name : Text) → Settles f given h → option_of word ≡ Some (name, None)
+pub begun : (n : Text) (f : Form) (given : Given) (count : ℕ) (h : Held) (word name : Text) → Settles f given h →
+    option_of word ≡ Some (name, None)
     → has name f.options ≡ true → has_given name given ≡ false
     → Keeps n f (record { given = given; waiting = Some name; count = count }) (walk_at h idle (suc count)) word
 begun n f given count h word name held is known new =
@@ -179,9 +196,11 @@ begun n f given count h word name held is known new =
     }
 
 -- `--name`, a flag
-pub flagged : (n : Text) (f : Form) (given : Given) (count : ℕ) (h : Held) (word name : Text) → Settles f given h → option_of word ≡ Some (name, None)
+pub flagged : (n : Text) (f : Form) (given : Given) (count : ℕ) (h : Held) (word name : Text) → Settles f given h →
+    option_of word ≡ Some (name, None)
     → has name f.options ≡ false → has name f.flags ≡ true → has_given name given ≡ false
-    → Keeps n f (record { given = given ++ (name, codes "true") ∷ []; waiting = None; count = count }) (walk_at h idle (suc count)) word
+    → Keeps n f (record { given = given ++ (name, codes "true") ∷ []; waiting = None; count = count })
+    (walk_at h idle (suc count)) word
 flagged n f given count h word name held is unknown known new =
     let other = not_dashes_option word _ is in
     let long : long_of word ≡ Some (name, None) = same_option word ∙ is in
@@ -193,13 +212,16 @@ flagged n f given count h word name held is unknown known new =
       stands = (
         record { rows = rows (given ++ (name, codes "true") ∷ []); pending = None; skip = 0 },
         walked_word (rules f) h idle (suc count) word other refl
-            ∙ rw (long, found) (rw (held.rows, held.skip) (ap (λ rs. walk_at (record { rows = rs; pending = None; skip = 0 }) idle (suc count)) (rows_with name (codes "true") given new))),
+            ∙ rw (long, found) (rw (held.rows, held.skip)
+            (ap (λ rs. walk_at (record { rows = rs; pending = None; skip = 0 }) idle (suc count))
+            (rows_with name (codes "true") given new))),
         record { rows = refl; skip = refl; passes = refl },
       );
     }
 
 -- a value that waits to be settled
-pub pending_place : (f : Form) (given : Given) (name word : Text) → has name f.positionals ≡ true → has_given name given ≡ false
+pub pending_place : (f : Form) (given : Given) (name word : Text) → has name f.positionals ≡ true →
+    has_given name given ≡ false
     → Settles f (given ++ (name, word) ∷ []) (awaiting given name (word ∷ []))
 pending_place f given name word known new =
     let found = id_place f name known in
@@ -210,7 +232,8 @@ pending_place f given name word known new =
       passes = rw (found.1, row) refl;
     }
 
-pub pending_choice : (f : Form) (given : Given) (name word : Text) → has name f.positionals ≡ false → has name f.options ≡ true → has_given name given ≡ false
+pub pending_choice : (f : Form) (given : Given) (name word : Text) → has name f.positionals ≡ false →
+    has name f.options ≡ true → has_given name given ≡ false
     → Settles f (given ++ (name, word) ∷ []) (awaiting given name (word ∷ []))
 pending_choice f given name word apart known new =
     let found = id_choice f name apart known in
@@ -227,7 +250,8 @@ same_text t = (bytes_eq-Decides t t).1 refl
 -- the word behind `--name`
 pub filled_in : (n : Text) (f : Form) (given : Given) (count : ℕ) (word name : Text) → IsForm f → is_plain word ≡ true
     → has name f.options ≡ true → has_given name given ≡ false
-    → Keeps n f (record { given = given ++ (name, word) ∷ []; waiting = None; count = count }) (walk_at (awaiting given name []) (option name) (suc count)) word
+    → Keeps n f (record { given = given ++ (name, word) ∷ []; waiting = None; count = count })
+    (walk_at (awaiting given name []) (option name) (suc count)) word
 filled_in n f given count word name form plain known new =
     let p = plain_word word plain in
     let apart = (form.options name known).0 in
@@ -244,9 +268,11 @@ filled_in n f given count word name form plain known new =
     }
 
 -- a positional
-pub placed_in : (n : Text) (f : Form) (given : Given) (count : ℕ) (h : Held) (word name : Text) → IsForm f → Settles f given h → is_plain word ≡ true
+pub placed_in : (n : Text) (f : Form) (given : Given) (count : ℕ) (h : Held) (word name : Text) → IsForm f →
+    Settles f given h → is_plain word ≡ true
     → slice_get f.positionals count ≡ Some name → has_given name given ≡ false
-    → Keeps n f (record { given = given ++ (name, word) ∷ []; waiting = None; count = count + 1 }) (walk_at h idle (suc count)) word
+    → Keeps n f (record { given = given ++ (name, word) ∷ []; waiting = None; count = count + 1 })
+    (walk_at h idle (suc count)) word
 placed_in n f given count h word name form held plain at new =
     let p = plain_word word plain in
     let found = index_place f count name at in
@@ -259,7 +285,9 @@ placed_in n f given count h word name form held plain at new =
       stands = (
         awaiting given name (word ∷ []),
         walked_word (rules f) h idle (suc count) word p.dashes refl
-            ∙ rw (p.long, p.short) (rw found (rw (and_false (Rattle.clap.specs.Walk.is_pending (place (suc count) name) h.pending), position) (rw (held.rows, held.skip) refl))),
+            ∙ rw (p.long, p.short) (rw found
+            (rw (and_false (Rattle.clap.specs.Walk.is_pending (place (suc count) name) h.pending), position)
+            (rw (held.rows, held.skip) refl))),
         pending_place f given name word (form.places count name at) new,
       );
     }

@@ -18,14 +18,17 @@ goes_on : (f : Form) (s : Stand) (word : Text) (rest : List Text) (m : Move) →
 unfolding read_from
 goes_on f s word rest m e = ap (λ o. option_and_then (λ t. read_from f t rest) (option_map (moved s) o)) e
 
-stops : (f : Form) (s : Stand) (word : Text) (rest : List Text) → next_move f (tally_of s) word ≡ None → read_from f s (word ∷ rest) ≡ None
+stops : (f : Form) (s : Stand) (word : Text) (rest : List Text) → next_move f (tally_of s) word ≡ None →
+    read_from f s (word ∷ rest) ≡ None
 unfolding read_from
 stops f s word rest e = ap (λ o. option_and_then (λ t. read_from f t rest) (option_map (moved s) o)) e
 
-pub refused : (f : Form) (words : List Text) → read_from f nothing_read words ≡ None → false ≡ is_some (given_by f words)
+pub refused : (f : Form) (words : List Text) → read_from f nothing_read words ≡ None →
+    false ≡ is_some (given_by f words)
 refused f words e = sym (ap (λ o. is_some (option_and_then (whole f) o)) e)
 
-pub at_the_end : (f : Form) (s : Stand) (t : Tally) (words : List Text) → tally_of s ≡ t → read_from f s [] ≡ read_from f nothing_read words
+pub at_the_end : (f : Form) (s : Stand) (t : Tally) (words : List Text) → tally_of s ≡ t →
+    read_from f s [] ≡ read_from f nothing_read words
     → is_whole f t.waiting t.count ≡ is_some (given_by f words)
 unfolding read_from
 at_the_end f s t words is e =
@@ -37,13 +40,17 @@ at_the_end f s t words is e =
     go false = refl
 
 moved_tally : (s : Stand) (m : Move) → tally_of (moved s m) ≡ advanced (tally_of s) m
-moved_tally s (gives name value) = ap (λ l. record { names = l; waiting = None; count = s.count }) (map-append (λ p. p.0) s.given ((name, value) ∷ []))
+moved_tally s (gives name value) = ap (λ l. record { names = l; waiting = None; count = s.count })
+    (map-append (λ p. p.0) s.given ((name, value) ∷ []))
 moved_tally s (waits name) = refl
-moved_tally s (places name value) = ap (λ l. record { names = l; waiting = None; count = s.count + 1 }) (map-append (λ p. p.0) s.given ((name, value) ∷ []))
+moved_tally s (places name value) = ap (λ l. record { names = l; waiting = None; count = s.count + 1 })
+    (map-append (λ p. p.0) s.given ((name, value) ∷ []))
 
-left_at : (words : List (String Global)) (i : ℕ) (d : String Global) (word : Text) → i < length words → d ≡ slice_index_or words i d → word ≡ string_bytes d
+left_at : (words : List (String Global)) (i : ℕ) (d : String Global) (word : Text) → i < length words →
+    d ≡ slice_index_or words i d → word ≡ string_bytes d
     → words_of (drop i words) ≡ word ∷ words_of (drop (i + 1) words)
-left_at words i d word lt at is = ap words_of (drop_more words i d lt) ∙ ap (λ t. t ∷ words_of (drop (i + 1) words)) (ap (λ s. string_bytes s) (sym at) ∙ sym is)
+left_at words i d word lt at is = ap words_of (drop_more words i d lt)
+    ∙ ap (λ t. t ∷ words_of (drop (i + 1) words)) (ap (λ s. string_bytes s) (sym at) ∙ sym is)
 
 -- a stand with this tally reads the words that are left as the whole is read
 pub record Reads (f : Form) (t : Tally) (rest : List Text) (whole : Option Stand) : Type 0 where
@@ -51,18 +58,23 @@ pub record Reads (f : Form) (t : Tally) (rest : List Text) (whole : Option Stand
   pub tally : tally_of stand ≡ t
   pub same : read_from f stand rest ≡ whole
 
-pub turn : (f : Form) (t u : Tally) (words : List (String Global)) (i : ℕ) (d : String Global) (word : Text) (m : Move) (whole : Option Stand)
-    → Reads f t (words_of (drop i words)) whole → i < length words → d ≡ slice_index_or words i d → word ≡ string_bytes d → Some m ≡ next_move f t word
+pub turn : (f : Form) (t u : Tally) (words : List (String Global)) (i : ℕ) (d : String Global) (word : Text)
+    (m : Move) (whole : Option Stand)
+    → Reads f t (words_of (drop i words)) whole → i < length words → d ≡ slice_index_or words i d →
+    word ≡ string_bytes d → Some m ≡ next_move f t word
     → u ≡ advanced t m → Reads f u (words_of (drop (i + 1) words)) whole
 turn f t u words i d word m whole r lt at is move next = record {
   stand = moved r.stand m;
   tally = moved_tally r.stand m ∙ (ap (λ x. advanced x m) r.tally ∙ sym next);
-  same = sym (goes_on f r.stand word (words_of (drop (i + 1) words)) m (ap (λ x. next_move f x word) r.tally ∙ sym move))
+  same = sym (goes_on f r.stand word (words_of (drop (i + 1) words)) m (ap (λ x. next_move f x word) r.tally
+      ∙ sym move))
       ∙ (ap (read_from f r.stand) (sym (left_at words i d word lt at is)) ∙ r.same);
 }
 
-pub turn_stops : (f : Form) (t : Tally) (words : List (String Global)) (i : ℕ) (d : String Global) (word : Text) (whole : Option Stand)
-    → Reads f t (words_of (drop i words)) whole → i < length words → d ≡ slice_index_or words i d → word ≡ string_bytes d → None ≡ next_move f t word → whole ≡ None
+pub turn_stops : (f : Form) (t : Tally) (words : List (String Global)) (i : ℕ) (d : String Global) (word : Text)
+    (whole : Option Stand)
+    → Reads f t (words_of (drop i words)) whole → i < length words → d ≡ slice_index_or words i d →
+    word ≡ string_bytes d → None ≡ next_move f t word → whole ≡ None
 turn_stops f t words i d word whole r lt at is move =
     sym r.same ∙ (ap (read_from f r.stand) (left_at words i d word lt at is)
     ∙ stops f r.stand word (words_of (drop (i + 1) words)) (ap (λ x. next_move f x word) r.tally ∙ sym move))

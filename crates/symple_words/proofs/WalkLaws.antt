@@ -22,9 +22,11 @@ flags_true f given = list_all (λ p. not (has p.0 f.flags) || bytes_eq p.1 (code
 pub record Sound (f : Form) (given : Given) (count : ℕ) : Type 0 where
   pub fresh : Fresh f given count
   pub flags : flags_true f given ≡ true
-  pub outside : (id : Text) → has id f.positionals ≡ false → has id f.options ≡ false → has id f.flags ≡ false → has_given id given ≡ false
+  pub outside : (id : Text) → has id f.positionals ≡ false → has id f.options ≡ false → has id f.flags ≡ false →
+      has_given id given ≡ false
 
-not_given : (n name value : Text) (given : Given) → has_given n given ≡ false → bytes_eq name n ≡ false → has_given n (given ++ (name, value) ∷ []) ≡ false
+not_given : (n name value : Text) (given : Given) → has_given n given ≡ false → bytes_eq name n ≡ false →
+    has_given n (given ++ (name, value) ∷ []) ≡ false
 not_given n name value given e other =
     ap (has n) (map-append (λ p. p.0) given ((name, value) ∷ []))
     ∙ (list_any-append (λ m. bytes_eq m n) (names_of given) (name ∷ []) ∙ rw (e, other) refl)
@@ -39,7 +41,8 @@ differs names name id there absent = go (bytes_eq name id) refl
         let same : name ≡ id = (bytes_eq-Decides name id).0 h in
         absurd (true≢false (sym there ∙ (ap (λ x. has x names) same ∙ absent)))
 
-differs' : (names : List Text) (name id : Text) → has name names ≡ false → has id names ≡ true → bytes_eq name id ≡ false
+differs' : (names : List Text) (name id : Text) → has name names ≡ false → has id names ≡ true →
+    bytes_eq name id ≡ false
 differs' names name id absent there = go (bytes_eq name id) refl
   where
     go : (b : Bool) → bytes_eq name id ≡ b → b ≡ false
@@ -48,16 +51,23 @@ differs' names name id absent there = go (bytes_eq name id) refl
         let same : name ≡ id = (bytes_eq-Decides name id).0 h in
         absurd (true≢false (sym there ∙ (ap (λ x. has x names) (sym same) ∙ absent)))
 
-fresh_more : (f : Form) (given : Given) (count : ℕ) (name value : Text) → IsForm f → Fresh f given count → has name f.positionals ≡ false → Fresh f (given ++ (name, value) ∷ []) count
-fresh_more f given count name value form fresh absent k n le at = not_given n name value given (fresh k n le at) (differs' f.positionals name n absent (form.places k n at))
+fresh_more : (f : Form) (given : Given) (count : ℕ) (name value : Text) → IsForm f → Fresh f given count →
+    has name f.positionals ≡ false → Fresh f (given ++ (name, value) ∷ []) count
+fresh_more f given count name value form fresh absent k n le at = not_given n name value given (fresh k n le at)
+    (differs' f.positionals name n absent (form.places k n at))
 
-fresh_placed : (f : Form) (given : Given) (count : ℕ) (name value : Text) → IsForm f → Fresh f given count → slice_get f.positionals count ≡ Some name → Fresh f (given ++ (name, value) ∷ []) (count + 1)
-fresh_placed f given count name value form fresh here k n le at = not_given n name value given (fresh k n (omega arith) at) (form.apart count k name n (omega arith) here at)
+fresh_placed : (f : Form) (given : Given) (count : ℕ) (name value : Text) → IsForm f → Fresh f given count →
+    slice_get f.positionals count ≡ Some name → Fresh f (given ++ (name, value) ∷ []) (count + 1)
+fresh_placed f given count name value form fresh here k n le at = not_given n name value given
+    (fresh k n (omega arith) at) (form.apart count k name n (omega arith) here at)
 
-true_more : (f : Form) (given : Given) (name value : Text) → flags_true f given ≡ true → (not (has name f.flags) || bytes_eq value (codes "true")) ≡ true → flags_true f (given ++ (name, value) ∷ []) ≡ true
-true_more f given name value e last = list_all-append (λ p. not (has p.0 f.flags) || bytes_eq p.1 (codes "true")) given ((name, value) ∷ []) ∙ rw (e, last) refl
+true_more : (f : Form) (given : Given) (name value : Text) → flags_true f given ≡ true →
+    (not (has name f.flags) || bytes_eq value (codes "true")) ≡ true → flags_true f (given ++ (name, value) ∷ []) ≡ true
+true_more f given name value e last = list_all-append (λ p. not (has p.0 f.flags) || bytes_eq p.1 (codes "true"))
+    given ((name, value) ∷ []) ∙ rw (e, last) refl
 
-not_in_flags : (f : Form) (name value : Text) → has name f.flags ≡ false → (not (has name f.flags) || bytes_eq value (codes "true")) ≡ true
+not_in_flags : (f : Form) (name value : Text) → has name f.flags ≡ false →
+    (not (has name f.flags) || bytes_eq value (codes "true")) ≡ true
 not_in_flags f name value e = rw e refl
 
 no_positional_flag : (f : Form) (name : Text) → IsForm f → has name f.positionals ≡ true → has name f.flags ≡ false
@@ -67,7 +77,8 @@ no_positional_flag f name form is = go (has name f.flags) refl
     go false h = refl
     go true h = absurd (true≢false (sym is ∙ form.flags name h))
 
-more_option : (f : Form) (given : Given) (count : ℕ) (name value : Text) → IsForm f → Sound f given count → has name f.options ≡ true → Sound f (given ++ (name, value) ∷ []) count
+more_option : (f : Form) (given : Given) (count : ℕ) (name value : Text) → IsForm f → Sound f given count →
+    has name f.options ≡ true → Sound f (given ++ (name, value) ∷ []) count
 more_option f given count name value form s is =
     record {
       fresh = fresh_more f given count name value form s.fresh (form.options name is).0;
@@ -75,7 +86,8 @@ more_option f given count name value form s is =
       outside = λ id p o g. not_given id name value given (s.outside id p o g) (differs f.options name id is o);
     }
 
-more_flag : (f : Form) (given : Given) (count : ℕ) (name : Text) → IsForm f → Sound f given count → has name f.flags ≡ true → Sound f (given ++ (name, codes "true") ∷ []) count
+more_flag : (f : Form) (given : Given) (count : ℕ) (name : Text) → IsForm f → Sound f given count →
+    has name f.flags ≡ true → Sound f (given ++ (name, codes "true") ∷ []) count
 more_flag f given count name form s is =
     record {
       fresh = fresh_more f given count name (codes "true") form s.fresh (form.flags name is);
@@ -83,18 +95,22 @@ more_flag f given count name form s is =
       outside = λ id p o g. not_given id name (codes "true") given (s.outside id p o g) (differs f.flags name id is g);
     }
 
-more_place : (f : Form) (given : Given) (count : ℕ) (name value : Text) → IsForm f → Sound f given count → slice_get f.positionals count ≡ Some name → Sound f (given ++ (name, value) ∷ []) (count + 1)
+more_place : (f : Form) (given : Given) (count : ℕ) (name value : Text) → IsForm f → Sound f given count →
+    slice_get f.positionals count ≡ Some name → Sound f (given ++ (name, value) ∷ []) (count + 1)
 more_place f given count name value form s at =
     record {
       fresh = fresh_placed f given count name value form s.fresh at;
-      flags = true_more f given name value s.flags (not_in_flags f name value (no_positional_flag f name form (form.places count name at)));
-      outside = λ id p o g. not_given id name value given (s.outside id p o g) (differs f.positionals name id (form.places count name at) p);
+      flags = true_more f given name value s.flags
+          (not_in_flags f name value (no_positional_flag f name form (form.places count name at)));
+      outside = λ id p o g. not_given id name value given (s.outside id p o g)
+          (differs f.positionals name id (form.places count name at) p);
     }
 
 -- ---- one word
 
 -- a move that is made where a test holds
-kept_if : (b : Bool) (s : Stand) (m : Move) (t : Stand) → option_map (moved s) (cond b (Some m) None) ≡ Some t → (b ≡ true) × (moved s m ≡ t)
+kept_if : (b : Bool) (s : Stand) (m : Move) (t : Stand) → option_map (moved s) (cond b (Some m) None) ≡ Some t →
+    (b ≡ true) × (moved s m ≡ t)
 kept_if true s m t e = (refl, ap (λ o. unwrap_or o t) e)
 kept_if false s m t e = absurd (true≢false (ap is_some (sym e)))
 
@@ -107,13 +123,18 @@ Goes n f w word t = Keeps n f t w word × Sound f t.given t.count
 abbrev stand : Given → ℕ → Option Text → Stand
 stand given count waiting = record { given = given; waiting = waiting; count = count }
 
-by_option : (n : Text) (f : Form) (given : Given) (count : ℕ) (h : Held) (word name : Text) (value : Option Text) (t : Stand) → IsForm f → Settles f given h → Sound f given count
+by_option : (n : Text) (f : Form) (given : Given) (count : ℕ) (h : Held) (word name : Text) (value : Option Text)
+    (t : Stand) → IsForm f → Settles f given h → Sound f given count
     → option_of word ≡ Some (name, value)
-    → option_map (moved (stand given count None)) (option_move f (names_of given) name value) ≡ Some t → Goes n f (walk_at h idle (suc count)) word t
-by_option n f given count h word name value t form held sound is e = go (has_given name given) (has name f.options) (has name f.flags) refl refl refl value is e
+    → option_map (moved (stand given count None)) (option_move f (names_of given) name value) ≡ Some t →
+    Goes n f (walk_at h idle (suc count)) word t
+by_option n f given count h word name value t form held sound is e = go (has_given name given) (has name f.options)
+    (has name f.flags) refl refl refl value is e
   where
-    go : (a b c : Bool) → has_given name given ≡ a → has name f.options ≡ b → has name f.flags ≡ c → (v : Option Text) → option_of word ≡ Some (name, v)
-        → option_map (moved (stand given count None)) (cond a None (cond b (valued_move name v) (cond c (flag_move name v) None))) ≡ Some t
+    go : (a b c : Bool) → has_given name given ≡ a → has name f.options ≡ b → has name f.flags ≡ c →
+        (v : Option Text) → option_of word ≡ Some (name, v)
+        → option_map (moved (stand given count None))
+        (cond a None (cond b (valued_move name v) (cond c (flag_move name v) None))) ≡ Some t
         → Goes n f (walk_at h idle (suc count)) word t
     go true b c x y z v is e = absurd (true≢false (ap is_some (sym e)))
     go false true c x y z None is e =
@@ -129,28 +150,40 @@ by_option n f given count h word name value t form held sound is e = go (has_giv
     go false false true x y z (Some v) is e = absurd (true≢false (ap is_some (sym e)))
     go false false false x y z v is e = absurd (true≢false (ap is_some (sym e)))
 
-by_place : (n : Text) (f : Form) (given : Given) (count : ℕ) (h : Held) (word : Text) (t : Stand) → IsForm f → Settles f given h → Sound f given count
-    → option_map (moved (stand given count None)) (place_move f count word) ≡ Some t → Goes n f (walk_at h idle (suc count)) word t
+by_place : (n : Text) (f : Form) (given : Given) (count : ℕ) (h : Held) (word : Text) (t : Stand) → IsForm f →
+    Settles f given h → Sound f given count
+    → option_map (moved (stand given count None)) (place_move f count word) ≡ Some t →
+    Goes n f (walk_at h idle (suc count)) word t
 by_place n f given count h word t form held sound e = go (is_plain word) (slice_get f.positionals count) refl refl e
   where
     go : (b : Bool) (o : Option Text) → is_plain word ≡ b → slice_get f.positionals count ≡ o
-        → option_map (moved (stand given count None)) (cond b (option_map (λ name. places name word) o) None) ≡ Some t → Goes n f (walk_at h idle (suc count)) word t
+        → option_map (moved (stand given count None)) (cond b (option_map (λ name. places name word) o) None) ≡ Some t
+        → Goes n f (walk_at h idle (suc count)) word t
     go false o x y e = absurd (true≢false (ap is_some (sym e)))
     go true None x y e = absurd (true≢false (ap is_some (sym e)))
     go true (Some name) x y e =
-        subst (λ (u : Stand). Goes n f (walk_at h idle (suc count)) word u) (same_some _ t e)
-        (placed_in n f given count h word name form held x y (sound.fresh count name (omega arith) y), more_place f given count name word form sound y)
+        subst (λ (u : Stand). Goes n f (walk_at h idle (suc count)) word u) (same_some _ t e) (
+          placed_in n f given count h word name form held x y (sound.fresh count name (omega arith) y),
+          more_place f given count name word form sound y,
+        )
 
-one_word : (n : Text) (f : Form) (given : Given) (count : ℕ) (waiting : Option Text) (w : Walk) (word : Text) (t : Stand) → IsForm f → StandsBy f given count w waiting → Sound f given count
-    → option_map (moved (stand given count waiting)) (move_of f (names_of given) waiting count word) ≡ Some t → Goes n f w word t
+one_word : (n : Text) (f : Form) (given : Given) (count : ℕ) (waiting : Option Text) (w : Walk) (word : Text)
+    (t : Stand) → IsForm f → StandsBy f given count w waiting → Sound f given count
+    → option_map (moved (stand given count waiting)) (move_of f (names_of given) waiting count word) ≡ Some t →
+    Goes n f w word t
 one_word n f given count (Some name) w word t form stands sound e =
     let k = kept_if (is_plain word) (stand given count (Some name)) (gives name word) t e in
-    subst (λ v. Goes n f v word t) (sym stands.0) (subst (λ (u : Stand). Goes n f (walk_at (awaiting given name []) (option name) (suc count)) word u) k.1
-    (filled_in n f given count word name form k.0 stands.1 stands.2, more_option f given count name word form sound stands.1))
+    subst (λ v. Goes n f v word t) (sym stands.0)
+    (subst (λ (u : Stand). Goes n f (walk_at (awaiting given name []) (option name) (suc count)) word u) k.1 (
+      filled_in n f given count word name form k.0 stands.1 stands.2,
+      more_option f given count name word form sound stands.1,
+    ))
 one_word n f given count None w word t form stands sound e =
     subst (λ v. Goes n f v word t) (sym stands.1) (go (option_of word) refl e)
   where
-    go : (o : Option (Text × Option Text)) → option_of word ≡ o → option_map (moved (stand given count None)) (fresh_move f (names_of given) count word o) ≡ Some t → Goes n f (walk_at stands.0 idle (suc count)) word t
+    go : (o : Option (Text × Option Text)) → option_of word ≡ o →
+        option_map (moved (stand given count None)) (fresh_move f (names_of given) count word o) ≡ Some t →
+        Goes n f (walk_at stands.0 idle (suc count)) word t
     go (Some p) is e = by_option n f given count stands.0 word p.0 p.1 t form stands.2 sound is e
     go None is e = by_place n f given count stands.0 word t form stands.2 sound e
 
@@ -161,16 +194,23 @@ pub record Walks (n : Text) (f : Form) (w : Walk) (words : List Text) (t : Stand
   pub stands : Stands f t (fold (walked (rules f) []) w words)
   pub sound : Sound f t.given t.count
 
-pub all_words : (n : Text) (f : Form) (words : List Text) (s : Stand) (w : Walk) (t : Stand) → IsForm f → Stands f s w → Sound f s.given s.count
+pub all_words : (n : Text) (f : Form) (words : List Text) (s : Stand) (w : Walk) (t : Stand) → IsForm f →
+    Stands f s w → Sound f s.given s.count
     → read_from f s words ≡ Some t → Walks n f w words t
 unfolding read_from walk_passes
 all_words n f [] s w t form stands sound e =
     let same = same_some s t e in
-    record { passes = refl; stands = subst (λ (u : Stand). Stands f u w) same stands; sound = subst (λ (u : Stand). Sound f u.given u.count) same sound }
-all_words n f (word ∷ rest) s w t form stands sound e = go (step f s word) refl e (λ u v st so h. all_words n f rest u v t form st so h)
+    record {
+      passes = refl;
+      stands = subst (λ (u : Stand). Stands f u w) same stands;
+      sound = subst (λ (u : Stand). Sound f u.given u.count) same sound;
+    }
+all_words n f (word ∷ rest) s w t form stands sound e = go (step f s word) refl e (λ u v st so h.
+    all_words n f rest u v t form st so h)
   where
     go : (o : Option Stand) → step f s word ≡ o → option_and_then (λ u. read_from f u rest) o ≡ Some t
-        → ((u : Stand) (v : Walk) → Stands f u v → Sound f u.given u.count → read_from f u rest ≡ Some t → Walks n f v rest t) → Walks n f w (word ∷ rest) t
+        → ((u : Stand) (v : Walk) → Stands f u v → Sound f u.given u.count → read_from f u rest ≡ Some t →
+        Walks n f v rest t) → Walks n f w (word ∷ rest) t
     go None is e later = absurd (true≢false (ap is_some (sym e)))
     go (Some u) is e later =
         let one = one_word n f s.given s.count s.waiting w word u form stands sound is in

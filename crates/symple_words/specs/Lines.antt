@@ -122,7 +122,8 @@ abbrev pub demo_by : Option ℕ → Option ℕ → Option PlainLine
 demo_by (Some seed) (Some machines) = Some (DemoOf seed machines)
 demo_by _ _ = None
 
-abbrev pub split_by : Option Text → Option Text → Option Text → Option GraphForm → Option ℕ → Option ℕ → Option PlainLine
+abbrev pub split_by : Option Text → Option Text → Option Text → Option GraphForm → Option ℕ → Option ℕ →
+    Option PlainLine
 split_by (Some program) (Some graph) (Some prefix) (Some form) (Some machines) (Some draws) =
     Some (SplitOf program graph prefix form machines draws)
 split_by _ _ _ _ _ _ = None

@@ -12,7 +12,8 @@ fn with_positionals<'a>(
     mut command: Command<'a>,
     names: &[&'static str],
 ) -> Result<Command<'a>, AllocError>
-    ensures { IfOk result (λ c. app_of c ≡ app_with (app_of command.entry) (map positional_rule (texts names.now))) }
+    ensures { IfOk result (λ c. app_of c
+        ≡ app_with (app_of command.entry) (map positional_rule (texts names.now))) }
 {
     for name in names {
         let arg = Arg::new(alloc, *name).action(ArgAction::Set);
@@ -26,7 +27,8 @@ fn with_options<'a>(
     mut command: Command<'a>,
     names: &[&'static str],
 ) -> Result<Command<'a>, AllocError>
-    ensures { IfOk result (λ c. app_of c ≡ app_with (app_of command.entry) (map option_rule (texts names.now))) }
+    ensures { IfOk result (λ c. app_of c
+        ≡ app_with (app_of command.entry) (map option_rule (texts names.now))) }
 {
     for name in names {
         let arg = Arg::new(alloc, *name).long(*name).action(ArgAction::Set);
@@ -40,7 +42,8 @@ fn with_flags<'a>(
     mut command: Command<'a>,
     names: &[&'static str],
 ) -> Result<Command<'a>, AllocError>
-    ensures { IfOk result (λ c. app_of c ≡ app_with (app_of command.entry) (map flag_rule (texts names.now))) }
+    ensures { IfOk result (λ c. app_of c
+        ≡ app_with (app_of command.entry) (map flag_rule (texts names.now))) }
 {
     for name in names {
         let arg = Arg::new(alloc, *name)

@@ -16,7 +16,8 @@ use std::alloc::Global;
 
 /// A line of `run`.
 pub(crate) fn run_line(alloc: Global, reading: &Reading) -> Result<Line, WordFault>
-    ensures ok { IfOk result (λ line. line_from verb.Run (given_of reading.now) ≡ Some (line_view line)) }
+    ensures ok { IfOk result (λ line. line_from verb.Run (given_of reading.now)
+        ≡ Some (line_view line)) }
     ensures err { IfErr result (Refuses (line_from verb.Run (given_of reading.now) ≡ None)) }
 {
     let job = job_of(alloc, reading)?;
@@ -31,7 +32,8 @@ pub(crate) fn run_line(alloc: Global, reading: &Reading) -> Result<Line, WordFau
 
 /// A line of `record`.
 pub(crate) fn record_line(alloc: Global, reading: &Reading) -> Result<Line, WordFault>
-    ensures ok { IfOk result (λ line. line_from verb.Record (given_of reading.now) ≡ Some (line_view line)) }
+    ensures ok { IfOk result (λ line. line_from verb.Record (given_of reading.now)
+        ≡ Some (line_view line)) }
     ensures err { IfErr result (Refuses (line_from verb.Record (given_of reading.now) ≡ None)) }
 {
     let job = job_of(alloc, reading)?;
@@ -49,7 +51,8 @@ pub(crate) fn record_line(alloc: Global, reading: &Reading) -> Result<Line, Word
 
 /// A line of `replay`.
 pub(crate) fn replay_line(alloc: Global, reading: &Reading) -> Result<Line, WordFault>
-    ensures ok { IfOk result (λ line. line_from verb.Replay (given_of reading.now) ≡ Some (line_view line)) }
+    ensures ok { IfOk result (λ line. line_from verb.Replay (given_of reading.now)
+        ≡ Some (line_view line)) }
     ensures err { IfErr result (Refuses (line_from verb.Replay (given_of reading.now) ≡ None)) }
 {
     let job = job_of(alloc, reading)?;
@@ -59,7 +62,8 @@ pub(crate) fn replay_line(alloc: Global, reading: &Reading) -> Result<Line, Word
 
 /// A line of `resume`.
 pub(crate) fn resume_line(alloc: Global, reading: &Reading) -> Result<Line, WordFault>
-    ensures ok { IfOk result (λ line. line_from verb.Resume (given_of reading.now) ≡ Some (line_view line)) }
+    ensures ok { IfOk result (λ line. line_from verb.Resume (given_of reading.now)
+        ≡ Some (line_view line)) }
     ensures err { IfErr result (Refuses (line_from verb.Resume (given_of reading.now) ≡ None)) }
 {
     let job = job_of(alloc, reading)?;
@@ -74,7 +78,8 @@ pub(crate) fn resume_line(alloc: Global, reading: &Reading) -> Result<Line, Word
 
 /// A line of `show`.
 pub(crate) fn show_line(alloc: Global, reading: &Reading) -> Result<Line, WordFault>
-    ensures ok { IfOk result (λ line. line_from verb.Show (given_of reading.now) ≡ Some (line_view line)) }
+    ensures ok { IfOk result (λ line. line_from verb.Show (given_of reading.now)
+        ≡ Some (line_view line)) }
     ensures err { IfErr result (Refuses (line_from verb.Show (given_of reading.now) ≡ None)) }
 {
     let program = name_at(alloc, reading, "program")?;
@@ -83,7 +88,8 @@ pub(crate) fn show_line(alloc: Global, reading: &Reading) -> Result<Line, WordFa
 
 /// A line of `free`.
 pub(crate) fn free_line(alloc: Global, reading: &Reading) -> Result<Line, WordFault>
-    ensures ok { IfOk result (λ line. line_from verb.Free (given_of reading.now) ≡ Some (line_view line)) }
+    ensures ok { IfOk result (λ line. line_from verb.Free (given_of reading.now)
+        ≡ Some (line_view line)) }
     ensures err { IfErr result (Refuses (line_from verb.Free (given_of reading.now) ≡ None)) }
 {
     let program = name_at(alloc, reading, "program")?;
@@ -92,7 +98,8 @@ pub(crate) fn free_line(alloc: Global, reading: &Reading) -> Result<Line, WordFa
 
 /// A line of `plan`.
 pub(crate) fn plan_line(alloc: Global, reading: &Reading) -> Result<Line, WordFault>
-    ensures ok { IfOk result (λ line. line_from verb.Plan (given_of reading.now) ≡ Some (line_view line)) }
+    ensures ok { IfOk result (λ line. line_from verb.Plan (given_of reading.now)
+        ≡ Some (line_view line)) }
     ensures err { IfErr result (Refuses (line_from verb.Plan (given_of reading.now) ≡ None)) }
 {
     let graph = name_at(alloc, reading, "graph")?;
@@ -107,7 +114,8 @@ pub(crate) fn plan_line(alloc: Global, reading: &Reading) -> Result<Line, WordFa
 
 /// A line of `demo`.
 pub(crate) fn demo_line(reading: &Reading) -> Result<Line, WordFault>
-    ensures ok { IfOk result (λ line. line_from verb.Demo (given_of reading.now) ≡ Some (line_view line)) }
+    ensures ok { IfOk result (λ line. line_from verb.Demo (given_of reading.now)
+        ≡ Some (line_view line)) }
     ensures err { IfErr result (Refuses (line_from verb.Demo (given_of reading.now) ≡ None)) }
 {
     let seed = found(seed_of(reading))?;
@@ -117,7 +125,8 @@ pub(crate) fn demo_line(reading: &Reading) -> Result<Line, WordFault>
 
 /// A line of `renew`.
 pub(crate) fn renew_line(alloc: Global, reading: &Reading) -> Result<Line, WordFault>
-    ensures ok { IfOk result (λ line. line_from verb.Renew (given_of reading.now) ≡ Some (line_view line)) }
+    ensures ok { IfOk result (λ line. line_from verb.Renew (given_of reading.now)
+        ≡ Some (line_view line)) }
     ensures err { IfErr result (Refuses (line_from verb.Renew (given_of reading.now) ≡ None)) }
 {
     let schedule = name_at(alloc, reading, "schedule")?;
@@ -127,7 +136,8 @@ pub(crate) fn renew_line(alloc: Global, reading: &Reading) -> Result<Line, WordF
 
 /// A line of `split`.
 pub(crate) fn split_line(alloc: Global, reading: &Reading) -> Result<Line, WordFault>
-    ensures ok { IfOk result (λ line. line_from verb.Split (given_of reading.now) ≡ Some (line_view line)) }
+    ensures ok { IfOk result (λ line. line_from verb.Split (given_of reading.now)
+        ≡ Some (line_view line)) }
     ensures err { IfErr result (Refuses (line_from verb.Split (given_of reading.now) ≡ None)) }
 {
     let program = name_at(alloc, reading, "program")?;
@@ -148,7 +158,8 @@ pub(crate) fn split_line(alloc: Global, reading: &Reading) -> Result<Line, WordF
 
 /// A line of `worker`.
 pub(crate) fn worker_line(alloc: Global, reading: &Reading) -> Result<Line, WordFault>
-    ensures ok { IfOk result (λ line. line_from verb.Worker (given_of reading.now) ≡ Some (line_view line)) }
+    ensures ok { IfOk result (λ line. line_from verb.Worker (given_of reading.now)
+        ≡ Some (line_view line)) }
     ensures err { IfErr result (Refuses (line_from verb.Worker (given_of reading.now) ≡ None)) }
 {
     let part = name_at(alloc, reading, "part")?;

@@ -57,7 +57,8 @@ fn copied(alloc: Global, text: &str) -> Result<String, WordFault>
 /// The word at a positional, which has to be there.
 pub(crate) fn name_at(alloc: Global, reading: &Reading, name: &str) -> Result<String, WordFault>
     requires { has name.now flag_names ≡ false }
-    ensures ok { IfOk result (λ text. value_at name.now (given_of reading.now) ≡ Some (string_bytes text)) }
+    ensures ok { IfOk result (λ text. value_at name.now (given_of reading.now)
+        ≡ Some (string_bytes text)) }
     ensures err { IfErr result (Refuses (value_at name.now (given_of reading.now) ≡ None)) }
 {
     match value(reading, name) {
@@ -73,7 +74,8 @@ pub(crate) fn name_if(
     name: &str,
 ) -> Result<Option<String>, WordFault>
     requires { has name.now flag_names ≡ false }
-    ensures ok { IfOk result (λ copy. value_at name.now (given_of reading.now) ≡ option_map (λ text. string_bytes text) copy) }
+    ensures ok { IfOk result (λ copy. value_at name.now (given_of reading.now)
+        ≡ option_map (λ text. string_bytes text) copy) }
     ensures err { IfErr result (λ fault. fault ≡ WordFault.Want) }
 {
     match value(reading, name) {

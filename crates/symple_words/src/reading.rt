@@ -33,7 +33,8 @@ pub(crate) fn reading_of<'a>(
     requires some { 0 < length words.now }
     ensures form { IfOk result (λ r. form_of r.form ≡ form_for verb) }
     ensures words { IfOk result (λ r. words_of r.words.now ≡ words_of (drop 1 words.now)) }
-    ensures refused { IfErr result (Refuses (given_by (form_for verb) (words_of (drop 1 words.now)) ≡ None)) }
+    ensures refused { IfErr result (Refuses (given_by (form_for verb) (words_of (drop 1 words.now))
+        ≡ None)) }
 {
     let form = form_for(verb);
     let behind = &words[1..];

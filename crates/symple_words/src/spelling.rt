@@ -66,7 +66,8 @@ fn place_move<'a>(form: &Form, count: usize, word: &'a str) -> Option<Move<'a>>
 
 /// What the next word does.
 fn next_move<'a>(form: &Form, tally: &Tally<'a>, word: &'a str) -> Option<Move<'a>>
-    ensures { option_map move_view result ≡ next_move (form_of form.now) (tally_view tally.now) word.now }
+    ensures { option_map move_view result
+        ≡ next_move (form_of form.now) (tally_view tally.now) word.now }
 {
     if let Some(name) = tally.waiting {
         return if is_plain(word) {
@@ -83,7 +84,8 @@ fn next_move<'a>(form: &Form, tally: &Tally<'a>, word: &'a str) -> Option<Move<'
 
 fn advance<'a>(tally: &mut Tally<'a>, step: Move<'a>) -> Result<(), AllocError>
     requires { tally.old.count + 1 < 2 ^ 64 }
-    ensures { OnOk result (tally_view tally.new ≡ advanced (tally_view tally.old) (move_view step.entry)) }
+    ensures { OnOk result (tally_view tally.new
+        ≡ advanced (tally_view tally.old) (move_view step.entry)) }
 {
     match step {
         Move::Gives(name, _) => {
@@ -106,14 +108,16 @@ fn advance<'a>(tally: &mut Tally<'a>, step: Move<'a>) -> Result<(), AllocError>
 
 /// Whether no option waits, and the positionals are as many as named.
 fn is_whole(form: &Form, tally: &Tally) -> bool
-    ensures { result ≡ is_whole (form_of form.now) (tally_view tally.now).waiting (tally_view tally.now).count }
+    ensures { result ≡ is_whole (form_of form.now) (tally_view tally.now).waiting
+        (tally_view tally.now).count }
 {
     tally.waiting.is_none() && tally.count == form.positionals.len()
 }
 
 /// Whether the words behind a command are spelt as its form says.
 pub(crate) fn is_spelt(alloc: Global, form: &Form, words: &[String]) -> Result<bool, AllocError>
-    ensures { IfOk result (λ spelt. spelt ≡ is_some (given_by (form_of form.now) (words_of words.now))) }
+    ensures { IfOk result (λ spelt.
+        spelt ≡ is_some (given_by (form_of form.now) (words_of words.now))) }
 {
     let mut tally = Tally {
         names: Vec::new(alloc),

@@ -30,7 +30,8 @@ fn name_and_value(text: &str) -> (&str, Option<&str>)
 
 /// The name and the value of `--NAME` or `--NAME=VALUE`.
 pub(crate) fn option_of(word: &str) -> Option<(&str, Option<&str>)>
-    ensures { option_map (λ p. (p.0.now, option_map (λ value. value.now) p.1)) result ≡ option_of word.now }
+    ensures { option_map (λ p. (p.0.now, option_map (λ value. value.now) p.1)) result
+        ≡ option_of word.now }
 {
     let rest = after_hyphen(after_hyphen(word)?)?;
     if rest.is_empty() {

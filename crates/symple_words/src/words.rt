@@ -17,7 +17,8 @@ use std::alloc::Global;
 
 /// The line of a command.
 fn line_behind(alloc: Global, verb: Verb, reading: &Reading) -> Result<Line, WordFault>
-    ensures ok { IfOk result (λ line. line_from verb (given_of reading.now) ≡ Some (line_view line)) }
+    ensures ok { IfOk result (λ line. line_from verb (given_of reading.now)
+        ≡ Some (line_view line)) }
     ensures err { IfErr result (Refuses (line_from verb (given_of reading.now) ≡ None)) }
 {
     match verb {

@@ -3,25 +3,29 @@ use Rattle.std.proofs.Common.{◌≡◌, refl, ℕ, Bool, true, false, List, [],
 use Rattle.std.specs.Prelude.{◌==◌, ◌&&◌, ◌||◌, nat_lt}
 use Rattle.vert_base.specs.Names.{is_below, same_numbers}
 
-apart_step : (x y : ℕ) (r s : Bool) → (r ≡ true → s ≡ false) → (nat_lt x y || (x == y && r)) ≡ true → (x == y && s) ≡ false
+apart_step : (x y : ℕ) (r s : Bool) → (r ≡ true → s ≡ false) → (nat_lt x y || (x == y && r)) ≡ true →
+    (x == y && s) ≡ false
 apart_step x y true true f e = grind arith
 apart_step x y true false f e = grind arith
 apart_step x y false true f e = grind arith
 apart_step x y false false f e = grind arith
 
-apart_back_step : (x y : ℕ) (r s : Bool) → (r ≡ true → s ≡ false) → (nat_lt y x || (y == x && r)) ≡ true → (x == y && s) ≡ false
+apart_back_step : (x y : ℕ) (r s : Bool) → (r ≡ true → s ≡ false) → (nat_lt y x || (y == x && r)) ≡ true →
+    (x == y && s) ≡ false
 apart_back_step x y true true f e = grind arith
 apart_back_step x y true false f e = grind arith
 apart_back_step x y false true f e = grind arith
 apart_back_step x y false false f e = grind arith
 
-total_step : (x y : ℕ) (r s t : Bool) → (r ≡ false → s ≡ false → t ≡ true) → (nat_lt x y || (x == y && r)) ≡ false → (x == y && s) ≡ false → (nat_lt y x || (y == x && t)) ≡ true
+total_step : (x y : ℕ) (r s t : Bool) → (r ≡ false → s ≡ false → t ≡ true) → (nat_lt x y || (x == y && r)) ≡ false →
+    (x == y && s) ≡ false → (nat_lt y x || (y == x && t)) ≡ true
 total_step x y r s true f e g = grind arith
 total_step x y true s false f e g = grind arith
 total_step x y false true false f e g = grind arith
 total_step x y false false false f e g = grind arith
 
-along_step : (x y z : ℕ) (r s t : Bool) → (r ≡ true → s ≡ true → t ≡ true) → (nat_lt x y || (x == y && r)) ≡ true → (nat_lt y z || (y == z && s)) ≡ true → (nat_lt x z || (x == z && t)) ≡ true
+along_step : (x y z : ℕ) (r s t : Bool) → (r ≡ true → s ≡ true → t ≡ true) → (nat_lt x y || (x == y && r)) ≡ true →
+    (nat_lt y z || (y == z && s)) ≡ true → (nat_lt x z || (x == z && t)) ≡ true
 along_step x y z r s true f e g = grind arith
 along_step x y z false s false f e g = grind arith
 along_step x y z true false false f e g = grind arith
@@ -51,4 +55,5 @@ along [] (y ∷ ys) [] e f = grind arith
 along [] (y ∷ ys) (z ∷ zs) e f = refl
 along (x ∷ xs) [] zs e f = grind arith
 along (x ∷ xs) (y ∷ ys) [] e f = grind arith
-along (x ∷ xs) (y ∷ ys) (z ∷ zs) e f = along_step x y z (is_below xs ys) (is_below ys zs) (is_below xs zs) (along xs ys zs) e f
+along (x ∷ xs) (y ∷ ys) (z ∷ zs) e f = along_step x y z (is_below xs ys) (is_below ys zs) (is_below xs zs)
+    (along xs ys zs) e f

@@ -59,9 +59,11 @@ no_lead number small lead =
     (cases_eq number 0)
 
 pub no_decimal : (word : List ℕ) (number : ℕ) → number < 2 ^ 32 → decimal number ≡ word → length word ≡ 0 → ⊥
-no_decimal word number small e none = let some = decimal_nonempty number (omega arith) in omega (arith, some, ap length e, none)
+no_decimal word number small e none = let some = decimal_nonempty number (omega arith) in
+    omega (arith, some, ap length e, none)
 
-pub no_zeros : (word : List ℕ) (number : ℕ) → number < 2 ^ 32 → decimal number ≡ word → 1 < length word → get_or word 0 0 ≡ 48 → ⊥
+pub no_zeros : (word : List ℕ) (number : ℕ) → number < 2 ^ 32 → decimal number ≡ word → 1 < length word →
+    get_or word 0 0 ≡ 48 → ⊥
 no_zeros word number small e long lead =
     let one = no_lead number small (ap (λ w. get_or w 0 0) e ∙ lead) in
     omega (arith, one, ap length e, long)
@@ -74,9 +76,11 @@ pub spelled_value :
     IfSome read (λ number. decimal number ≡ word)
 spelled_value word None some lead h = tt
 spelled_value word (Some value) some lead h =
-    ap decimal (sym h.1) ∙ decimal-digits_value (numerals_by_value _ tells_digits) word h.0 some lead (omega (arith, h.1, h.2))
+    ap decimal (sym h.1) ∙ decimal-digits_value (numerals_by_value _ tells_digits) word h.0 some lead
+    (omega (arith, h.1, h.2))
 
-pub value_of_decimal : (word : List ℕ) (number : ℕ) → number < 2 ^ 32 → decimal number ≡ word → AllDigits 10 word × (digits_value 10 word ≡ number)
+pub value_of_decimal : (word : List ℕ) (number : ℕ) → number < 2 ^ 32 → decimal number ≡ word → AllDigits 10 word ×
+    (digits_value 10 word ≡ number)
 value_of_decimal word number small e =
     let numeral = decimal_is_IsNumeral number (omega arith) in
     (subst (AllDigits 10) e numeral.0.1, sym (ap (digits_value 10) e) ∙ numeral.1)
@@ -90,7 +94,8 @@ first_letter Push rest = refl
 first_letter Tally rest = refl
 first_letter Verdict rest = refl
 
-pub kind_front : (kind : NameKind) (rest : List ℕ) → take (length (kind_text kind)) (kind_text kind ++ rest) ≡ kind_text kind
+pub kind_front : (kind : NameKind) (rest : List ℕ) → take (length (kind_text kind)) (kind_text kind ++ rest)
+    ≡ kind_text kind
 kind_front Refresh rest = refl
 kind_front Dep rest = refl
 kind_front Update rest = refl
@@ -107,13 +112,16 @@ behind_by :
     numbers_text (if has_steps kind then step ∷ half ∷ from ∷ to ∷ [] else from ∷ to ∷ [])
     ≡ steps_text kind step half ++ (number_text from ++ (number_text to ++ []))
 behind_by Refresh step half from to = refl
-behind_by Dep step half from to = sym (append_assoc (number_text step) (number_text half) (number_text from ++ (number_text to ++ [])))
-behind_by Update step half from to = sym (append_assoc (number_text step) (number_text half) (number_text from ++ (number_text to ++ [])))
+behind_by Dep step half from to = sym (append_assoc (number_text step) (number_text half)
+    (number_text from ++ (number_text to ++ [])))
+behind_by Update step half from to = sym (append_assoc (number_text step) (number_text half)
+    (number_text from ++ (number_text to ++ [])))
 behind_by Push step half from to = refl
 behind_by Tally step half from to = refl
 behind_by Verdict step half from to = refl
 
-pub behind_is : (x : Name) → numbers_text (numbers_behind x) ≡ steps_text x.kind x.step x.half ++ (number_text x.from ++ (number_text x.to ++ []))
+pub behind_is : (x : Name) → numbers_text (numbers_behind x) ≡ steps_text x.kind x.step x.half
+    ++ (number_text x.from ++ (number_text x.to ++ []))
 behind_is x = behind_by x.kind x.step x.half x.from x.to
 
 abbrev pub behind_text : Name → List ℕ
@@ -138,7 +146,14 @@ pub same_parts :
     half ≡ x.half →
     from ≡ x.from →
     to ≡ x.to →
-    ◌≡◌ {A = Option Name} (Some (record { kind = kind; round = round; step = step; half = half; from = from; to = to })) (Some x)
+    ◌≡◌ {A = Option Name} (Some (record {
+      kind = kind;
+      round = round;
+      step = step;
+      half = half;
+      from = from;
+      to = to;
+    })) (Some x)
 same_parts x kind round step half from to k r s h f t =
     ap Some
     (sym
@@ -159,7 +174,8 @@ pub word_there :
 word_there text word kind rest e w other =
     let front : take (length word) text ≡ word =
     ap (λ q. take (length q) text) w ∙ (ap (take (length (kind_text kind))) e ∙ (kind_front kind rest ∙ sym w)) in
-    let same : pointwise ◌==◌ (take (length word) text) word ≡ true = ap (λ q. pointwise ◌==◌ q word) front ∙ pointwise_self word in
+    let same : pointwise ◌==◌ (take (length word) text) word ≡ true = ap (λ q. pointwise ◌==◌ q word) front
+    ∙ pointwise_self word in
     let clash : true ≡ false = sym same ∙ other in
     cc
   where

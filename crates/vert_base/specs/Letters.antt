@@ -44,11 +44,13 @@ NamesAreTheirNumbers = (a b : Name) → same_name a b ≡ true → a ≡ b
 
 -- after a message was put in, its name has it, and every other name what it had
 abbrev pub PlacedIsFound : Type 0
-PlacedIsFound = (m : Letter) (ms : List Letter) (x : Name) → found x (placed m ms) ≡ (if same_name m.name x then Some m else found x ms)
+PlacedIsFound = (m : Letter) (ms : List Letter) (x : Name) →
+    found x (placed m ms) ≡ (if same_name m.name x then Some m else found x ms)
 
 -- after the message of a name was taken out, the name has nothing, and every other name what it had
 abbrev pub TakenIsGone : Type 0
-TakenIsGone = (y : Name) (ms : List Letter) (x : Name) → Ascends ms → found x (without y ms) ≡ (if same_name y x then None else found x ms)
+TakenIsGone = (y : Name) (ms : List Letter) (x : Name) → Ascends ms →
+    found x (without y ms) ≡ (if same_name y x then None else found x ms)
 
 -- two lists in the order of names are one list where each name has the same in both
 abbrev pub SameLetters : Type 0

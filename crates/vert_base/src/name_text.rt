@@ -58,7 +58,8 @@ impl Name {
 /// The number that a word spells in decimal, without leading zeros.
 pub fn number_in(word: &[u8]) -> Option<u32>
     ensures spelled { IfSome result (λ number. decimal number ≡ word.now) }
-    ensures found { (number : ℕ) → number < 2 ^ 32 → decimal number ≡ word.now → result ≡ Some number }
+    ensures found { (number : ℕ) → number < 2 ^ 32 → decimal number ≡ word.now →
+        result ≡ Some number }
 {
     if word.is_empty() || word.len() > 1 && word[0] == b'0' {
         return None;

@@ -9,7 +9,8 @@ use Rattle.vert_grammar.specs.Reading.{Stop, Res, Parser, ◌>>=◌, stop, made,
 use Rattle.vert_grammar.specs.Signs.{layer, operator}
 
 -- the value of a step that did not fail
-pub bind_ok : {A B : Type 0} (r : Result A Stop) (f : A → Result B Stop) (y : B) → (r >>= f) ≡ Ok y → (x : A) × (r ≡ Ok x) × (f x ≡ Ok y)
+pub bind_ok : {A B : Type 0} (r : Result A Stop) (f : A → Result B Stop) (y : B) → (r >>= f) ≡ Ok y → (x : A) ×
+    (r ≡ Ok x) × (f x ≡ Ok y)
 bind_ok (Ok x) f y e = (x, refl, e)
 bind_ok (Err d) f y e = absurd cc
 
@@ -21,18 +22,22 @@ pub unary_is : (b : ℕ) (ts : List Placed) → tree_at (suc b) 0 ts ≡ unary b
 unfolding tree_at climb
 unary_is b ts = refl
 
-pub six_is : (b : ℕ) (ts : List Placed) → tree_at (suc b) 6 ts ≡ (tree_at (suc b) 5 ts >>= λ x. choice b (tree_at b 6) x.0 x.1)
+pub six_is : (b : ℕ) (ts : List Placed) → tree_at (suc b) 6 ts
+    ≡ (tree_at (suc b) 5 ts >>= λ x. choice b (tree_at b 6) x.0 x.1)
 unfolding tree_at climb
 six_is b ts = refl
 
 -- the next layer: what binds tighter, and then its chain
-pub layer_is : (b k : ℕ) (ts : List Placed) → k < 5 → tree_at (suc b) (suc k) ts ≡ (tree_at (suc b) k ts >>= λ x. chain b (suc k) (tree_at b k) b x.0 x.1)
+pub layer_is : (b k : ℕ) (ts : List Placed) → k < 5 →
+    tree_at (suc b) (suc k) ts ≡ (tree_at (suc b) k ts >>= λ x. chain b (suc k) (tree_at b k) b x.0 x.1)
 unfolding tree_at climb
 layer_is b k ts lt = let p : eqb k 5 ≡ false = ne_eqb k 5 (λ e. omega arith) in rw p refl
 
 -- one turn with an operand
-pub chain_turn : (b k f : ℕ) (below : Parser Tree) (left x : Tree) (t : Placed) (ts r : List Placed) → layer t.kind ≡ suc k → (eqb (suc k) 3 && is_comparison left) ≡ false → depth left ≤ b → below ts ≡ Ok (x, r)
-    → chain b (suc k) below (suc f) left (t ∷ ts) ≡ chain b (suc k) below f (Pair (start left) (operator t.kind) left x) r
+pub chain_turn : (b k f : ℕ) (below : Parser Tree) (left x : Tree) (t : Placed) (ts r : List Placed) →
+    layer t.kind ≡ suc k → (eqb (suc k) 3 && is_comparison left) ≡ false → depth left ≤ b → below ts ≡ Ok (x, r)
+    → chain b (suc k) below (suc f) left (t ∷ ts)
+    ≡ chain b (suc k) below f (Pair (start left) (operator t.kind) left x) r
 unfolding chain turn
 chain_turn b k f below left x t ts r l c d e =
     let p = eq-eqb (layer t.kind) (suc k) l in
@@ -40,17 +45,27 @@ chain_turn b k f below left x t ts r l c d e =
     rw (p, c, q, e) refl
 
 -- where the tests of a turn stop it, and where its operand does
-pub chain_twice : (b k f : ℕ) (below : Parser Tree) (left : Tree) (t : Placed) (ts : List Placed) → layer t.kind ≡ suc k → (eqb (suc k) 3 && is_comparison left) ≡ true → chain b (suc k) below f left (t ∷ ts) ≡ stop Unexpected (t ∷ ts)
+pub chain_twice : (b k f : ℕ) (below : Parser Tree) (left : Tree) (t : Placed) (ts : List Placed) →
+    layer t.kind ≡ suc k → (eqb (suc k) 3 && is_comparison left) ≡ true →
+    chain b (suc k) below f left (t ∷ ts) ≡ stop Unexpected (t ∷ ts)
 unfolding chain turn
 chain_twice b k zero below left t ts l c = let p = eq-eqb (layer t.kind) (suc k) l in rw (p, c) refl
 chain_twice b k (suc f) below left t ts l c = let p = eq-eqb (layer t.kind) (suc k) l in rw (p, c) refl
 
-pub chain_deep : (b k f : ℕ) (below : Parser Tree) (left : Tree) (t : Placed) (ts : List Placed) → layer t.kind ≡ suc k → (eqb (suc k) 3 && is_comparison left) ≡ false → b < depth left → chain b (suc k) below f left (t ∷ ts) ≡ stop TooDeep (t ∷ ts)
+pub chain_deep : (b k f : ℕ) (below : Parser Tree) (left : Tree) (t : Placed) (ts : List Placed) →
+    layer t.kind ≡ suc k → (eqb (suc k) 3 && is_comparison left) ≡ false → b < depth left →
+    chain b (suc k) below f left (t ∷ ts) ≡ stop TooDeep (t ∷ ts)
 unfolding chain turn
-chain_deep b k zero below left t ts l c d = let p = eq-eqb (layer t.kind) (suc k) l in let q = lt-ltb b (depth left) d in rw (p, c, q) refl
-chain_deep b k (suc f) below left t ts l c d = let p = eq-eqb (layer t.kind) (suc k) l in let q = lt-ltb b (depth left) d in rw (p, c, q) refl
+chain_deep b k zero below left t ts l c d = let p = eq-eqb (layer t.kind) (suc k) l in
+    let q = lt-ltb b (depth left) d in rw (p, c, q) refl
+chain_deep b k (suc f) below left t ts l c d = let p = eq-eqb (layer t.kind) (suc k) l in
+    let q = lt-ltb b (depth left) d in rw (p, c, q) refl
 
-pub chain_inside : (b k f : ℕ) (below : Parser Tree) (left : Tree) (t : Placed) (ts : List Placed) (s : Stop) → layer t.kind ≡ suc k → (eqb (suc k) 3 && is_comparison left) ≡ false → depth left ≤ b → below ts ≡ Err s → chain b (suc k) below f left (t ∷ ts) ≡ Err s
+pub chain_inside : (b k f : ℕ) (below : Parser Tree) (left : Tree) (t : Placed) (ts : List Placed) (s : Stop) →
+    layer t.kind ≡ suc k → (eqb (suc k) 3 && is_comparison left) ≡ false → depth left ≤ b → below ts ≡ Err s →
+    chain b (suc k) below f left (t ∷ ts) ≡ Err s
 unfolding chain turn
-chain_inside b k zero below left t ts s l c d e = let p = eq-eqb (layer t.kind) (suc k) l in let q = le-ltb b (depth left) d in rw (p, c, q, e) refl
-chain_inside b k (suc f) below left t ts s l c d e = let p = eq-eqb (layer t.kind) (suc k) l in let q = le-ltb b (depth left) d in rw (p, c, q, e) refl
+chain_inside b k zero below left t ts s l c d e = let p = eq-eqb (layer t.kind) (suc k) l in
+    let q = le-ltb b (depth left) d in rw (p, c, q, e) refl
+chain_inside b k (suc f) below left t ts s l c d e = let p = eq-eqb (layer t.kind) (suc k) l in
+    let q = le-ltb b (depth left) d in rw (p, c, q, e) refl

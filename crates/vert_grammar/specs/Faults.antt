@@ -29,9 +29,11 @@ abbrev pub IsCause : Why → List Placed → List Placed → Type 0
 IsCause Unexpected used [] = (p : ProgramTree) → ReadsProgram p used → ⊥
 IsCause Unexpected used (t ∷ rest) = IsFront IsAny (used ++ t ∷ []) → ⊥
 IsCause TooDeep used [] = ⊥
-IsCause TooDeep used (t ∷ rest) = IsFront IsAny (used ++ t ∷ []) × (IsFront (IsShallow limits.depth) (used ++ t ∷ []) → ⊥)
+IsCause TooDeep used (t ∷ rest) = IsFront IsAny (used ++ t ∷ []) ×
+    (IsFront (IsShallow limits.depth) (used ++ t ∷ []) → ⊥)
 IsCause TooMany used [] = ⊥
-IsCause TooMany used (t ∷ rest) = IsFront (IsShallow limits.depth) (used ++ t ∷ []) × (IsFront (IsSmall limits) (used ++ t ∷ []) → ⊥)
+IsCause TooMany used (t ∷ rest) = IsFront (IsShallow limits.depth) (used ++ t ∷ []) ×
+    (IsFront (IsSmall limits) (used ++ t ∷ []) → ⊥)
 
 -- Up to the rest the tokens are the front of a program within the limits. With the next token they are not.
 pub record IsRefused (why : Why) (tokens rest : List Placed) : Type 0 where

@@ -66,9 +66,11 @@ Reads k (Variable s name) u = (s ≡ name.span) × TheName name u
 Reads k (Got s name) u = (s ≡ name.span) × Then (TheName name) (Then (TheMark mark.DOT) (TheWord word.GOT)) u
 Reads k (Value s name) u = (s ≡ name.span) × Then (TheName name) (Then (TheMark mark.DOT) (TheWord word.VALUE)) u
 Reads k (OtherField s name) u = Then (Is s (Reserved word.U)) (Then (TheMark mark.DOT) (TheName name)) u
-Reads k (OtherWord s w) u = IsTrue (is_other w) × Then (Is s (Reserved word.U)) (Then (TheMark mark.DOT) (TheWord (builtin_word w))) u
+Reads k (OtherWord s w) u = IsTrue (is_other w) ×
+    Then (Is s (Reserved word.U)) (Then (TheMark mark.DOT) (TheWord (builtin_word w))) u
 Reads k (Draw s at number) u =
-    Then (Is s (Reserved word.DRAW)) (Then (TheMark mark.LEFT_PARENTHESIS) (Then (Is at (Number number)) (TheMark mark.RIGHT_PARENTHESIS))) u
+    Then (Is s (Reserved word.DRAW)) (Then (TheMark mark.LEFT_PARENTHESIS)
+    (Then (Is at (Number number)) (TheMark mark.RIGHT_PARENTHESIS))) u
 Reads k (Negative s inner) u = Then (Is s (Mark mark.MINUS)) (Reads 0 inner) u
 Reads k (Not s inner) u = Then (Is s (Mark mark.NOT)) (Reads 0 inner) u
 Reads k (Pair s op left right) u =
@@ -76,14 +78,18 @@ Reads k (Pair s op left right) u =
     × Then (Reads (left_of (layer_of op)) left) (Then (TheMark (mark_of op)) (Reads (pred (layer_of op)) right)) u
 Reads k (Choice s test held otherwise) u =
     (6 ≤ k) × (s ≡ start test)
-    × Then (Reads 5 test) (Then (TheMark mark.QUESTION) (Then (Reads 6 held) (Then (TheMark mark.COLON) (Reads 6 otherwise)))) u
+    × Then (Reads 5 test) (Then (TheMark mark.QUESTION)
+    (Then (Reads 6 held) (Then (TheMark mark.COLON) (Reads 6 otherwise)))) u
 Reads k (Least s left right) u =
     Then (Is s (Reserved word.MIN))
-    (Then (TheMark mark.LEFT_PARENTHESIS) (Then (Reads 6 left) (Then (TheMark mark.COMMA) (Then (Reads 6 right) (TheMark mark.RIGHT_PARENTHESIS))))) u
+    (Then (TheMark mark.LEFT_PARENTHESIS) (Then (Reads 6 left)
+    (Then (TheMark mark.COMMA) (Then (Reads 6 right) (TheMark mark.RIGHT_PARENTHESIS))))) u
 Reads k (Greatest s left right) u =
     Then (Is s (Reserved word.MAX))
-    (Then (TheMark mark.LEFT_PARENTHESIS) (Then (Reads 6 left) (Then (TheMark mark.COMMA) (Then (Reads 6 right) (TheMark mark.RIGHT_PARENTHESIS))))) u
-Reads k (Group s inner) u = Then (Is s (Mark mark.LEFT_PARENTHESIS)) (Then (Reads 6 inner) (TheMark mark.RIGHT_PARENTHESIS)) u
+    (Then (TheMark mark.LEFT_PARENTHESIS) (Then (Reads 6 left)
+    (Then (TheMark mark.COMMA) (Then (Reads 6 right) (TheMark mark.RIGHT_PARENTHESIS))))) u
+Reads k (Group s inner) u = Then (Is s (Mark mark.LEFT_PARENTHESIS))
+    (Then (Reads 6 inner) (TheMark mark.RIGHT_PARENTHESIS)) u
 
 -- ---- statements
 
@@ -115,16 +121,22 @@ ReadsOp assign.Greatest = Then (TheWord word.MAX) (TheMark mark.ASSIGN)
 
 abbrev mutual
   pub ReadsStatement : Rights → Statement → Form
-  ReadsStatement r (Assign target op value) u = IsTrue r.assigns × Then (TheName target) (Then (ReadsOp op) (Then (Reads 6 value) (TheMark mark.SEMICOLON))) u
+  ReadsStatement r (Assign target op value) u = IsTrue r.assigns ×
+      Then (TheName target) (Then (ReadsOp op) (Then (Reads 6 value) (TheMark mark.SEMICOLON))) u
   ReadsStatement r (SetActive s value) u =
-      IsTrue r.activates × Then (Is s (Reserved word.ACTIVE)) (Then (TheMark mark.ASSIGN) (Then (Reads 6 value) (TheMark mark.SEMICOLON))) u
+      IsTrue r.activates × Then (Is s (Reserved word.ACTIVE))
+      (Then (TheMark mark.ASSIGN) (Then (Reads 6 value) (TheMark mark.SEMICOLON))) u
   ReadsStatement r (If s test held) u =
-      Then (Is s (Reserved word.IF)) (Then (Reads 6 test) (Then (TheMark mark.LEFT_BRACE) (Then (ReadsBlock r held) (TheMark mark.RIGHT_BRACE)))) u
+      Then (Is s (Reserved word.IF)) (Then (Reads 6 test)
+      (Then (TheMark mark.LEFT_BRACE) (Then (ReadsBlock r held) (TheMark mark.RIGHT_BRACE)))) u
   ReadsStatement r (IfElse s test held otherwise) u =
-      Then (Is s (Reserved word.IF)) (Then (Reads 6 test) (Then (TheMark mark.LEFT_BRACE) (Then (ReadsBlock r held) (Then (TheMark mark.RIGHT_BRACE)
-      (Then (TheWord word.ELSE) (Then (TheMark mark.LEFT_BRACE) (Then (ReadsBlock r otherwise) (TheMark mark.RIGHT_BRACE)))))))) u
+      Then (Is s (Reserved word.IF)) (Then (Reads 6 test)
+      (Then (TheMark mark.LEFT_BRACE) (Then (ReadsBlock r held) (Then (TheMark mark.RIGHT_BRACE)
+      (Then (TheWord word.ELSE) (Then (TheMark mark.LEFT_BRACE)
+      (Then (ReadsBlock r otherwise) (TheMark mark.RIGHT_BRACE)))))))) u
   ReadsStatement r (Emit s slot value) u =
-      IsTrue r.emits × Then (Is s (Reserved word.EMIT)) (Then (TheName slot) (Then (Reads 6 value) (TheMark mark.SEMICOLON))) u
+      IsTrue r.emits × Then (Is s (Reserved word.EMIT))
+      (Then (TheName slot) (Then (Reads 6 value) (TheMark mark.SEMICOLON))) u
   ReadsStatement r (Break s) u = IsTrue r.breaks × Then (Is s (Reserved word.BREAK)) (TheMark mark.SEMICOLON) u
 
   pub ReadsBlock : Rights → Statements → Form
@@ -140,29 +152,34 @@ ReadsDeclaration keyword d =
     (Then (TheMark mark.ASSIGN) (Then (Reads 6 d.value) (TheMark mark.SEMICOLON))))))
 
 abbrev pub ReadsSlot : SlotDeclaration → Form
-ReadsSlot d = Then (TheWord word.SLOT) (Then (TheName d.name) (Then (TheMark mark.COLON) (Then (TheWord (combine_word d.op)) (TheMark mark.SEMICOLON))))
+ReadsSlot d = Then (TheWord word.SLOT) (Then (TheName d.name)
+    (Then (TheMark mark.COLON) (Then (TheWord (combine_word d.op)) (TheMark mark.SEMICOLON))))
 
 -- The keyword is a name of that text.
 abbrev pub ReadsTotal : TotalDeclaration → Form
 ReadsTotal d u =
     IsTrue (is_fold d.op)
-    × Then (Sign (Name total_text)) (Then (TheName d.name) (Then (TheMark mark.COLON) (Then (TheWord (combine_word d.op))
+    × Then (Sign (Name total_text)) (Then (TheName d.name)
+    (Then (TheMark mark.COLON) (Then (TheWord (combine_word d.op))
     (Then (TheMark mark.ASSIGN) (Then (Reads 6 d.value) (TheMark mark.SEMICOLON)))))) u
 
 abbrev pub ReadsDense : DenseBlock → Form
 ReadsDense d =
     Then (TheWord word.DENSE) (Then (TheWord word.WHEN) (Then (Reads 6 d.test) (Then (TheMark mark.LEFT_BRACE)
     (Then (Each (ReadsDeclaration word.LET) d.lets)
-    (Then (TheWord word.FOR) (Then (TheWord word.U) (Then (TheMark mark.LEFT_BRACE) (Then (ReadsBlock loop_rights d.body) (Then (TheMark mark.RIGHT_BRACE)
+    (Then (TheWord word.FOR) (Then (TheWord word.U)
+    (Then (TheMark mark.LEFT_BRACE) (Then (ReadsBlock loop_rights d.body) (Then (TheMark mark.RIGHT_BRACE)
     (Then (ReadsBlock tail_rights d.tail) (TheMark mark.RIGHT_BRACE)))))))))))
 
 abbrev pub ReadsSparse : SparseBlock → Form
 ReadsSparse d =
     Then (TheWord word.SPARSE) (Then (TheWord word.WHEN) (Then (Reads 6 d.test) (Then (TheMark mark.LEFT_BRACE)
-    (Then (Each (ReadsDeclaration word.SEND) d.sends) (Then (ReadsBlock sparse_rights d.body) (TheMark mark.RIGHT_BRACE))))))
+    (Then (Each (ReadsDeclaration word.SEND) d.sends)
+    (Then (ReadsBlock sparse_rights d.body) (TheMark mark.RIGHT_BRACE))))))
 
 abbrev pub ReadsUpdate : Statements → Form
-ReadsUpdate body = Then (TheWord word.UPDATE) (Then (TheMark mark.LEFT_BRACE) (Then (ReadsBlock update_rights body) (TheMark mark.RIGHT_BRACE)))
+ReadsUpdate body = Then (TheWord word.UPDATE)
+    (Then (TheMark mark.LEFT_BRACE) (Then (ReadsBlock update_rights body) (TheMark mark.RIGHT_BRACE)))
 
 -- The keyword is a name of that text.
 abbrev pub ReadsStop : Tree → Form
@@ -186,20 +203,23 @@ ReadsHeader version mode_at mode limit_at limit =
 
 abbrev pub ReadsNames : ℕ → List Declaration → List SlotDeclaration → List TotalDeclaration → Form
 ReadsNames version fields slots totals =
-    Then (Each (ReadsDeclaration word.FIELD) fields) (Then (Each ReadsSlot slots) (Each (λ d. InTwo version (ReadsTotal d)) totals))
+    Then (Each (ReadsDeclaration word.FIELD) fields)
+    (Then (Each ReadsSlot slots) (Each (λ d. InTwo version (ReadsTotal d)) totals))
 
 abbrev pub ReadsStart : Tree → Form
 ReadsStart test = Then (TheWord word.START) (Then (Reads 6 test) (TheMark mark.SEMICOLON))
 
 abbrev pub ReadsBlocks : ℕ → Option DenseBlock → Option SparseBlock → Statements → Option Tree → Form
 ReadsBlocks version dense sparse update stop =
-    Then (Maybe ReadsDense dense) (Then (Maybe ReadsSparse sparse) (Then (ReadsUpdate update) (Maybe (λ test. InTwo version (ReadsStop test)) stop)))
+    Then (Maybe ReadsDense dense) (Then (Maybe ReadsSparse sparse)
+    (Then (ReadsUpdate update) (Maybe (λ test. InTwo version (ReadsStop test)) stop)))
 
 -- a program of version 1 or 2
 abbrev pub ReadsProgram : ProgramTree → Form
 ReadsProgram p =
     Then (ReadsHeader p.version p.mode_at p.mode p.limit_at p.limit)
-    (Then (ReadsNames p.version p.fields p.slots p.totals) (Then (ReadsStart p.start) (ReadsBlocks p.version p.dense p.sparse p.update p.stop)))
+    (Then (ReadsNames p.version p.fields p.slots p.totals)
+    (Then (ReadsStart p.start) (ReadsBlocks p.version p.dense p.sparse p.update p.stop)))
 
 -- ---- limits
 

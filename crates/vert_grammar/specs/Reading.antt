@@ -120,7 +120,8 @@ abbrev pub is_atom : Kind → Bool
 is_atom k = is_number k || (is_truth k || is_builtin k)
 
 abbrev pub atom_of : Span → Kind → Tree
-atom_of s k = if is_number k then Literal s (pos (number_in k)) else (if is_truth k then Truth s (is_word word.TRUE k) else Word s (builtin_of (word_in k)))
+atom_of s k = if is_number k then Literal s (pos (number_in k))
+    else (if is_truth k then Truth s (is_word word.TRUE k) else Word s (builtin_of (word_in k)))
 
 abbrev pub is_member : Kind → Bool
 is_member k = is_word word.GOT k || is_word word.VALUE k
@@ -132,7 +133,8 @@ member_of (name, Some true) = Got name.span name
 member_of (name, Some false) = Value name.span name
 
 unfoldable pub named_at : Parser Tree
-named_at = made member_of (both name_at (maybe (is_mark mark.DOT) (made (λ x. x.1) (both (the_mark mark.DOT) (single is_member (λ s k. is_word word.GOT k))))))
+named_at = made member_of (both name_at (maybe (is_mark mark.DOT)
+    (made (λ x. x.1) (both (the_mark mark.DOT) (single is_member (λ s k. is_word word.GOT k))))))
 
 -- what stands behind `u.`: the name of a field, or one of four words
 abbrev pub is_other_at : Kind → Bool
@@ -154,13 +156,15 @@ draw_of x = Draw x.0 x.1.1.0.0 x.1.1.0.1
 unfoldable pub draw_at : Parser Tree
 draw_at =
     made draw_of
-    (both (the_word word.DRAW) (both (the_mark mark.LEFT_PARENTHESIS) (both (single is_number (λ s k. (s, number_in k))) (the_mark mark.RIGHT_PARENTHESIS))))
+    (both (the_word word.DRAW) (both (the_mark mark.LEFT_PARENTHESIS)
+    (both (single is_number (λ s k. (s, number_in k))) (the_mark mark.RIGHT_PARENTHESIS))))
 
 abbrev pub grouped : (ℕ → Parser Tree) → Parser (Tree × Span)
 grouped below = both (below 6) (the_mark mark.RIGHT_PARENTHESIS)
 
 abbrev pub two_of : (ℕ → Parser Tree) → Parser (Span × (Tree × (Span × (Tree × Span))))
-two_of below = both (the_mark mark.LEFT_PARENTHESIS) (both (below 6) (both (the_mark mark.COMMA) (both (below 6) (the_mark mark.RIGHT_PARENTHESIS))))
+two_of below = both (the_mark mark.LEFT_PARENTHESIS)
+    (both (below 6) (both (the_mark mark.COMMA) (both (below 6) (the_mark mark.RIGHT_PARENTHESIS))))
 
 -- what begins with one token, where b nodes may still be nested inside
 unfoldable pub prefixed : ℕ → (ℕ → Parser Tree) → Parser Tree
@@ -223,7 +227,8 @@ chain b k operand (suc f) = turn b k operand (chain b k operand f)
 unfoldable pub choice : ℕ → Parser Tree → Tree → Parser Tree
 choice b part test =
     if_begins (is_mark mark.QUESTION)
-    (λ ts. if nat_lt b (depth test) then stop TooDeep ts else made (λ x. Choice (start test) test x.0 x.1.1) (both part (both (the_mark mark.COLON) part)) (rest ts))
+    (λ ts. if nat_lt b (depth test) then stop TooDeep ts
+    else made (λ x. Choice (start test) test x.0 x.1.1) (both part (both (the_mark mark.COLON) part)) (rest ts))
     (λ ts. Ok (test, ts))
 
 -- what may follow an expression that binds tighter than layer suc k
@@ -262,13 +267,15 @@ abbrev pub large_op : Kind → AssignOp
 large_op k = if is_word word.MIN k then assign.Least else assign.Greatest
 
 unfoldable pub op_at : Parser AssignOp
-op_at = if_begins is_large_op (made (λ x. x.0) (both (single is_large_op (λ s k. large_op k)) (the_mark mark.ASSIGN))) (single is_small_op (λ s k. small_op k))
+op_at = if_begins is_large_op (made (λ x. x.0) (both (single is_large_op (λ s k. large_op k)) (the_mark mark.ASSIGN)))
+    (single is_small_op (λ s k. small_op k))
 
 unfoldable pub assign_at : ℕ → Parser Statement
 assign_at b = made (λ x. Assign x.0 x.1.0 x.1.1.0) (both name_at (both op_at (ended_by mark.SEMICOLON b)))
 
 unfoldable pub set_active_at : ℕ → Parser Statement
-set_active_at b = made (λ x. SetActive x.0 x.1.1.0) (both (the_word word.ACTIVE) (both (the_mark mark.ASSIGN) (ended_by mark.SEMICOLON b)))
+set_active_at b = made (λ x. SetActive x.0 x.1.1.0)
+    (both (the_word word.ACTIVE) (both (the_mark mark.ASSIGN) (ended_by mark.SEMICOLON b)))
 
 unfoldable pub emit_at : ℕ → Parser Statement
 emit_at b = made (λ x. Emit x.0 x.1.0 x.1.1.0) (both (the_word word.EMIT) (both name_at (ended_by mark.SEMICOLON b)))
@@ -291,7 +298,8 @@ abbrev pub goes_on : Kind → Bool
 goes_on k = not (is_mark mark.RIGHT_BRACE k)
 
 abbrev pub braced : Parser Statement → Parser Statements
-braced p = made (λ x. block_of x.1.0) (both (the_mark mark.LEFT_BRACE) (both (many goes_on p) (the_mark mark.RIGHT_BRACE)))
+braced p = made (λ x. block_of x.1.0) (both (the_mark mark.LEFT_BRACE)
+    (both (many goes_on p) (the_mark mark.RIGHT_BRACE)))
 
 abbrev pub else_of : Parser Statement → Parser (Option Statements)
 else_of p = maybe (is_word word.ELSE) (made (λ x. x.1) (both (the_word word.ELSE) (braced p)))
@@ -299,7 +307,8 @@ else_of p = maybe (is_word word.ELSE) (made (λ x. x.1) (both (the_word word.ELS
 -- Statements, where so many nodes may be nested. An `if` is one.
 unfoldable pub statement_at : Rights → ℕ → Parser Statement
 statement_at r zero = choose r zero (stop TooDeep)
-statement_at r (suc b) = choose r (suc b) (node b (λ s x. if_of s x.0 x.1.0 x.1.1) (both (tree_at b 6) (both (braced (statement_at r b)) (else_of (statement_at r b)))))
+statement_at r (suc b) = choose r (suc b) (node b (λ s x. if_of s x.0 x.1.0 x.1.1)
+    (both (tree_at b 6) (both (braced (statement_at r b)) (else_of (statement_at r b)))))
 
 unfoldable pub block_at : Rights → ℕ → Parser Statements
 block_at r b = made block_of (many goes_on (statement_at r b))
@@ -312,12 +321,14 @@ type_at = single is_type (λ s k. type_of k)
 unfoldable pub declaration_at : ℕ → ℕ → Parser Declaration
 declaration_at keyword b =
     made (λ x. record { name = x.1.0; kind = x.1.1.1.0; value = x.1.1.1.1.1.0 })
-    (both (the_word keyword) (both name_at (both (the_mark mark.COLON) (both type_at (both (the_mark mark.ASSIGN) (ended_by mark.SEMICOLON b))))))
+    (both (the_word keyword) (both name_at
+    (both (the_mark mark.COLON) (both type_at (both (the_mark mark.ASSIGN) (ended_by mark.SEMICOLON b))))))
 
 unfoldable pub slot_at : Parser SlotDeclaration
 slot_at =
     made (λ x. record { name = x.1.0; op = x.1.1.1.0 })
-    (both (the_word word.SLOT) (both name_at (both (the_mark mark.COLON) (both (single is_combine (λ s k. combine_of k)) (the_mark mark.SEMICOLON)))))
+    (both (the_word word.SLOT) (both name_at
+    (both (the_mark mark.COLON) (both (single is_combine (λ s k. combine_of k)) (the_mark mark.SEMICOLON)))))
 
 abbrev pub is_fold_at : Kind → Bool
 is_fold_at k = is_combine k && is_fold (combine_of k)
@@ -325,23 +336,31 @@ is_fold_at k = is_combine k && is_fold (combine_of k)
 unfoldable pub total_at : ℕ → Parser TotalDeclaration
 total_at b =
     made (λ x. record { name = x.1.0; op = x.1.1.1.0; value = x.1.1.1.1.1.0 })
-    (both (expect (Name total_text)) (both name_at (both (the_mark mark.COLON) (both (single is_fold_at (λ s k. combine_of k)) (both (the_mark mark.ASSIGN) (ended_by mark.SEMICOLON b))))))
+    (both (expect (Name total_text)) (both name_at
+    (both (the_mark mark.COLON) (both (single is_fold_at (λ s k. combine_of k))
+    (both (the_mark mark.ASSIGN) (ended_by mark.SEMICOLON b))))))
 
 unfoldable pub dense_at : Limits → Parser DenseBlock
 dense_at l =
     made (λ x. record { test = x.1.1.0.0; lets = x.1.1.1.0; body = x.1.1.1.1.1.1.1.0; tail = x.1.1.1.1.1.1.1.1.1.0 })
-    (both (the_word word.DENSE) (both (the_word word.WHEN) (both (ended_by mark.LEFT_BRACE l.depth) (both (up_to (is_word word.LET) (declaration_at word.LET l.depth) l.lets)
-    (both (the_word word.FOR) (both (the_word word.U) (both (the_mark mark.LEFT_BRACE) (both (block_at loop_rights l.depth) (both (the_mark mark.RIGHT_BRACE)
+    (both (the_word word.DENSE) (both (the_word word.WHEN)
+    (both (ended_by mark.LEFT_BRACE l.depth)
+    (both (up_to (is_word word.LET) (declaration_at word.LET l.depth) l.lets)
+    (both (the_word word.FOR) (both (the_word word.U)
+    (both (the_mark mark.LEFT_BRACE) (both (block_at loop_rights l.depth) (both (the_mark mark.RIGHT_BRACE)
     (both (block_at tail_rights l.depth) (the_mark mark.RIGHT_BRACE)))))))))))
 
 unfoldable pub sparse_at : Limits → Parser SparseBlock
 sparse_at l =
     made (λ x. record { test = x.1.1.0.0; sends = x.1.1.1.0; body = x.1.1.1.1.0 })
-    (both (the_word word.SPARSE) (both (the_word word.WHEN) (both (ended_by mark.LEFT_BRACE l.depth) (both (up_to (is_word word.SEND) (declaration_at word.SEND l.depth) l.sends)
+    (both (the_word word.SPARSE) (both (the_word word.WHEN)
+    (both (ended_by mark.LEFT_BRACE l.depth)
+    (both (up_to (is_word word.SEND) (declaration_at word.SEND l.depth) l.sends)
     (both (block_at sparse_rights l.depth) (the_mark mark.RIGHT_BRACE))))))
 
 unfoldable pub update_at : ℕ → Parser Statements
-update_at b = made (λ x. x.1.1.0) (both (the_word word.UPDATE) (both (the_mark mark.LEFT_BRACE) (both (block_at update_rights b) (the_mark mark.RIGHT_BRACE))))
+update_at b = made (λ x. x.1.1.0) (both (the_word word.UPDATE)
+    (both (the_mark mark.LEFT_BRACE) (both (block_at update_rights b) (the_mark mark.RIGHT_BRACE))))
 
 unfoldable pub start_at : ℕ → Parser Tree
 start_at b = made (λ x. x.1.0) (both (the_word word.START) (ended_by mark.SEMICOLON b))
@@ -384,7 +403,9 @@ is_stop version k = version == 2 && is_named stop_text k
 
 unfoldable pub blocks_at : ℕ → Limits → Parser ProgramBlocks
 blocks_at version l =
-    both (maybe (is_word word.DENSE) (dense_at l)) (both (maybe (is_word word.SPARSE) (sparse_at l)) (both (update_at l.depth) (maybe (is_stop version) (stop_at l.depth))))
+    both (maybe (is_word word.DENSE) (dense_at l))
+    (both (maybe (is_word word.SPARSE) (sparse_at l))
+    (both (update_at l.depth) (maybe (is_stop version) (stop_at l.depth))))
 
 abbrev pub program_of : Header × (DeclaredNames × (Tree × ProgramBlocks)) → ProgramTree
 program_of x = record {
@@ -404,7 +425,8 @@ program_of x = record {
 }
 
 unfoldable pub program_at : Limits → Parser ProgramTree
-program_at l = made program_of (both_by header_at (λ h. both (names_at h.0 l) (both (start_at l.depth) (blocks_at h.0 l))))
+program_at l = made program_of (both_by header_at (λ h.
+    both (names_at h.0 l) (both (start_at l.depth) (blocks_at h.0 l))))
 
 -- nothing may follow
 abbrev pub ended : {A : Type 0} → A → Parser A

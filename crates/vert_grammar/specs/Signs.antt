@@ -132,7 +132,8 @@ operator_of m =
 abbrev pub operator : Kind → BinOp
 operator k = operator_of (mark_in k)
 
--- the layer to which a mark takes an expression on: 0 for the dot, those of operators, 6 for the question mark, and 7 for all that end it
+-- the layer to which a mark takes an expression on: 0 for the dot, those of operators, 6 for the question mark, and 7
+-- for all that end it
 unfoldable pub layer_at : ℕ → ℕ
 layer_at m =
     if m == mark.DOT then 0
@@ -174,7 +175,9 @@ builtin_of m =
 
 abbrev pub is_builtin : Kind → Bool
 is_builtin k =
-    is_word word.ID k || (is_word word.N k || (is_word word.ROUND k || (is_word word.INDEG k || (is_word word.OUTDEG k || (is_word word.ACTIVE k || is_word word.W k)))))
+    is_word word.ID k || (is_word word.N k
+    || (is_word word.ROUND k || (is_word word.INDEG k
+    || (is_word word.OUTDEG k || (is_word word.ACTIVE k || is_word word.W k)))))
 
 -- the words that may stand behind `u.`
 abbrev pub is_other : Builtin → Bool
@@ -222,7 +225,8 @@ abbrev pub is_combine : Kind → Bool
 is_combine k = is_word word.MIN k || (is_word word.MAX k || (is_word word.SUM k || is_word word.FIRST k))
 
 abbrev pub combine_of : Kind → Combine
-combine_of k = if is_word word.MIN k then combine.Min else (if is_word word.MAX k then combine.Max else (if is_word word.SUM k then combine.Sum else combine.First))
+combine_of k = if is_word word.MIN k then combine.Min
+    else (if is_word word.MAX k then combine.Max else (if is_word word.SUM k then combine.Sum else combine.First))
 
 abbrev pub mode_word : Mode → ℕ
 mode_word modes.Auto = word.AUTO

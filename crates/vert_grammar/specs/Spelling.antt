@@ -22,13 +22,17 @@ spelled (Got s name) = Name name.text ∷ Mark mark.DOT ∷ Reserved word.GOT �
 spelled (Value s name) = Name name.text ∷ Mark mark.DOT ∷ Reserved word.VALUE ∷ []
 spelled (OtherField s name) = Reserved word.U ∷ Mark mark.DOT ∷ Name name.text ∷ []
 spelled (OtherWord s w) = Reserved word.U ∷ Mark mark.DOT ∷ Reserved (builtin_word w) ∷ []
-spelled (Draw s at number) = Reserved word.DRAW ∷ Mark mark.LEFT_PARENTHESIS ∷ Number number ∷ Mark mark.RIGHT_PARENTHESIS ∷ []
+spelled (Draw s at number) = Reserved word.DRAW ∷ Mark mark.LEFT_PARENTHESIS ∷ Number number
+    ∷ Mark mark.RIGHT_PARENTHESIS ∷ []
 spelled (Negative s inner) = Mark mark.MINUS ∷ spelled inner
 spelled (Not s inner) = Mark mark.NOT ∷ spelled inner
 spelled (Pair s op left right) = spelled left ++ Mark (mark_of op) ∷ spelled right
-spelled (Choice s test held otherwise) = spelled test ++ Mark mark.QUESTION ∷ (spelled held ++ Mark mark.COLON ∷ spelled otherwise)
-spelled (Least s left right) = Reserved word.MIN ∷ Mark mark.LEFT_PARENTHESIS ∷ (spelled left ++ Mark mark.COMMA ∷ (spelled right ++ Mark mark.RIGHT_PARENTHESIS ∷ []))
-spelled (Greatest s left right) = Reserved word.MAX ∷ Mark mark.LEFT_PARENTHESIS ∷ (spelled left ++ Mark mark.COMMA ∷ (spelled right ++ Mark mark.RIGHT_PARENTHESIS ∷ []))
+spelled (Choice s test held otherwise) = spelled test ++ Mark mark.QUESTION
+    ∷ (spelled held ++ Mark mark.COLON ∷ spelled otherwise)
+spelled (Least s left right) = Reserved word.MIN ∷ Mark mark.LEFT_PARENTHESIS
+    ∷ (spelled left ++ Mark mark.COMMA ∷ (spelled right ++ Mark mark.RIGHT_PARENTHESIS ∷ []))
+spelled (Greatest s left right) = Reserved word.MAX ∷ Mark mark.LEFT_PARENTHESIS
+    ∷ (spelled left ++ Mark mark.COMMA ∷ (spelled right ++ Mark mark.RIGHT_PARENTHESIS ∷ []))
 spelled (Group s inner) = Mark mark.LEFT_PARENTHESIS ∷ (spelled inner ++ Mark mark.RIGHT_PARENTHESIS ∷ [])
 
 abbrev pub spelled_op : AssignOp → List Kind
@@ -39,13 +43,17 @@ spelled_op assign.Greatest = Reserved word.MAX ∷ Mark mark.ASSIGN ∷ []
 
 abbrev mutual
   pub spelled_statement : Statement → List Kind
-  spelled_statement (Assign target op value) = Name target.text ∷ (spelled_op op ++ (spelled value ++ Mark mark.SEMICOLON ∷ []))
-  spelled_statement (SetActive s value) = Reserved word.ACTIVE ∷ Mark mark.ASSIGN ∷ (spelled value ++ Mark mark.SEMICOLON ∷ [])
-  spelled_statement (If s test held) = Reserved word.IF ∷ (spelled test ++ Mark mark.LEFT_BRACE ∷ (spelled_block held ++ Mark mark.RIGHT_BRACE ∷ []))
+  spelled_statement (Assign target op value) = Name target.text
+      ∷ (spelled_op op ++ (spelled value ++ Mark mark.SEMICOLON ∷ []))
+  spelled_statement (SetActive s value) = Reserved word.ACTIVE ∷ Mark mark.ASSIGN
+      ∷ (spelled value ++ Mark mark.SEMICOLON ∷ [])
+  spelled_statement (If s test held) = Reserved word.IF
+      ∷ (spelled test ++ Mark mark.LEFT_BRACE ∷ (spelled_block held ++ Mark mark.RIGHT_BRACE ∷ []))
   spelled_statement (IfElse s test held otherwise) =
       Reserved word.IF ∷ (spelled test ++ Mark mark.LEFT_BRACE ∷ (spelled_block held ++ Mark mark.RIGHT_BRACE
       ∷ Reserved word.ELSE ∷ Mark mark.LEFT_BRACE ∷ (spelled_block otherwise ++ Mark mark.RIGHT_BRACE ∷ [])))
-  spelled_statement (Emit s slot value) = Reserved word.EMIT ∷ Name slot.text ∷ (spelled value ++ Mark mark.SEMICOLON ∷ [])
+  spelled_statement (Emit s slot value) = Reserved word.EMIT ∷ Name slot.text
+      ∷ (spelled value ++ Mark mark.SEMICOLON ∷ [])
   spelled_statement (Break s) = Reserved word.BREAK ∷ Mark mark.SEMICOLON ∷ []
 
   pub spelled_block : Statements → List Kind
@@ -54,24 +62,29 @@ abbrev mutual
 
 abbrev pub spelled_declaration : ℕ → Declaration → List Kind
 spelled_declaration keyword d =
-    Reserved keyword ∷ Name d.name.text ∷ Mark mark.COLON ∷ Reserved (type_word d.kind) ∷ Mark mark.ASSIGN ∷ (spelled d.value ++ Mark mark.SEMICOLON ∷ [])
+    Reserved keyword ∷ Name d.name.text ∷ Mark mark.COLON ∷ Reserved (type_word d.kind) ∷ Mark mark.ASSIGN
+    ∷ (spelled d.value ++ Mark mark.SEMICOLON ∷ [])
 
 abbrev pub spelled_slot : SlotDeclaration → List Kind
-spelled_slot d = Reserved word.SLOT ∷ Name d.name.text ∷ Mark mark.COLON ∷ Reserved (combine_word d.op) ∷ Mark mark.SEMICOLON ∷ []
+spelled_slot d = Reserved word.SLOT ∷ Name d.name.text ∷ Mark mark.COLON ∷ Reserved (combine_word d.op)
+    ∷ Mark mark.SEMICOLON ∷ []
 
 abbrev pub spelled_total : TotalDeclaration → List Kind
 spelled_total d =
-    Name total_text ∷ Name d.name.text ∷ Mark mark.COLON ∷ Reserved (combine_word d.op) ∷ Mark mark.ASSIGN ∷ (spelled d.value ++ Mark mark.SEMICOLON ∷ [])
+    Name total_text ∷ Name d.name.text ∷ Mark mark.COLON ∷ Reserved (combine_word d.op) ∷ Mark mark.ASSIGN
+    ∷ (spelled d.value ++ Mark mark.SEMICOLON ∷ [])
 
 abbrev pub spelled_dense : DenseBlock → List Kind
 spelled_dense d =
-    Reserved word.DENSE ∷ Reserved word.WHEN ∷ (spelled d.test ++ Mark mark.LEFT_BRACE ∷ (flat_map (spelled_declaration word.LET) d.lets
+    Reserved word.DENSE ∷ Reserved word.WHEN
+    ∷ (spelled d.test ++ Mark mark.LEFT_BRACE ∷ (flat_map (spelled_declaration word.LET) d.lets
     ++ Reserved word.FOR ∷ Reserved word.U ∷ Mark mark.LEFT_BRACE ∷ (spelled_block d.body ++ Mark mark.RIGHT_BRACE
     ∷ (spelled_block d.tail ++ Mark mark.RIGHT_BRACE ∷ []))))
 
 abbrev pub spelled_sparse : SparseBlock → List Kind
 spelled_sparse d =
-    Reserved word.SPARSE ∷ Reserved word.WHEN ∷ (spelled d.test ++ Mark mark.LEFT_BRACE ∷ (flat_map (spelled_declaration word.SEND) d.sends
+    Reserved word.SPARSE ∷ Reserved word.WHEN
+    ∷ (spelled d.test ++ Mark mark.LEFT_BRACE ∷ (flat_map (spelled_declaration word.SEND) d.sends
     ++ (spelled_block d.body ++ Mark mark.RIGHT_BRACE ∷ [])))
 
 abbrev pub spelled_stop : Tree → List Kind
@@ -83,7 +96,8 @@ spelled_maybe f (Some x) = f x
 
 abbrev pub spelled_header : ProgramTree → List Kind
 spelled_header p =
-    Reserved word.VERTEX ∷ Number p.version ∷ Mark mark.SEMICOLON ∷ Reserved word.MODE ∷ Reserved (mode_word p.mode) ∷ Mark mark.SEMICOLON
+    Reserved word.VERTEX ∷ Number p.version ∷ Mark mark.SEMICOLON ∷ Reserved word.MODE ∷ Reserved (mode_word p.mode)
+    ∷ Mark mark.SEMICOLON
     ∷ Reserved word.LIMIT ∷ Number p.limit ∷ Mark mark.SEMICOLON ∷ []
 
 abbrev pub spelled_start : Tree → List Kind

@@ -12,19 +12,23 @@ use Rattle.vert_lex.specs.Text.{Placed, origin, after, through, is_blank, is_com
 use Rattle.vert_lex.specs.View.{plain_kind, plain_token, plain_tokens}
 use Rattle.vert_lex.proofs.Longest.{kind_nothing, longest_le}
 
-pub pass_token : (n : ℕ) (s : Span) (text : List ℕ) → n ≤ length text → tokens_at false n s text ≡ tokens_at false 0 (through s (take n text)) (drop n text)
+pub pass_token : (n : ℕ) (s : Span) (text : List ℕ) → n ≤ length text →
+    tokens_at false n s text ≡ tokens_at false 0 (through s (take n text)) (drop n text)
 pass_token zero s text le = refl
 pass_token (suc n) s [] le = absurd (omega arith)
 pass_token (suc n) s (b ∷ bs) le = pass_token n (after s b) bs (omega arith)
 
-pub pass_comment : (n : ℕ) (s : Span) (text : List ℕ) → n ≤ length text → ((i : ℕ) → i < n → get_or text i 0 ≡ 10 → ⊥) → (n < length text → get_or text n 0 ≡ 10)
+pub pass_comment : (n : ℕ) (s : Span) (text : List ℕ) → n ≤ length text → ((i : ℕ) → i < n → get_or text i 0 ≡ 10 → ⊥)
+    → (n < length text → get_or text n 0 ≡ 10)
     → tokens_at true 0 s text ≡ tokens_at false 0 (through s (take n text)) (drop n text)
 pass_comment zero s [] le all stops = refl
-pass_comment zero s (b ∷ bs) le all stops = let e : b ≡ 10 = stops (omega arith) in ap (λ x. tokens_at true 0 s (x ∷ bs)) e ∙ ap (λ x. tokens_at false 0 s (x ∷ bs)) (sym e)
+pass_comment zero s (b ∷ bs) le all stops = let e : b ≡ 10 = stops (omega arith) in
+    ap (λ x. tokens_at true 0 s (x ∷ bs)) e ∙ ap (λ x. tokens_at false 0 s (x ∷ bs)) (sym e)
 pass_comment (suc n) s [] le all stops = absurd (omega arith)
 pass_comment (suc n) s (b ∷ bs) le all stops =
     let e : eqb b 10 ≡ false = ne_eqb b 10 (all 0 (omega arith)) in
-    ap (λ v. tokens_at (not v) 0 (after s b) bs) e ∙ pass_comment n (after s b) bs (omega arith) (λ i lt. all (suc i) (omega arith)) (λ lt. stops (omega arith))
+    ap (λ v. tokens_at (not v) 0 (after s b) bs) e
+    ∙ pass_comment n (after s b) bs (omega arith) (λ i lt. all (suc i) (omega arith)) (λ lt. stops (omega arith))
 
 -- what was read before, and what is still read
 abbrev pub with_front : List Placed → Result (List Placed) LexFault → Result (List Placed) LexFault
@@ -36,25 +40,35 @@ nothing_read (Ok ts) = refl
 nothing_read (Err fault) = refl
 
 -- the step of a token
-token_step : (s : Span) (front : List Placed) (text : List ℕ) (n : ℕ) (k : Kind) (total : Result (List Placed) LexFault) → 0 < length text → is_blank (get_or text 0 0) ≡ false → is_comment (get_or text 0 0) (drop 1 text) ≡ false
-    → longest (length text) text ≡ n → 0 < n → judged s (kind_of (take n text)) ≡ Ok k → with_front front (tokens_at false 0 s text) ≡ total
-    → with_front (front ++ record { span = s; kind = k } ∷ []) (tokens_at false 0 (through s (take n text)) (drop n text)) ≡ total
+token_step : (s : Span) (front : List Placed) (text : List ℕ) (n : ℕ) (k : Kind)
+    (total : Result (List Placed) LexFault) → 0 < length text → is_blank (get_or text 0 0) ≡ false →
+    is_comment (get_or text 0 0) (drop 1 text) ≡ false
+    → longest (length text) text ≡ n → 0 < n → judged s (kind_of (take n text)) ≡ Ok k →
+    with_front front (tokens_at false 0 s text) ≡ total
+    → with_front (front ++ record { span = s; kind = k } ∷ [])
+    (tokens_at false 0 (through s (take n text)) (drop n text)) ≡ total
 token_step s front [] n k total pos b c e some j so_far = absurd (omega arith)
 token_step s front (x ∷ xs) zero k total pos b c e some j so_far = absurd (omega arith)
 token_step s front (x ∷ xs) (suc n) k total pos b c e some j so_far =
     let t : Placed = record { span = s; kind = k } in
     let le : n ≤ length xs = omega (arith, longest_le (length (x ∷ xs)) (x ∷ xs), e) in
     let p = pass_token n (after s x) xs le in
-    let q : tokens_at false 0 s (x ∷ xs) ≡ followed s (Ok k) (tokens_at false n (after s x) xs) = rw (b, c, e, j) refl in
-    sym (ap (λ r. with_front (front ++ t ∷ []) r) p) ∙ regroup (tokens_at false n (after s x) xs) ∙ sym (ap (with_front front) q) ∙ so_far
+    let q : tokens_at false 0 s (x ∷ xs) ≡ followed s (Ok k) (tokens_at false n (after s x) xs) = rw (b, c, e, j) refl
+    in
+    sym (ap (λ r. with_front (front ++ t ∷ []) r) p) ∙ regroup (tokens_at false n (after s x) xs)
+    ∙ sym (ap (with_front front) q) ∙ so_far
   where
-    regroup : (r : Result (List Placed) LexFault) → with_front (front ++ record { span = s; kind = k } ∷ []) r ≡ with_front front (followed s (Ok k) r)
+    regroup : (r : Result (List Placed) LexFault) → with_front (front ++ record { span = s; kind = k } ∷ []) r
+        ≡ with_front front (followed s (Ok k) r)
     regroup (Ok ts) = ap (λ l. Ok l) (append_assoc front (record { span = s; kind = k } ∷ []) ts)
     regroup (Err fault) = refl
 
 -- the step of a fault
-pub fault_step : (s : Span) (front : List Placed) (text : List ℕ) (n : ℕ) (fault : LexFault) (total : Result (List Placed) LexFault) → 0 < length text → is_blank (get_or text 0 0) ≡ false → is_comment (get_or text 0 0) (drop 1 text) ≡ false
-    → longest (length text) text ≡ n → judged s (kind_of (take n text)) ≡ Err fault → with_front front (tokens_at false 0 s text) ≡ total → total ≡ Err fault
+pub fault_step : (s : Span) (front : List Placed) (text : List ℕ) (n : ℕ) (fault : LexFault)
+    (total : Result (List Placed) LexFault) → 0 < length text → is_blank (get_or text 0 0) ≡ false →
+    is_comment (get_or text 0 0) (drop 1 text) ≡ false
+    → longest (length text) text ≡ n → judged s (kind_of (take n text)) ≡ Err fault →
+    with_front front (tokens_at false 0 s text) ≡ total → total ≡ Err fault
 fault_step s front [] n fault total pos b c e j so_far = absurd (omega arith)
 fault_step s front (x ∷ xs) n fault total pos b c e j so_far =
     let q : tokens_at false 0 s (x ∷ xs) ≡ Err fault = rw (b, c, e, j) refl in
@@ -64,16 +78,21 @@ pub no_token : (s : Span) (text : List ℕ) → judged s (kind_of (take 0 text))
 no_token s text = ap (judged s) kind_nothing
 
 -- the step of a token that was pushed
-pub push_step : (s : Span) (ts : List tokens.Token) (t : tokens.Token) (text : List ℕ) (n : ℕ) (total : Result (List Placed) LexFault) → t.span ≡ s → 0 < length text → is_blank (get_or text 0 0) ≡ false → is_comment (get_or text 0 0) (drop 1 text) ≡ false
-    → longest (length text) text ≡ n → 0 < n → judged s (kind_of (take n text)) ≡ Ok (plain_kind t.kind) → with_front (plain_tokens ts) (tokens_at false 0 s text) ≡ total
+pub push_step : (s : Span) (ts : List tokens.Token) (t : tokens.Token) (text : List ℕ) (n : ℕ)
+    (total : Result (List Placed) LexFault) → t.span ≡ s → 0 < length text → is_blank (get_or text 0 0) ≡ false →
+    is_comment (get_or text 0 0) (drop 1 text) ≡ false
+    → longest (length text) text ≡ n → 0 < n → judged s (kind_of (take n text)) ≡ Ok (plain_kind t.kind) →
+    with_front (plain_tokens ts) (tokens_at false 0 s text) ≡ total
     → with_front (plain_tokens (ts ++ t ∷ [])) (tokens_at false 0 (through s (take n text)) (drop n text)) ≡ total
 push_step s ts t text n total same pos b c e some j so_far =
     let pushed : plain_tokens (ts ++ t ∷ []) ≡ plain_tokens ts ++ record { span = s; kind = plain_kind t.kind } ∷ [] =
-    map-append plain_token ts (t ∷ []) ∙ ap (λ x. plain_tokens ts ++ record { span = x; kind = plain_kind t.kind } ∷ []) same in
+    map-append plain_token ts (t ∷ []) ∙ ap (λ x. plain_tokens ts ++ record { span = x; kind = plain_kind t.kind }
+    ∷ []) same in
     ap (λ l. with_front l (tokens_at false 0 (through s (take n text)) (drop n text))) pushed
     ∙ token_step s (plain_tokens ts) text n (plain_kind t.kind) total pos b c e some j so_far
 
-pub text_ends : (s : Span) (front : List Placed) (text : List ℕ) (total : Result (List Placed) LexFault) → length text ≡ 0 → with_front front (tokens_at false 0 s text) ≡ total → total ≡ Ok front
+pub text_ends : (s : Span) (front : List Placed) (text : List ℕ) (total : Result (List Placed) LexFault) →
+    length text ≡ 0 → with_front front (tokens_at false 0 s text) ≡ total → total ≡ Ok front
 text_ends s front [] total e so_far = sym so_far ∙ ap (λ l. Ok l) (append-nil front)
 text_ends s front (x ∷ xs) total e so_far = absurd (omega arith)
 
@@ -88,11 +107,14 @@ too_long text lt =
     rw great refl
 
 -- what a gap does
-pub gap_blank : (text : List ℕ) → 0 < length text → is_blank (get_or text 0 0) ≡ true → (s : Span) → tokens_at false 0 s text ≡ tokens_at false 0 (through s (take 1 text)) (drop 1 text)
+pub gap_blank : (text : List ℕ) → 0 < length text → is_blank (get_or text 0 0) ≡ true → (s : Span) →
+    tokens_at false 0 s text ≡ tokens_at false 0 (through s (take 1 text)) (drop 1 text)
 gap_blank [] pos b s = absurd (omega arith)
 gap_blank (x ∷ xs) pos b s = rw b refl
 
-gap_comment : (text : List ℕ) (n : ℕ) → 0 < length text → is_blank (get_or text 0 0) ≡ false → is_comment (get_or text 0 0) (drop 1 text) ≡ true → n ≤ length text → ((i : ℕ) → i < n → get_or text i 0 ≡ 10 → ⊥) → (n < length text → get_or text n 0 ≡ 10)
+gap_comment : (text : List ℕ) (n : ℕ) → 0 < length text → is_blank (get_or text 0 0) ≡ false →
+    is_comment (get_or text 0 0) (drop 1 text) ≡ true → n ≤ length text → ((i : ℕ) → i < n → get_or text i 0 ≡ 10 → ⊥)
+    → (n < length text → get_or text n 0 ≡ 10)
     → 0 < n → (s : Span) → tokens_at false 0 s text ≡ tokens_at false 0 (through s (take n text)) (drop n text)
 gap_comment [] n pos b c le all stops one s = absurd (omega arith)
 gap_comment (x ∷ xs) zero pos b c le all stops one s = absurd (omega arith)
@@ -100,11 +122,13 @@ gap_comment (x ∷ xs) (suc n) pos b c le all stops one s =
     let q : tokens_at false 0 s (x ∷ xs) ≡ tokens_at true 0 (after s x) xs = rw (b, c) refl in
     q ∙ pass_comment n (after s x) xs (omega arith) (λ i lt. all (suc i) (omega arith)) (λ lt. stops (omega arith))
 
-pub gap_comment_at : (text : List ℕ) (n : ℕ) → 0 < length text → (a : ℕ) (others : List ℕ) (b : ℕ) → a ≡ get_or text 0 0 → b ≡ get_or text 0 0 → others ≡ drop 1 text → is_blank a ≡ false → is_comment b others ≡ true
+pub gap_comment_at : (text : List ℕ) (n : ℕ) → 0 < length text → (a : ℕ) (others : List ℕ) (b : ℕ) →
+    a ≡ get_or text 0 0 → b ≡ get_or text 0 0 → others ≡ drop 1 text → is_blank a ≡ false → is_comment b others ≡ true
     → n ≤ length text → ((i : ℕ) → i < n → get_or text i 0 ≡ 10 → ⊥) → (n < length text → get_or text n 0 ≡ 10)
     → 0 < n → (s : Span) → tokens_at false 0 s text ≡ tokens_at false 0 (through s (take n text)) (drop n text)
 gap_comment_at text n pos a others b e f o bl co le all stops one s =
-    gap_comment text n pos (ap is_blank (sym e) ∙ bl) (ap (λ x. is_comment x (drop 1 text)) (sym f) ∙ ap (is_comment b) (sym o) ∙ co) le all stops one s
+    gap_comment text n pos (ap is_blank (sym e) ∙ bl) (ap (λ x. is_comment x (drop 1 text)) (sym f)
+    ∙ ap (is_comment b) (sym o) ∙ co) le all stops one s
 
 -- how places grow
 pub record Grows (s t : Span) (n : ℕ) : Type 0 where
@@ -115,7 +139,8 @@ pub record Grows (s t : Span) (n : ℕ) : Type 0 where
 after_grows : (s : Span) (b : ℕ) → Grows s (after s b) 1
 after_grows s b = go (eqb b 10)
   where
-    go : (v : Bool) → Grows s (cond v (record { at = s.at + 1; line = s.line + 1; column = 1 }) (record { at = s.at + 1; line = s.line; column = s.column + 1 })) 1
+    go : (v : Bool) → Grows s (cond v (record { at = s.at + 1; line = s.line + 1; column = 1 })
+        (record { at = s.at + 1; line = s.line; column = s.column + 1 })) 1
     go true = record { at = refl; line = omega arith; column = omega arith }
     go false = record { at = refl; line = omega arith; column = omega arith }
 
@@ -127,8 +152,11 @@ through_grows s (b ∷ bs) =
     record { at = omega arith; line = omega arith; column = omega arith }
 
 -- a place moves as far as the text is passed
-pub moves : (s : Span) (text : List ℕ) (n total : ℕ) → n ≤ length text → s.at + length text ≡ total → s.line + length text ≤ total + 1 → s.column + length text ≤ total + 1
-    → ((through s (take n text)).at + length (drop n text) ≡ total) × ((through s (take n text)).line + length (drop n text) ≤ total + 1) × ((through s (take n text)).column + length (drop n text) ≤ total + 1)
+pub moves : (s : Span) (text : List ℕ) (n total : ℕ) → n ≤ length text → s.at + length text ≡ total →
+    s.line + length text ≤ total + 1 → s.column + length text ≤ total + 1
+    → ((through s (take n text)).at + length (drop n text) ≡ total) ×
+    ((through s (take n text)).line + length (drop n text) ≤ total + 1) ×
+    ((through s (take n text)).column + length (drop n text) ≤ total + 1)
 moves s text n total le a l k =
     let g = through_grows s (take n text) in
     let t = length-take-le n text le in

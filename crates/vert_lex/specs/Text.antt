@@ -15,7 +15,8 @@ origin = record { at = 0; line = 1; column = 1 }
 
 -- the place just after a byte, and after some bytes
 abbrev pub after : Span → ℕ → Span
-after s b = if b == 10 then record { at = s.at + 1; line = s.line + 1; column = 1 } else record { at = s.at + 1; line = s.line; column = s.column + 1 }
+after s b = if b == 10 then record { at = s.at + 1; line = s.line + 1; column = 1 }
+    else record { at = s.at + 1; line = s.line; column = s.column + 1 }
 
 abbrev pub through : Span → List ℕ → Span
 through s [] = s

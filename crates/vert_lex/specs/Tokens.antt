@@ -32,7 +32,8 @@ mark_at None = None
 unfoldable pub kind_of : List ℕ → Option Kind
 kind_of [] = None
 kind_of (b ∷ bs) =
-    if is_letter b then (if list_all is_word bs then Some (word_at (place_of reserved_words (b ∷ bs)) (b ∷ bs)) else None)
+    if is_letter b then (if list_all is_word bs then Some (word_at (place_of reserved_words (b ∷ bs)) (b ∷ bs))
+    else None)
     else (if is_digit b then (if list_all is_digit bs then Some (Number (digits_value 10 (b ∷ bs))) else None)
     else mark_at (place_of marks (b ∷ bs)))
 

@@ -50,7 +50,8 @@ pub(crate) fn is_mark(bytes: &[u8]) -> bool
 /// The number of these digits, unless it is above the greatest.
 fn number(digits: &[u8]) -> Option<u64>
     requires { (i : ℕ) → i < length digits.now → is_digit (slice_index digits.now i) ≡ true }
-    ensures { result ≡ (if nat_lt 9223372036854775807 (digits_value 10 digits.now) then None else Some (digits_value 10 digits.now)) }
+    ensures { result ≡ (if nat_lt 9223372036854775807 (digits_value 10 digits.now) then None
+        else Some (digits_value 10 digits.now)) }
 {
     let mut value: u64 = 0;
     'digits: for b in digits {
@@ -79,7 +80,8 @@ fn name(alloc: Global, word: &[u8]) -> Result<String, AllocError>
 pub(crate) fn kind_of(alloc: Global, span: Span, bytes: &[u8]) -> Result<TokenKind, LexFault>
     requires { is_some (kind_of bytes.now) ≡ true }
     ensures read { IfOk result (λ kind. judged span (kind_of bytes.now) ≡ Ok (plain_kind kind)) }
-    ensures refused { IfErr result (λ fault. fault ≢ LexFault.Want → judged span (kind_of bytes.now) ≡ Err fault) }
+    ensures refused { IfErr result (λ fault. fault ≢ LexFault.Want →
+        judged span (kind_of bytes.now) ≡ Err fault) }
 {
     let b = first(bytes);
     if is_letter(b) {

@@ -52,7 +52,9 @@ pub(crate) fn gap_length(text: &[u8]) -> usize
     ensures in_range { result ≤ length text.now }
     ensures blank { result ≡ 0 → is_blank (slice_index text.now 0) ≡ false }
     ensures comment { result ≡ 0 → is_comment (slice_index text.now 0) (drop 1 text.now) ≡ false }
-    ensures passes { 0 < result → (s : Span) → tokens_at false 0 s text.now ≡ tokens_at false 0 (through s (take result text.now)) (drop result text.now) }
+    ensures passes { 0 < result → (s : Span) →
+        tokens_at false 0 s text.now
+        ≡ tokens_at false 0 (through s (take result text.now)) (drop result text.now) }
 {
     if is_blank(first(text)) {
         return 1;

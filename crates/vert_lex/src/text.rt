@@ -29,7 +29,8 @@ pub fn end_of(text: &[u8]) -> Span
 /// The tokens of a text, in order, or its first fault.
 pub fn lex(alloc: Global, text: &[u8]) -> Result<Vec<Token>, LexFault>
     ensures read { IfOk result (λ tokens. tokens_of text.now ≡ Ok (plain_tokens tokens.items)) }
-    ensures refused { IfErr result (λ fault. fault ≢ LexFault.Want → tokens_of text.now ≡ Err fault) }
+    ensures refused { IfErr result (λ fault. fault ≢ LexFault.Want →
+        tokens_of text.now ≡ Err fault) }
 {
     if text.len() as u64 > PROGRAM_BYTES {
         return Err(LexFault::TooLong);

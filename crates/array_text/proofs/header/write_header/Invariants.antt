@@ -4,4 +4,6 @@ use Rattle.array_text.specs.Writes.{Writes}
 use Rattle.array_text.proofs.header.write_header.Given as goal
 
 abbrev pub invariant-loop-field : goal.invariant-loop-field
-invariant-loop-field g l = Writes g.O.Sink.held g.O.Sink.faults g.O.Sink.spare l.fn.out l.out (codes "vertex" ++ flat_map (name_text l.split.program.program) (take l.field-index l.split.program.program.fields.items)) (Ok tt)
+invariant-loop-field g l = Writes g.O.Sink.held g.O.Sink.faults g.O.Sink.spare l.fn.out l.out
+    (codes "vertex" ++ flat_map (name_text l.split.program.program)
+    (take l.field-index l.split.program.program.fields.items)) (Ok tt)

@@ -15,10 +15,12 @@ returns-in_err-write_source g c =
     let text : VertexId → List ℕ = λ u. source_text u.0 in
     writes_same
     (texts_split text c.args.sources.now c.loop-source.source-index _ _ (omega arith) refl ∙ of_ids c.args.sources.now)
-    (writes_failed (flat_map text (drop (c.loop-source.source-index + 1) c.args.sources.now)) c.from_residual.result c.from_residual.ensures.0 (writes_then _ c.loop-source.invariant c.in_err-write_source.ensures))
+    (writes_failed (flat_map text (drop (c.loop-source.source-index + 1) c.args.sources.now)) c.from_residual.result
+    c.from_residual.ensures.0 (writes_then _ c.loop-source.invariant c.in_err-write_source.ensures))
 
 pub returns : goal.returns
 returns g c =
     let text : VertexId → List ℕ = λ u. source_text u.0 in
     let all : length c.args.sources.now ≤ c.loop-source.source-index = omega arith in
-    writes_same (ap (flat_map text) (take_all c.loop-source.source-index c.args.sources.now all) ∙ of_ids c.args.sources.now) c.loop-source.invariant
+    writes_same (ap (flat_map text) (take_all c.loop-source.source-index c.args.sources.now all)
+    ∙ of_ids c.args.sources.now) c.loop-source.invariant

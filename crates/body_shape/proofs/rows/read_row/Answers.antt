@@ -20,4 +20,5 @@ returns c =
     ∙ ap is_set (to_z-of_z w64 c.word_at.result (sfits_of c.word_at.type_inv) ∙ c.word_at.ensures)
     ∙ ap (λ k. is_set (word_of (take 8 (drop (k + 8 * width) body)))) start
     ∙ ap (λ bytes. is_set (word_of (take 8 bytes))) (sym (drop-drop (8 * width) (8 * suc width * c.args.place) body)) in
-    (λ i. record { fields = fields i; active = active i }) ∙ sym (row_parts width (drop (8 * suc width * c.args.place) body))
+    (λ i. record { fields = fields i; active = active i })
+    ∙ sym (row_parts width (drop (8 * suc width * c.args.place) body))

@@ -8,7 +8,8 @@ pub returns-clause-put : goal.returns-clause-put
 returns-clause-put c =
     let old = c.args.bytes.now.items in
     let n = c.args.vertices in
-    let same : c.bytes.counter ≡ bit_len c.args.vertices = omega (arith, c.bytes-test.false, c.bytes.auto.counter-end, c.div_ceil-count.ensures) in
+    let same : c.bytes.counter ≡ bit_len c.args.vertices =
+    omega (arith, c.bytes-test.false, c.bytes.auto.counter-end, c.div_ceil-count.ensures) in
     c.bytes.invariant.whole
     ∙ ap (λ bytes. bytes ++ replicate c.bytes.counter 0) c.reserve.ensures.items
     ∙ ap (λ k. old ++ replicate k 0) same

@@ -11,6 +11,8 @@ returns-clause-put c =
     let v = c.args.vertex in
     let set_one = c.set_bit.new.push.items in
     let Sets : List ℕ → Type 0 = λ old. get_or old (c.args.vertex / 8) 0 / 2 ^ (c.args.vertex % 8) % 2 ≡ 0
-    → c.set_bit.new.push.items ≡ set old (c.args.vertex / 8) (get_or old (c.args.vertex / 8) 0 + 2 ^ (c.args.vertex % 8)) in
+    → c.set_bit.new.push.items ≡ set old (c.args.vertex / 8)
+    (get_or old (c.args.vertex / 8) 0 + 2 ^ (c.args.vertex % 8)) in
     on_ok c.lay.result _
-    (send_more c.args.push.now.items set_one c.lay.new.bytes.items v c.args.words.now (subst Sets c.reserve.ensures.items c.set_bit.ensures.set) c.lay.ensures.items)
+    (send_more c.args.push.now.items set_one c.lay.new.bytes.items v c.args.words.now
+    (subst Sets c.reserve.ensures.items c.set_bit.ensures.set) c.lay.ensures.items)

@@ -8,5 +8,6 @@ invariant-loop-value l = record {
   room : vec_len l.bytes + 8 * (length l.values - l.value-index) ≤ vec_capacity l.bytes;
   len : vec_len l.bytes ≤ vec_len l.initial.bytes + 8 * l.value-index;
   capacity : vec_capacity l.initial.bytes ≤ vec_capacity l.bytes;
-  whole : l.bytes.items ++ words_bytes (there (drop l.value-index l.values)) ≡ l.initial.bytes.items ++ words_bytes (there l.values);
+  whole : l.bytes.items ++ words_bytes (there (drop l.value-index l.values)) ≡ l.initial.bytes.items
+      ++ words_bytes (there l.values);
 }

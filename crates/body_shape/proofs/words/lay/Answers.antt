@@ -24,6 +24,7 @@ loop-word-preserved c =
       room = omega (arith, put.len, put.capacity, size, so_far.room, within);
       len = omega (arith, put.len, size, so_far.len);
       capacity = omega (arith, put.capacity, so_far.capacity);
-      whole = push_step bytes c.extend_from_slice.new.self.items words i word _ within (get_or_default words i (pos 0) word within)
+      whole = push_step bytes c.extend_from_slice.new.self.items words i word _ within
+          (get_or_default words i (pos 0) word within)
           (put.items ∙ ap (λ more. bytes ++ more) written) so_far.whole;
     }

@@ -15,6 +15,7 @@ words-preserved g c =
     record {
       count = omega (arith, ap length c.push.ensures.items, length-append so_far (word ∷ []), c.words.invariant.count);
       whole = ap (λ words. words ++ words_in (c.args.count - (c.words.counter + 1)) behind) c.push.ensures.items
-          ∙ read_step c.args.count c.words.counter so_far word c.words.rest.now behind _ c.words-test.true read c.behind-rest-in-words.ensures
+          ∙ read_step c.args.count c.words.counter so_far word c.words.rest.now behind _ c.words-test.true read
+          c.behind-rest-in-words.ensures
           c.words.invariant.whole;
     }

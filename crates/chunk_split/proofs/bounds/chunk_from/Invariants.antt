@@ -4,7 +4,9 @@ use Rattle.chunk_split.proofs.bounds.chunk_from.Given as goal
 
 abbrev pub invariant-loop-v : goal.invariant-loop-v
 invariant-loop-v l = record {
-  reach : l.v + reach (l.need - l.sum) (drop l.v (costs_of l.machines l.table.vertices l.table.list)) ≡ l.start + reach l.need (drop l.start (costs_of l.machines l.table.vertices l.table.list));
-  sum : l.sum + sum (drop l.v (costs_of l.machines l.table.vertices l.table.list)) ≡ sum (drop l.start (costs_of l.machines l.table.vertices l.table.list));
+  reach : l.v + reach (l.need - l.sum) (drop l.v (costs_of l.machines l.table.vertices l.table.list)) ≡ l.start
+      + reach l.need (drop l.start (costs_of l.machines l.table.vertices l.table.list));
+  sum : l.sum + sum (drop l.v (costs_of l.machines l.table.vertices l.table.list))
+      ≡ sum (drop l.start (costs_of l.machines l.table.vertices l.table.list));
   small : l.sum ≤ l.v * 2 ^ 24;
 }

@@ -15,7 +15,8 @@ returns-in_err-form-clause-found c = λ form machines rest some few e.
     absurd (c.in_err-form.ensures.found form machines is)
 
 pub returns-clause-spelled : goal.returns-clause-spelled
-returns-clause-spelled c = c.in_ok-line.ensures.spelled ∙ ap (λ l. l ++ 10 ∷ c.in_ok-line.rest.now) c.in_ok-form.ensures.spelled.spelled
+returns-clause-spelled c = c.in_ok-line.ensures.spelled
+    ∙ ap (λ l. l ++ 10 ∷ c.in_ok-line.rest.now) c.in_ok-form.ensures.spelled.spelled
 
 pub returns-clause-found : goal.returns-clause-found
 returns-clause-found c = λ form machines rest some few e.

@@ -20,9 +20,12 @@ events-preserved c =
     let lines = read.lines in
     record {
       is = is_more form machines es c.push.new.self.items e kept.is read.event items;
-      spelled = schedule_more form machines held es e c.args.text.now rest behind kept.held kept.spelled read.spelled ∙ ap (λ q. schedule_text form machines q ++ behind) (sym items);
-      held = c.round_after-held.ensures ∙ (ap (λ q. round_after q e) kept.held ∙ (sym (round_more 0 es e) ∙ ap (last_round 0) (sym items)));
-      counted = count_more form machines held es e c.events.number c.in-Some-event_at.lines kept.held kept.counted lines ∙ ap (λ q. length (schedule_lines form machines q) + 1) (sym items);
+      spelled = schedule_more form machines held es e c.args.text.now rest behind kept.held kept.spelled read.spelled
+          ∙ ap (λ q. schedule_text form machines q ++ behind) (sym items);
+      held = c.round_after-held.ensures ∙ (ap (λ q. round_after q e) kept.held
+          ∙ (sym (round_more 0 es e) ∙ ap (last_round 0) (sym items)));
+      counted = count_more form machines held es e c.events.number c.in-Some-event_at.lines kept.held kept.counted
+          lines ∙ ap (λ q. length (schedule_lines form machines q) + 1) (sym items);
       fits = kept.fits;
       few = omega (arith, kept.few, less, lines);
     }

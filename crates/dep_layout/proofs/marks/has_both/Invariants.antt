@@ -4,4 +4,5 @@ use Rattle.dep_layout.specs.Judgement.{pairs_in, is_both}
 use Rattle.dep_layout.proofs.marks.has_both.Given as goal
 
 abbrev pub invariant-loop-vertex : goal.invariant-loop-vertex
-invariant-loop-vertex l = list_any is_both (drop l.vertex (take l.vertices (pairs_in l.marks))) ≡ list_any is_both (take l.vertices (pairs_in l.marks))
+invariant-loop-vertex l = list_any is_both (drop l.vertex (take l.vertices (pairs_in l.marks)))
+    ≡ list_any is_both (take l.vertices (pairs_in l.marks))

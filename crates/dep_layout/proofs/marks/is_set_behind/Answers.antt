@@ -5,4 +5,5 @@ use Rattle.dep_layout.proofs.MarkLaws.{length-pairs}
 use Rattle.dep_layout.proofs.marks.is_set_behind.Goals as goal
 
 pub returns : goal.returns
-returns c = any_end is_set (pairs_in c.args.marks.now) c.loop-vertex.vertex _ (omega (arith, length-pairs c.args.marks.now)) c.loop-vertex.invariant
+returns c = any_end is_set (pairs_in c.args.marks.now) c.loop-vertex.vertex _
+    (omega (arith, length-pairs c.args.marks.now)) c.loop-vertex.invariant

@@ -9,5 +9,9 @@ pub returns : goal.returns
 returns g c =
     let states = c.args.states.now in
     byte_at (map mark_of (states_of c.args.states.now)) c.args.vertex _ _ _ _
-    (omega (arith, length-map states (state_of {W = g.row.W}), length-map (map (state_of {W = g.row.W}) states) mark_of))
+    (omega (
+      arith,
+      length-map states (state_of {W = g.row.W}),
+      length-map (map (state_of {W = g.row.W}) states) mark_of,
+    ))
     c.bits_at.ensures.value c.bits_at-2.ensures.value c.bits_at-3.ensures.value c.bits_at-4.ensures.value

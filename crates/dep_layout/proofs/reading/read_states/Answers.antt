@@ -14,15 +14,21 @@ loop-vertex-preserved g c =
     let behind = c.read_state-state.result.1.now in
     let state = c.read_state-state.result.0 in
     let pairs = take n (pairs_in c.args.marks.now) in
-    let within : c.loop-vertex.vertex < length (take c.args.vertices (pairs_in c.args.marks.now)) = omega (arith, length-front n c.args.marks.now c.requires.marked) in
-    let pair : c.mark_with.result ≡ mark_with (get_or (take c.args.vertices (pairs_in c.args.marks.now)) c.loop-vertex.vertex 0) =
-    c.mark_with.ensures ∙ ap mark_with (c.pair_at.ensures ∙ sym (get_or-take n (pairs_in c.args.marks.now) i 0 c.loop-vertex-test.true)) in
+    let within : c.loop-vertex.vertex < length (take c.args.vertices (pairs_in c.args.marks.now)) =
+    omega (arith, length-front n c.args.marks.now c.requires.marked) in
+    let pair : c.mark_with.result ≡ mark_with
+    (get_or (take c.args.vertices (pairs_in c.args.marks.now)) c.loop-vertex.vertex 0) =
+    c.mark_with.ensures ∙ ap mark_with (c.pair_at.ensures
+    ∙ sym (get_or-take n (pairs_in c.args.marks.now) i 0 c.loop-vertex-test.true)) in
     let one = c.read_state-state.ensures.state ∙ ap (λ mark. state_with g.row.W mark rest) pair in
     let left = c.read_state-state.ensures.rest ∙ ap (λ mark. words_behind g.row.W mark rest) pair in
     let P : List ℕ → Type 0 = λ words. 8 * g.row.W * started (drop (i + 1) pairs) ≤ length words in
     record {
       room = subst P (sym left) (room_for g.row.W pairs i rest within c.loop-vertex.invariant.room).1;
-      whole = ap (λ items. map state_of items ++ states_in g.row.W (drop (i + 1) pairs) behind) c.in_ok-push.ensures.items
-          ∙ ap (λ states. states ++ states_in g.row.W (drop (i + 1) pairs) behind) (map_push state_of c.loop-vertex.states.items state)
-          ∙ state_step g.row.W pairs i (states_of c.loop-vertex.states.items) (state_of state) rest behind _ within one left c.loop-vertex.invariant.whole;
+      whole = ap (λ items. map state_of items ++ states_in g.row.W (drop (i + 1) pairs) behind)
+          c.in_ok-push.ensures.items
+          ∙ ap (λ states. states ++ states_in g.row.W (drop (i + 1) pairs) behind)
+          (map_push state_of c.loop-vertex.states.items state)
+          ∙ state_step g.row.W pairs i (states_of c.loop-vertex.states.items) (state_of state) rest behind _ within
+          one left c.loop-vertex.invariant.whole;
     }

@@ -14,8 +14,10 @@ returns-in-None-clause-found g c =
     let vertices = c.args.vertices in
     let bools = c.args.bools in
     let body = c.args.body.now in
-    let accepted : refusal_of g.row.W c.args.vertices c.args.bools c.args.body.now ≡ None = sym c.fault_of.ensures ∙ c.in-None.is in
-    let fits : AreBytes c.args.body.now = All-from_get_or (λ b. b < 256) body 0 (λ i _. omega (arith, c.type_inv.body i)) in
+    let accepted : refusal_of g.row.W c.args.vertices c.args.bools c.args.body.now ≡ None = sym c.fault_of.ensures
+    ∙ c.in-None.is in
+    let fits : AreBytes c.args.body.now = All-from_get_or (λ b. b < 256) body 0 (λ i _.
+    omega (arith, c.type_inv.body i)) in
     let spells = accepted_spells width vertices bools body fits accepted in
     let front = c.split_at.ensures.front ∙ ap (λ n. take n body) c.mark_len.ensures in
     let back = c.split_at.ensures.back ∙ ap (λ n. drop n body) c.mark_len.ensures in
@@ -34,4 +36,6 @@ returns-in-None-clause-only g c =
     let back = c.split_at.ensures.back ∙ ap (λ n. drop n body) c.mark_len.ensures in
     let here = ap (λ marks. states_in width (take vertices (pairs_in marks)) c.split_at.result.1.now) front
     ∙ ap (λ words. states_in width (take vertices (pairs_in (take (mark_len vertices) body))) words) back in
-    ok_more c.read_states.result _ (λ states. (others : List State) → Spells width vertices bools body others → others ≡ states_of states.items) (λ states same others spells. sym (read_again width vertices bools body others spells) ∙ sym (same ∙ here)) c.read_states.ensures.states
+    ok_more c.read_states.result _ (λ states. (others : List State) → Spells width vertices bools body others →
+    others ≡ states_of states.items) (λ states same others spells.
+    sym (read_again width vertices bools body others spells) ∙ sym (same ∙ here)) c.read_states.ensures.states

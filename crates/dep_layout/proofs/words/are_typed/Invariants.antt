@@ -7,5 +7,6 @@ use Rattle.dep_layout.proofs.words.are_typed.Given as goal
 abbrev pub invariant-rows : goal.invariant-rows
 invariant-rows l = record {
   room : 8 * l.width * (l.rows - l.counter) ≤ length l.rest;
-  whole : list_all (are_typed l.bools) (rows_in l.width (l.rows - l.counter) l.rest) ≡ list_all (are_typed l.bools) (rows_in l.width l.rows l.words);
+  whole : list_all (are_typed l.bools) (rows_in l.width (l.rows - l.counter) l.rest)
+      ≡ list_all (are_typed l.bools) (rows_in l.width l.rows l.words);
 }

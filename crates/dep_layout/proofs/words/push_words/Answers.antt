@@ -17,5 +17,6 @@ loop-word-preserved g c =
     let fits : FitsSigned w64 (get_or c.args.words.now.at c.loop-word.word-index (pos 0)) = search rules in
     let within : c.loop-word.word-index < length c.args.words.now.at = omega arith in
     let written = c.to_le_bytes.ensures ∙ ap word_bytes (to_z-of_z w64 word fits) in
-    push_step bytes c.extend_from_slice.new.self.items words i word _ within (get_or_default words i (pos 0) word within)
+    push_step bytes c.extend_from_slice.new.self.items words i word _ within
+    (get_or_default words i (pos 0) word within)
     (c.in_ok-extend_from_slice.ensures.items ∙ ap (λ more. bytes ++ more) written) c.loop-word.invariant

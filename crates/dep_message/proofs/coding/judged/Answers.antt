@@ -9,7 +9,8 @@ returns-in-None-fault_of-clause-accepted c =
     let bytes = c.args.bytes.now in
     let forms = forms_of c.args.part.now in
     let read = c.read-header.ensures in
-    let whole : IsWhole c.args.bytes.now = record { long = omega arith; size = omega (arith, ap (λ (h : Header). h.size) read) } in
+    let whole : IsWhole c.args.bytes.now =
+    record { long = omega arith; size = omega (arith, ap (λ (h : Header). h.size) read) } in
     refusal_of-named forms bytes c.in-Some.name whole (ap (λ (h : Header). h.name) (sym read) ∙ c.in-Some.is)
     ∙ ap (λ body. refusal_of_named forms (Some c.in-Some.name) body) (sym (behind_header bytes))
     ∙ sym c.fault_of.ensures ∙ c.in-None-fault_of.is
@@ -19,7 +20,8 @@ returns-in-Some-fault_of-clause-refused c =
     let bytes = c.args.bytes.now in
     let forms = forms_of c.args.part.now in
     let read = c.read-header.ensures in
-    let whole : IsWhole c.args.bytes.now = record { long = omega arith; size = omega (arith, ap (λ (h : Header). h.size) read) } in
+    let whole : IsWhole c.args.bytes.now =
+    record { long = omega arith; size = omega (arith, ap (λ (h : Header). h.size) read) } in
     refusal_of-named forms bytes c.in-Some.name whole (ap (λ (h : Header). h.name) (sym read) ∙ c.in-Some.is)
     ∙ ap (λ body. refusal_of_named forms (Some c.in-Some.name) body) (sym (behind_header bytes))
     ∙ sym c.fault_of.ensures ∙ c.in-Some-fault_of.is

@@ -6,4 +6,5 @@ use Rattle.dep_message.proofs.BitLaws.{length-bits}
 use Rattle.dep_message.proofs.sends.is_set_behind.Goals as goal
 
 pub returns : goal.returns
-returns c = any_end is_set (bits_in c.args.marks.now) c.loop-vertex.vertex _ (omega (arith, length-bits c.args.marks.now)) c.loop-vertex.invariant
+returns c = any_end is_set (bits_in c.args.marks.now) c.loop-vertex.vertex _
+    (omega (arith, length-bits c.args.marks.now)) c.loop-vertex.invariant

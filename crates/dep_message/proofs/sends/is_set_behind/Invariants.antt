@@ -5,4 +5,5 @@ use Rattle.body_shape.specs.Fit.{bits_in}
 use Rattle.dep_message.proofs.sends.is_set_behind.Given as goal
 
 abbrev pub invariant-loop-vertex : goal.invariant-loop-vertex
-invariant-loop-vertex l = list_any is_set (drop l.vertex (bits_in l.marks)) ≡ list_any is_set (drop l.vertices (bits_in l.marks))
+invariant-loop-vertex l = list_any is_set (drop l.vertex (bits_in l.marks))
+    ≡ list_any is_set (drop l.vertices (bits_in l.marks))

@@ -6,5 +6,6 @@ use Rattle.dep_message.proofs.sends.senders.Given as goal
 abbrev pub invariant-loop-vertex : goal.invariant-loop-vertex
 invariant-loop-vertex l = record {
   within : l.count ≤ l.vertex;
-  whole : l.count + count_by is_set (drop l.vertex (take l.vertices (bits_in l.marks))) ≡ count_by is_set (take l.vertices (bits_in l.marks));
+  whole : l.count + count_by is_set (drop l.vertex (take l.vertices (bits_in l.marks)))
+      ≡ count_by is_set (take l.vertices (bits_in l.marks));
 }

@@ -13,4 +13,5 @@ pub returns-clause-needs : goal.returns-clause-needs
 returns-clause-needs c = needs_can_be_taken
 
 pub returns-clause-round : goal.returns-clause-round
-returns-clause-round c = λ r to m x ms all. ((λ round goes. of_round_placed r to m ms round goes all), of_round_without r to x ms all)
+returns-clause-round c = λ r to m x ms all.
+    ((λ round goes. of_round_placed r to m ms round goes all), of_round_without r to x ms all)

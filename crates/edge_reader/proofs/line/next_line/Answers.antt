@@ -7,8 +7,10 @@ use Rattle.edge_reader.proofs.line.next_line.Goals as goal
 pub returns-then-is_empty-2-clause-lines : goal.returns-then-is_empty-2-clause-lines
 returns-then-is_empty-2-clause-lines c =
     let some : 0 < length c.args.bytes.now = grind (arith, common_steps) in
-    let none : length (drop c.line_len.result c.args.bytes.now) ≡ 0 = grind (arith, common_steps, c.split_at.ensures.back) in
-    rw (c.split_at.ensures.front, c.split_at.ensures.back) (lines_last c.args.bytes.now c.line_len.result some c.line_len.ensures.value none)
+    let none : length (drop c.line_len.result c.args.bytes.now) ≡ 0 =
+    grind (arith, common_steps, c.split_at.ensures.back) in
+    rw (c.split_at.ensures.front, c.split_at.ensures.back)
+    (lines_last c.args.bytes.now c.line_len.result some c.line_len.ensures.value none)
 
 pub returns-clause-lines : goal.returns-clause-lines
 returns-clause-lines c =

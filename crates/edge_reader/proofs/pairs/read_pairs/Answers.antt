@@ -12,12 +12,15 @@ loop-unit-preserved c =
     let entry = c.read_unit-entry.result in
     let size = c.unit_size-size.result in
     let count : c.len.result ≡ length front = search rules in
-    let fine : code_of None c.args.both (length front) entry ≡ None = rw (sym count) (sym c.refusal.ensures ∙ c.in_default-refusal.is) in
+    let fine : code_of None c.args.both (length front) entry ≡ None =
+    rw (sym count) (sym c.refusal.ensures ∙ c.in_default-refusal.is) in
     let left = map (entry_of_unit c.args.weighted) (units_of size c.loop-unit.rest.now) in
     let behind = map (entry_of_unit c.args.weighted) (units_of size c.in-Some.after.now) in
-    let first : left ≡ entry ∷ behind = rw c.read_unit-entry.ensures (ap (map (entry_of_unit c.args.weighted)) c.in-Some.ensures.units) in
+    let first : left ≡ entry ∷ behind = rw c.read_unit-entry.ensures
+    (ap (map (entry_of_unit c.args.weighted)) c.in-Some.ensures.units) in
     record {
-      rest = entry_added None c.args.both (at_unit size) c.loop-unit.number front more entry left behind _ first fine c.in_ok-add.ensures c.loop-unit.invariant.rest;
+      rest = entry_added None c.args.both (at_unit size) c.loop-unit.number front more entry left behind _ first fine
+          c.in_ok-add.ensures c.loop-unit.invariant.rest;
       below = below_added None c.args.both front more entry fine c.in_ok-add.ensures c.loop-unit.invariant.below;
       few = few_added None c.args.both front more entry fine c.in_ok-add.ensures c.loop-unit.invariant.few;
       place = place_next c.loop-unit.number size _ _ _ c.loop-unit.invariant.place c.in-Some.ensures.behind;

@@ -12,12 +12,14 @@ loop-entry-preserved c =
     let entry = c.in-Some.entry in
     let given = c.args.vertices in
     let count : c.len.result ≡ length front = search rules in
-    let fine : code_of given c.args.both (length front) entry ≡ None = rw (sym count) (sym c.refusal.ensures ∙ c.in_default-refusal.is) in
+    let fine : code_of given c.args.both (length front) entry ≡ None =
+    rw (sym count) (sym c.refusal.ensures ∙ c.in_default-refusal.is) in
     let left = map entry_of_line (lines_of c.loop-entry.rest.now) in
     let behind = map entry_of_line (lines_of c.in-Some.after.now) in
     let first : left ≡ entry ∷ behind = c.in-Some.ensures.entries in
     record {
-      rest = entry_added given c.args.both Line c.loop-entry.number front more entry left behind _ first fine c.in_ok-add.ensures c.loop-entry.invariant.rest;
+      rest = entry_added given c.args.both Line c.loop-entry.number front more entry left behind _ first fine
+          c.in_ok-add.ensures c.loop-entry.invariant.rest;
       below = below_added given c.args.both front more entry fine c.in_ok-add.ensures c.loop-entry.invariant.below;
       few = few_added given c.args.both front more entry fine c.in_ok-add.ensures c.loop-entry.invariant.few;
       lines = omega (arith, c.loop-entry.invariant.lines, c.in-Some.ensures.shorter);

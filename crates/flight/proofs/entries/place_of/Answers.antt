@@ -8,5 +8,7 @@ use Rattle.flight.proofs.entries.place_of.Goals as goal
 pub returns-clause-value : goal.returns-clause-value
 returns-clause-value c = λ messages.
     let x = c.args.name.now in
-    let point = c.partition_point.ensures.partitioned (λ (e : Entry). is_before e.name x) (always_returns_same _ _ _ (λ a r f k. search (rules, of_calls))) (parted messages x c.args.entries.now (c.requires messages)) in
+    let point = c.partition_point.ensures.partitioned (λ (e : Entry). is_before e.name x)
+    (always_returns_same _ _ _ (λ a r f k. search (rules, of_calls)))
+    (parted messages x c.args.entries.now (c.requires messages)) in
     point_is messages x c.args.entries.now c.partition_point.result c.partition_point.ensures.bound point

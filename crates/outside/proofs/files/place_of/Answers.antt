@@ -13,6 +13,8 @@ loop-at-preserved c =
     let other : bytes_eq (string_bytes pair.0) c.args.name.now ≡ false = cc in
     record {
       within = omega (arith, c.loop-at-test.true);
-      named = next_named files at (record { name = string_bytes pair.0; bytes = pair.1.items }) c.args.name.now here other ∙ c.loop-at.invariant.named;
-      others = λ bytes. next_others files at (record { name = string_bytes pair.0; bytes = pair.1.items }) c.args.name.now bytes here other ∙ c.loop-at.invariant.others bytes;
+      named = next_named files at (record { name = string_bytes pair.0; bytes = pair.1.items }) c.args.name.now here
+          other ∙ c.loop-at.invariant.named;
+      others = λ bytes. next_others files at (record { name = string_bytes pair.0; bytes = pair.1.items })
+          c.args.name.now bytes here other ∙ c.loop-at.invariant.others bytes;
     }

@@ -6,7 +6,8 @@ abbrev pub invariant-loop-at : goal.invariant-loop-at
 invariant-loop-at l = record {
   within : l.at ≤ length l.files;
   named : file_named l.name (drop l.at (files_of l.files)) ≡ file_named l.name (files_of l.files);
-  others : (bytes : List ℕ) → take l.at (files_of l.files) ++ with_file l.name bytes (drop l.at (files_of l.files)) ≡ with_file l.name bytes (files_of l.files);
+  others : (bytes : List ℕ) → take l.at (files_of l.files) ++ with_file l.name bytes (drop l.at (files_of l.files))
+      ≡ with_file l.name bytes (files_of l.files);
 }
 
 abbrev pub decreases-loop-at : goal.decreases-loop-at

@@ -4,8 +4,10 @@ use Rattle.outside.proofs.pieces.next_place.Given as goal
 
 abbrev pub invariant-loop-at : goal.invariant-loop-at
 invariant-loop-at l = record {
-  bytes : (size : ℕ) → first_bytes size (unread l.at l.given (contents l.pieces)) ≡ first_bytes size (unread l.initial.at l.initial.given (contents l.pieces));
-  rest : (size : ℕ) → without_first size (unread l.at l.given (contents l.pieces)) ≡ without_first size (unread l.initial.at l.initial.given (contents l.pieces));
+  bytes : (size : ℕ) → first_bytes size (unread l.at l.given (contents l.pieces))
+      ≡ first_bytes size (unread l.initial.at l.initial.given (contents l.pieces));
+  rest : (size : ℕ) → without_first size (unread l.at l.given (contents l.pieces))
+      ≡ without_first size (unread l.initial.at l.initial.given (contents l.pieces));
 }
 
 abbrev pub decreases-loop-at : goal.decreases-loop-at

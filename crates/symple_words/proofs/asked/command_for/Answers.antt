@@ -12,6 +12,7 @@ returns c =
     let bare = ap app_of_fields c.disable_help_flag-bare.ensures
     ∙ ap (on_top (λ s. record s { disable_help_flag = true })) c.new.ensures.app in
     IfOk-weaker c.with_flags.result _ _
-    (λ r h. built_up c.args.name.now (map positional_rule (texts f.positionals.now)) (map option_rule (texts f.options.now)) (map flag_rule (texts f.flags.now))
+    (λ r h. built_up c.args.name.now (map positional_rule (texts f.positionals.now))
+    (map option_rule (texts f.options.now)) (map flag_rule (texts f.flags.now))
     _ _ _ _ bare c.in_ok-placed.ensures c.in_ok-chosen.ensures h)
     c.with_flags.ensures

@@ -7,4 +7,5 @@ use Rattle.symple_words.proofs.asked.with_flags.Goals as goal
 pub loop-name-preserved : goal.loop-name-preserved
 loop-name-preserved c =
     let is : rule_of c.action-arg.result ≡ flag_rule c.new.result.id.now = search rules in
-    one_more flag_rule _ _ _ c.args.names.now c.loop-name.name-index (record { ref_ptr = (0, 0); now = [] }) _ c.loop-name-test.true (search rules) (c.in_ok-command.ensures.shape (search rules)) c.loop-name.invariant
+    one_more flag_rule _ _ _ c.args.names.now c.loop-name.name-index (record { ref_ptr = (0, 0); now = [] }) _
+    c.loop-name-test.true (search rules) (c.in_ok-command.ensures.shape (search rules)) c.loop-name.invariant

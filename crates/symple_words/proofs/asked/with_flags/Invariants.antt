@@ -5,4 +5,5 @@ use Rattle.symple_words.specs.Views.{texts}
 use Rattle.symple_words.proofs.asked.with_flags.Given as goal
 
 abbrev pub invariant-loop-name : goal.invariant-loop-name
-invariant-loop-name l = app_with (app_of l.command) (map flag_rule (texts (drop l.name-index l.names))) ≡ app_with (app_of l.initial.command) (map flag_rule (texts l.names))
+invariant-loop-name l = app_with (app_of l.command) (map flag_rule (texts (drop l.name-index l.names)))
+    ≡ app_with (app_of l.initial.command) (map flag_rule (texts l.names))

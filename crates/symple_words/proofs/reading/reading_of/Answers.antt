@@ -22,7 +22,8 @@ invariant_of-result c =
     let found = (c.in-Ok.ensures.matches (ap is_simple app ∙ simple_for program f form)).0 in
     record {
       reads = subst (λ behind. ReadsAs f (words_of behind) c.in-Ok.matches) (sym (behind_first words))
-          (reads_as program f words c.in-Ok.matches form c.requires.some right (found ∙ ap (λ a. matches_of a (words_of words)) app));
+          (reads_as program f words c.in-Ok.matches form c.requires.some right
+          (found ∙ ap (λ a. matches_of a (words_of words)) app));
     }
 
 pub returns-in-Ok-clause-words : goal.returns-in-Ok-clause-words
@@ -35,6 +36,7 @@ returns-clause-refused c =
     let form : is_form f ≡ true = ap is_form c.form_for-form.ensures ∙ forms_right c.args.verb in
     let right = right_spelling f words c.in_ok-is_spelt.field-0 c.in_ok-is_spelt.ensures c.if-not-branch.false in
     let app : app_of c.in_ok-command.command ≡ app_for program f = c.in_ok-command.ensures in
-    let memory = c.in-Err.ensures.passes (ap (λ a. takes a (words_of words)) app ∙ taken program f words form c.requires.some right) in
+    let memory = c.in-Err.ensures.passes (ap (λ a. takes a (words_of words)) app
+    ∙ taken program f words form c.requires.some right) in
     let same = rw (c.kind.ensures ∙ memory) at c.eq.ensures in
     absurd (true≢false (sym same ∙ c.if-eq.false))

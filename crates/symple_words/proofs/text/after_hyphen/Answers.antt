@@ -6,4 +6,6 @@ use Rattle.std.proofs.Common.{◌∙◌}
 use Rattle.symple_words.proofs.text.after_hyphen.Goals as goal
 
 pub returns : goal.returns
-returns c = strip_byte-from 45 c.args.word.now c.strip_prefix.result (strip_prefix_char 45 c.args.word.now c.strip_prefix.result c.strip_prefix.ensures.cases (omega arith)) ∙ same_hyphen c.args.word.now
+returns c = strip_byte-from 45 c.args.word.now c.strip_prefix.result
+    (strip_prefix_char 45 c.args.word.now c.strip_prefix.result c.strip_prefix.ensures.cases (omega arith))
+    ∙ same_hyphen c.args.word.now

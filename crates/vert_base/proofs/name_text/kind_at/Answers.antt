@@ -12,4 +12,5 @@ pub returns-in_err-rest-clause-found : goal.returns-in_err-rest-clause-found
 returns-in_err-rest-clause-found c = λ kind rest e.
     let found = c.in_ok-kind.ensures kind (sym (first_letter kind rest) ∙ ap (λ t. get_or t 0 0) (sym e)) in
     let same : c.in_ok-kind.kind ≡ kind = cc in
-    absurd (word_there c.args.text.now c.word.result.now kind rest e (c.word.ensures ∙ ap kind_text same) c.in_err-rest.ensures.cases)
+    absurd (word_there c.args.text.now c.word.result.now kind rest e (c.word.ensures ∙ ap kind_text same)
+    c.in_err-rest.ensures.cases)

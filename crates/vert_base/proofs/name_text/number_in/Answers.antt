@@ -7,10 +7,12 @@ use Rattle.vert_base.proofs.name_text.number_in.Goals as goal
 pub returns-then-is_empty-clause-found : goal.returns-then-is_empty-clause-found
 returns-then-is_empty-clause-found c = λ number small e.
     elim c.then-is_empty.branch [
-      | then-is_empty-via-then-is_empty w ↦ absurd (no_decimal _ number small e (grind (arith, nat_tests, w.if-is_empty.ensures)))
+      | then-is_empty-via-then-is_empty w ↦ absurd
+          (no_decimal _ number small e (grind (arith, nat_tests, w.if-is_empty.ensures)))
       | then-is_empty-via-else-is_empty+then-word-eq48 w ↦
           elim w.if-word-gt1.branch [
-            | then-word-gt1 v ↦ absurd (no_zeros _ number small e v.if-word-gt1.true (grind (arith, nat_tests, v.value-is, w.if-word-eq48.true)))
+            | then-word-gt1 v ↦ absurd (no_zeros _ number small e v.if-word-gt1.true
+                (grind (arith, nat_tests, v.value-is, w.if-word-eq48.true)))
             | else-word-gt1 v ↦ grind (arith, v.value-is, w.if-word-eq48.true)
           ]
     ]

@@ -16,7 +16,16 @@ returns-then-value-from-clause-found c = λ all small.
     let more = digits_value_more 10 c.args.word.now c.digits.byte-index c.digits-test.true in
     let most = digits_value-take-le 10 c.args.word.now (c.digits.byte-index + 1) (omega arith) in
     let digit = digit_value_digit _ (digit_at c.args.word.now c.digits.byte-index all c.digits-test.true) in
-    absurd (omega (arith, more, most, digit, c.digits.invariant.passed, c.from.ensures, c.from-in-digits.ensures, c.if-value-from.true))
+    absurd (omega (
+      arith,
+      more,
+      most,
+      digit,
+      c.digits.invariant.passed,
+      c.from.ensures,
+      c.from-in-digits.ensures,
+      c.if-value-from.true,
+    ))
 
 pub digits-preserved : goal.digits-preserved
 digits-preserved c =
@@ -25,6 +34,7 @@ digits-preserved c =
     let digit = digit_value_digit (get_or c.args.word.now c.digits.byte-index 0) tests.cases in
     record {
       within = omega (arith, c.from-in-digits.ensures, c.if-value-from.false);
-      digits = digits_more 10 c.args.word.now c.digits.byte-index c.digits-test.true c.digits.invariant.digits tests.bound;
+      digits = digits_more 10 c.args.word.now c.digits.byte-index c.digits-test.true c.digits.invariant.digits
+          tests.bound;
       passed = omega (arith, more, digit, c.digits.invariant.passed, c.from.ensures);
     }

@@ -13,12 +13,16 @@ pub invariant_of-result : goal.invariant_of-result
 invariant_of-result g c =
     let answer = non_decreasing_from_is_sorted c.args.ends.now c.is_sorted.result c.is_sorted.ensures.cases in
     let some : 1 ≤ length c.args.ends.now = search rules in
-    let are : AreEnds g.row.CAP c.args.ends.now = rise_stands g.row.CAP c.args.ends.now c.is_sorted.result c.if-not-is_sorted.false answer some c.in-Ok.ensures.1 in
+    let are : AreEnds g.row.CAP c.args.ends.now =
+    rise_stands g.row.CAP c.args.ends.now c.is_sorted.result c.if-not-is_sorted.false answer some
+    c.in-Ok.ensures.1 in
     (subst (λ (xs : List ℕ). AreEnds g.row.CAP xs) (sym c.in-Ok.ensures.0) are, c.requires)
 
 pub returns-in-Ok-clause-some : goal.returns-in-Ok-clause-some
 returns-in-Ok-clause-some g c =
     let answer = non_decreasing_from_is_sorted c.args.ends.now c.is_sorted.result c.is_sorted.ensures.cases in
     let some : 1 ≤ length c.args.ends.now = search rules in
-    let are : AreEnds g.row.CAP c.args.ends.now = rise_stands g.row.CAP c.args.ends.now c.is_sorted.result c.if-not-is_sorted.false answer some c.in-Ok.ensures.1 in
+    let are : AreEnds g.row.CAP c.args.ends.now =
+    rise_stands g.row.CAP c.args.ends.now c.is_sorted.result c.if-not-is_sorted.false answer some
+    c.in-Ok.ensures.1 in
     (λ _. are, λ _. refl)

@@ -5,4 +5,9 @@ use Rattle.flat_table.proofs.grid.Grid.row.Goals as goal
 
 pub row_in-requires-clause-place : goal.row_in-requires-clause-place
 row_in-requires-clause-place g c =
-    omega (arith, ap (λ v. length v.rows) c.self.view_is, length-rows_of c.self.inside.width c.self.inside.count c.self.inside.cells.items, c.requires)
+    omega (
+      arith,
+      ap (λ v. length v.rows) c.self.view_is,
+      length-rows_of c.self.inside.width c.self.inside.count c.self.inside.cells.items,
+      c.requires,
+    )
