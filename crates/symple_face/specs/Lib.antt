@@ -5,3 +5,6 @@ pub mod Plans
 pub mod Shapes
 pub mod PartViews
 pub mod Planned
+pub mod State
+pub mod Work
+pub mod Sight
