@@ -5,6 +5,7 @@ pub mod Plans
 pub mod Shapes
 pub mod PartViews
 pub mod Planned
+pub mod Ring
 pub mod State
 pub mod Work
 pub mod Sight
