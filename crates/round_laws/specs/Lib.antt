@@ -1,0 +1,3 @@
+pub mod DenseRound
+pub mod Lets
+pub mod Steps
