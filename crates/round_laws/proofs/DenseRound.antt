@@ -2,7 +2,7 @@
 use Rattle.std.proofs.Common.{◌≡◌, ◌<◌, ◌+◌, ℕ, suc, ℤ, List, [], ◌∷◌, ◌++◌, map, filter, refl, sym, ap, ◌∙◌, arith}
 use Rattle.std.specs.Prelude.{◌==◌, option_to_list, if◌then◌else◌}
 use Rattle.std.specs.List.{flat_map, range_with_len}
-use Rattle.std.proofs.lemmas.Bool.{eq-eqb, ne_eqb}
+use Rattle.std.proofs.lemmas.Bool.{eq-eqb}
 use Rattle.std.proofs.lemmas.List.{map-append}
 use Rattle.std.proofs.lemmas.List.Elements.{filter-append}
 use Rattle.vert_base.specs.declared.graph.Edge.{Edge}
@@ -15,10 +15,11 @@ use Rattle.vert_eval.specs.declared.environment.Env.{Env}
 use Rattle.vert_eval.specs.Rounds.{dense_block, dense_part, env_at, members_of, no_values, slot_ops}
 use Rattle.vert_eval.specs.Runs.{Ran, leaves, run}
 use Rattle.circulant_plan.specs.Ring.{members_by_steps}
-use Rattle.circulant_plan.proofs.ReadingLaws.{reads_in_turn}
+use Rattle.circulant_plan.proofs.ReadingLaws.{not_below, reads_in_turn}
+use Rattle.circulant_plan.proofs.SpanLaws.{is_below}
 use Rattle.instrument.specs.Continued.{whole}
-use Rattle.symple_face.specs.Ring.{dense_bucket, machine_ran}
-use Rattle.round_laws.specs.DenseRound.{RoundByMachines}
+use Rattle.symple_face.specs.Ring.{machine_ran}
+use Rattle.round_laws.specs.DenseRound.{RoundByMachines, dense_bucket}
 use Rattle.round_laws.proofs.Ranges.{joined_more, same_below}
 use Rattle.round_laws.proofs.Steps.{by_machines}
 
@@ -59,9 +60,11 @@ round_by_machines program d s p c v split test are within lies op slot q filled 
     reads_in_turn s.graph.vertices p c v s.graph.ends s.graph.edges are within lies in
     let by_steps : looped.emitted ≡ flat_map emits steps =
     ap (λ l. (whole s d env l).emitted) (sym order) ∙ (by_machines s d env program split s.graph.ends p c p ins).emitted in
-    let last : bucket p ≡ tail = ap (λ b. if b then tail else combines p) (eq-eqb p p refl) in
+    let last : bucket p ≡ tail =
+    ap (λ b. if b then combines p else if p == p then tail else []) (not_below p p (omega arith))
+    ∙ ap (λ b. if b then tail else []) (eq-eqb p p refl) in
     let below : flat_map bucket steps ≡ flat_map combines steps =
-    same_below bucket combines p (λ k lt. ap (λ b. if b then tail else combines k) (ne_eqb k p (λ e. omega arith))) in
+    same_below bucket combines p (λ k lt. ap (λ b. if b then combines k else if k == p then tail else []) (is_below k p lt)) in
     let there : dense_part s program.dense all env ≡ dense_block s d all env =
     ap (λ o. dense_part s o all env) split.dense ∙ ap (λ b. if b then dense_block s d all env else leaves env) test in
     has_value op bucket (p + 1) q filled
