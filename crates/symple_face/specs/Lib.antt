@@ -5,3 +5,4 @@ pub mod Plans
 pub mod Shapes
 pub mod PartViews
 pub mod Planned
+pub mod Ring
