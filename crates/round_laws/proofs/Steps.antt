@@ -37,13 +37,24 @@ none_handed false true carry is = cc
 none_handed false false carry is = (refl, refl)
 
 -- where no let is carried there are no words to hand on
-no_words : (cs : List Class) → nat_lt 0 (carried_in cs) ≡ false → (words : List ℤ) → carried_words cs words ≡ []
+pub no_words : (cs : List Class) → nat_lt 0 (carried_in cs) ≡ false → (words : List ℤ) → carried_words cs words ≡ []
 no_words [] none words = refl
 no_words (c ∷ cs) none [] = refl
 no_words (Constant ∷ cs) none (x ∷ xs) = no_words cs none xs
 no_words (Reduced op ∷ cs) none (x ∷ xs) = no_words cs none xs
 no_words (Carried ∷ cs) none (x ∷ xs) =
     let some : nat_lt 0 (suc (carried_in cs)) ≡ true = refl in cc
+
+-- a loop without a carry has no break and carries no let
+unbroken_free : (d : Dense) → (loop_split d).carry ≡ None →
+    (has_break (body_marks d.body.items) ≡ false) × (nat_lt 0 (carried_in (loop_split d).classes.locals.items) ≡ false)
+unbroken_free d free =
+    let many : ℕ = carried_in (loop_split d).classes.locals.items in
+    none_handed (has_break (body_marks d.body.items)) (nat_lt 0 many) (record { words = many }) free
+
+pub unhanded : (d : Dense) → (loop_split d).carry ≡ None →
+    nat_lt 0 (carried_in (loop_split d).classes.locals.items) ≡ false
+unhanded d free = (unbroken_free d free).1
 
 module _ (s : Scene) (d : Dense) (env : Env) (p : Program) (h : IsSplit p d env) where
   abbrev cs : List Class
@@ -130,13 +141,10 @@ module _ (s : Scene) (d : Dense) (env : Env) (p : Program) (h : IsSplit p d env)
 
   module _ (free : (loop_split d).carry ≡ None) where
     unbroken : has_break (body_marks d.body.items) ≡ false
-    unbroken = (none_handed (has_break (body_marks d.body.items)) (nat_lt 0 (carried_in cs))
-        (record { words = carried_in cs }) free).0
+    unbroken = (unbroken_free d free).0
 
     wordless : (words : List ℤ) → carried_words cs words ≡ []
-    wordless = no_words cs
-        (none_handed (has_break (body_marks d.body.items)) (nat_lt 0 (carried_in cs))
-        (record { words = carried_in cs }) free).1
+    wordless = no_words cs (unhanded d free)
 
     -- a segment that received no words begins as one that received nothing
     none_received : begun (loop_split d) d.lets.items (Some []) env ≡ begun (loop_split d) d.lets.items None env
