@@ -56,7 +56,7 @@ use Rattle.round_laws.specs.Scans.{ring_after, sent_of, width_of}
 use Rattle.round_laws.specs.Seen.{SeesScene, SeesVertex}
 use Rattle.round_laws.proofs.DenseRound.{round_words}
 use Rattle.round_laws.proofs.Lets.{lets_by_machines}
-use Rattle.round_laws.proofs.Partials.{behind_at, filled_first, filled_rest, slot_at, slot_values_filled}
+use Rattle.round_laws.proofs.Partials.{behind_at, filled_behind, filled_first, slot_value_at, slots_filled}
 use Rattle.round_laws.proofs.Ranges.{joined_more, same_below}
 use Rattle.round_laws.proofs.Readable.{tail_read}
 use Rattle.round_laws.proofs.Seen.{seen_environment}
@@ -77,13 +77,14 @@ closing_own (Reduced op ∷ cs) (o ∷ own) (t ∷ came) e =
 -- where no let is carried, the words handed on don't count
 closing_free : (cs : List Class) (own xs ys : List ℤ) (came : List (Option ℤ)) → nat_lt 0 (carried_in cs) ≡ false →
     closing cs own xs came ≡ closing cs own ys came
-closing_free [] own xs ys came none = refl
-closing_free (c ∷ cs) [] xs ys came none = refl
-closing_free (Constant ∷ cs) (o ∷ own) xs ys came none = ap (λ l. o ∷ l) (closing_free cs own xs ys came none)
-closing_free (Carried ∷ cs) (o ∷ own) xs ys came none = let some : nat_lt 0 (suc (carried_in cs)) ≡ true = refl in cc
-closing_free (Reduced op ∷ cs) (o ∷ own) xs ys [] none = ap (λ l. o ∷ l) (closing_free cs own xs ys [] none)
-closing_free (Reduced op ∷ cs) (o ∷ own) xs ys (t ∷ came) none =
-    ap (λ l. with_operand op o t ∷ l) (closing_free cs own xs ys came none)
+closing_free [] own xs ys came free = refl
+closing_free (c ∷ cs) [] xs ys came free = refl
+closing_free (Constant ∷ cs) (o ∷ own) xs ys came free = ap (λ l. o ∷ l) (closing_free cs own xs ys came free)
+closing_free (Carried ∷ cs) (o ∷ own) xs ys came free =
+    let some : nat_lt 0 (suc (carried_in cs)) ≡ true = is_below 0 (suc (carried_in cs)) (omega arith) in cc
+closing_free (Reduced op ∷ cs) (o ∷ own) xs ys [] free = ap (λ l. o ∷ l) (closing_free cs own xs ys [] free)
+closing_free (Reduced op ∷ cs) (o ∷ own) xs ys (t ∷ came) free =
+    ap (λ l. with_operand op o t ∷ l) (closing_free cs own xs ys came free)
 
 -- a loop that has begun tells its words
 words_told : (width : ℕ) (flow : Flow) (words : List ℤ) →
@@ -219,10 +220,10 @@ module _ (split : Split) (d : Dense) (g : Sight) (s : Scene) (p c v : ℕ)
         values_of (drop (slot_count split) ps) ≡ operands_by_steps s d env s.graph.ends p c ins p
     operands_are ps filled =
         let slots : List Combine = slot_ops (program_of split) in
-        let many : length slots ≡ slot_count split = length-map (λ x. x.op) (program_of split).slots.items in
+        let many : length slots ≡ slot_count split = length-map (program_of split).slots.items (λ x. x.op) in
         let rest : AreFilled (length slots) (reduced_ops cs) buckets (p + 1) (drop (length slots) ps) =
         subst (λ l. AreFilled (length slots) (reduced_ops l) buckets (p + 1) (drop (length slots) ps)) classes_are
-        (filled_rest 0 slots (reduced_ops (classes_of split.dense)) buckets (p + 1) ps filled) in
+        (filled_behind slots (reduced_ops (classes_of split.dense)) buckets (p + 1) ps filled) in
         let each : (j k : ℕ) → buckets (length slots + j) k ≡
         (if nat_lt k p then option_to_list (slice_index_or (operands (places_where is_reduced 0 cs) (steps k).env) j None) else []) =
         λ j k. ap (λ xs. if nat_lt k p then xs else [])
@@ -300,7 +301,7 @@ module _ (split : Split) (d : Dense) (g : Sight) (s : Scene) (p c v : ℕ)
           slot_values 0 (slot_ops (program_of split)) (gathered (program_of split) ruling.Dense s v).emitted
       values_are ps filled =
           let slots : List Combine = slot_ops (program_of split) in
-          let many : length slots ≡ slot_count split = length-map (λ x. x.op) (program_of split).slots.items in
+          let many : length slots ≡ slot_count split = length-map (program_of split).slots.items (λ x. x.op) in
           let tail : List Emission = (run d.tail.items (tail_env split d seen ps st)).emitted in
           let qs : List Partial = with_emissions p ps tail in
           let more : ℕ → ℕ → List ℤ = λ place. with_more (buckets place) p (words_for place tail) in
@@ -308,12 +309,12 @@ module _ (split : Split) (d : Dense) (g : Sight) (s : Scene) (p c v : ℕ)
           filled_first 0 slots (reduced_ops (classes_of split.dense)) more (p + 1) qs
           (fills_emissions (partial_ops split) buckets (p + 1) p tail ps (omega arith) filled) in
           ap (λ n. values_of (take n qs)) (sym many)
-          ∙ slot_values_filled 0 slots more (p + 1) (gathered (program_of split) ruling.Dense s v).emitted (take (length slots) qs)
+          ∙ slots_filled slots more (p + 1) (gathered (program_of split) ruling.Dense s v).emitted (take (length slots) qs)
           first (λ j op is.
           let words : ℕ → List ℤ = λ k. option_to_list (combined op (words_for j (steps k).emitted)) in
           let at : (k : ℕ) → k < p → buckets j k ≡ words k =
           λ k lt. ap (λ b. if b then sent_words (sent_of split d (ran k)) j else []) (is_below k p lt)
-          ∙ ap option_to_list (slot_at 0 slots (ran k).emitted (operands (loop_split d).reduced.items (ran k).env) j op is
+          ∙ ap option_to_list (slot_value_at slots (ran k).emitted (operands (loop_split d).reduced.items (ran k).env) j op is
           ∙ ap (λ r. combined op (words_for j r.emitted)) (runs k)) in
           let below : (k : ℕ) → k < p → more j k ≡ words k =
           λ k lt. ap (λ b. if b then buckets j k ++ words_for j tail else buckets j k) (ne_eqb p k (λ e. omega arith)) ∙ at k lt in
@@ -334,16 +335,16 @@ module _ (split : Split) (d : Dense) (g : Sight) (s : Scene) (p c v : ℕ)
         slot_values 0 (slot_ops (program_of split)) (gathered (program_of split) ruling.Dense s v).emitted
     idle_values ps filled =
         let slots : List Combine = slot_ops (program_of split) in
-        let many : length slots ≡ slot_count split = length-map (λ x. x.op) (program_of split).slots.items in
+        let many : length slots ≡ slot_count split = length-map (program_of split).slots.items (λ x. x.op) in
         let there : dense_part s (program_of split).dense members env ≡ leaves env =
         ap (λ o. dense_part s o members env) h.dense ∙ ap (λ b. if b then dense_block s d members env else leaves env) test in
         ap (λ n. values_of (take n ps)) (sym many)
-        ∙ slot_values_filled 0 slots buckets (p + 1) (gathered (program_of split) ruling.Dense s v).emitted (take (length slots) ps)
+        ∙ slots_filled slots buckets (p + 1) (gathered (program_of split) ruling.Dense s v).emitted (take (length slots) ps)
         (filled_first 0 slots (reduced_ops (classes_of split.dense)) buckets (p + 1) ps filled)
         (λ j op is.
         let none_at : (k : ℕ) → k < p → buckets j k ≡ [] =
         λ k lt. ap (λ b. if b then sent_words (sent_of split d (ran k)) j else []) (is_below k p lt)
-        ∙ ap option_to_list (slot_at 0 slots (ran k).emitted (operands (loop_split d).reduced.items (ran k).env) j op is
+        ∙ ap option_to_list (slot_value_at slots (ran k).emitted (operands (loop_split d).reduced.items (ran k).env) j op is
         ∙ ap (λ r. combined op (words_for j r.emitted)) (idle k)) in
         let last : buckets j p ≡ [] =
         ap (λ b. if b then sent_words (sent_of split d (ran p)) j else []) (not_below p p (omega arith)) in

@@ -168,7 +168,7 @@ closed_still (Reduced op ∷ cs) (o ∷ own) (x ∷ xs) (t ∷ ts) came place no
     closed_still cs own xs ts came (place + 1) none h.1)
 
 -- where nothing is marked there is no operand
-unmarked_none : (env : Env) (place : ℕ) → env.touched ≡ 0 → operand_at place env ≡ None
+pub unmarked_none : (env : Env) (place : ℕ) → env.touched ≡ 0 → operand_at place env ≡ None
 unmarked_none env place unmarked =
     let none : bit_at 0 place ≡ 0 = omega arith in
     ap (λ m. operand (bit_at m place) (word_at env.locals.items place)) unmarked
@@ -208,7 +208,8 @@ module _ (s : Scene) (d : Dense) (env : Env) (p : Program) (h : IsSplit p d env)
       (closed_more cs own (w a).env.locals.items part.env.locals.items ts (λ place. operand_at place part.env) 0
       c (left d env p h s a) (subst (AreLeft cs own) same.locals (left d env p h s (a ++ (e ∷ es))))
       (λ j op is. left_by op (bit_at part.env.touched j) (word_at part.env.locals.items j)
-      (λ clear. neutrals d env s received (e ∷ es) j op is clear)))
+      (λ clear. neutrals d env s received (e ∷ es) j op is clear)
+      ∙ (let here : j ≡ 0 + j = omega arith in ap (λ k. left_with op (operand_at k part.env)) here)))
 
   still : (a : List Edge) (ts : List (Option ℤ)) → Closed a ts →
       Closed a (merged cs ts (each_operand (λ place. operand_at place env) 0 cs))

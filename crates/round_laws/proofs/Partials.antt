@@ -68,7 +68,9 @@ pub fills_sent : FillsSent
 fills_sent ops buckets bound key sent qs lt are =
     fills_values 0 ops buckets
     (λ place. option_to_list (slice_index_or (sent.values ++ sent.operands) place None)) bound key
-    (sent.values ++ sent.operands) qs lt (λ j. refl) are
+    (sent.values ++ sent.operands) qs lt
+    (λ j. let here : 0 + j ≡ j = omega arith in ap (λ k. option_to_list (slice_index_or (sent.values ++ sent.operands) k None)) here)
+    are
 
 -- ---- partials in two parts
 pub filled_first : (at : ℕ) (ops more : List Combine) (buckets : ℕ → ℕ → List ℤ) (bound : ℕ) (qs : List Partial) →
@@ -78,7 +80,7 @@ filled_first at (op ∷ ops) more buckets bound [] are = absurd are
 filled_first at (op ∷ ops) more buckets bound (q ∷ qs) are =
     (are.0, filled_first (at + 1) ops more buckets bound qs are.1)
 
-pub filled_rest : (at : ℕ) (ops more : List Combine) (buckets : ℕ → ℕ → List ℤ) (bound : ℕ) (qs : List Partial) →
+filled_rest : (at : ℕ) (ops more : List Combine) (buckets : ℕ → ℕ → List ℤ) (bound : ℕ) (qs : List Partial) →
     AreFilled at (ops ++ more) buckets bound qs → AreFilled (at + length ops) more buckets bound (drop (length ops) qs)
 filled_rest at [] more buckets bound qs are =
     let here : at + 0 ≡ at = omega arith in
@@ -90,7 +92,7 @@ filled_rest at (op ∷ ops) more buckets bound (q ∷ qs) are =
     (filled_rest (at + 1) ops more buckets bound qs are.1)
 
 -- the values of partials whose buckets together have what was emitted to their slots
-pub slot_values_filled : (at : ℕ) (ops : List Combine) (buckets : ℕ → ℕ → List ℤ) (bound : ℕ) (es : List Emission)
+slot_values_filled : (at : ℕ) (ops : List Combine) (buckets : ℕ → ℕ → List ℤ) (bound : ℕ) (es : List Emission)
     (qs : List Partial) → AreFilled at ops buckets bound qs →
     ((j : ℕ) (op : Combine) → slice_get ops j ≡ Some op →
     combined op (flat_map (buckets (at + j)) (range_with_len 0 bound)) ≡ combined op (words_for (at + j) es)) →
@@ -112,7 +114,7 @@ slot_values_filled at (op ∷ ops) buckets bound es (q ∷ qs) are each =
     (each (suc j) other is)))
 
 -- what stands at the place of a slot
-pub slot_at : (at : ℕ) (ops : List Combine) (es : List Emission) (more : List (Option ℤ)) (j : ℕ) (op : Combine) →
+slot_at : (at : ℕ) (ops : List Combine) (es : List Emission) (more : List (Option ℤ)) (j : ℕ) (op : Combine) →
     slice_get ops j ≡ Some op → slice_index_or (slot_values at ops es ++ more) j None ≡ combined op (words_for (at + j) es)
 slot_at at [] es more j op is = cc
 slot_at at (o ∷ ops) es more zero op is =
@@ -130,4 +132,30 @@ behind_at [] ys n j is =
     let on : n + j ≡ j = omega arith in
     ap (λ k. slice_index_or ys k None) on
 behind_at (x ∷ xs) ys zero j is = absurd (omega arith)
-behind_at (x ∷ xs) ys (suc n) j is = behind_at xs ys n j (omega arith)
+behind_at (x ∷ xs) ys (suc n) j is =
+    let on : suc n + j ≡ suc (n + j) = omega arith in
+    ap (λ k. slice_index_or (x ∷ (xs ++ ys)) k None) on ∙ behind_at xs ys n j (omega arith)
+
+-- ---- the same from the first slot on
+pub filled_behind : (ops more : List Combine) (buckets : ℕ → ℕ → List ℤ) (bound : ℕ) (qs : List Partial) →
+    AreFilled 0 (ops ++ more) buckets bound qs → AreFilled (length ops) more buckets bound (drop (length ops) qs)
+filled_behind ops more buckets bound qs are =
+    let here : 0 + length ops ≡ length ops = omega arith in
+    subst (λ n. AreFilled n more buckets bound (drop (length ops) qs)) here (filled_rest 0 ops more buckets bound qs are)
+
+pub slots_filled : (ops : List Combine) (buckets : ℕ → ℕ → List ℤ) (bound : ℕ) (es : List Emission) (qs : List Partial) →
+    AreFilled 0 ops buckets bound qs →
+    ((j : ℕ) (op : Combine) → slice_get ops j ≡ Some op →
+    combined op (flat_map (buckets j) (range_with_len 0 bound)) ≡ combined op (words_for j es)) →
+    map (λ q. q.value) qs ≡ slot_values 0 ops es
+slots_filled ops buckets bound es qs are each =
+    slot_values_filled 0 ops buckets bound es qs are
+    (λ j op is. let here : j ≡ 0 + j = omega arith in
+    subst (λ k. combined op (flat_map (buckets k) (range_with_len 0 bound)) ≡ combined op (words_for k es)) here
+    (each j op is))
+
+pub slot_value_at : (ops : List Combine) (es : List Emission) (more : List (Option ℤ)) (j : ℕ) (op : Combine) →
+    slice_get ops j ≡ Some op → slice_index_or (slot_values 0 ops es ++ more) j None ≡ combined op (words_for j es)
+slot_value_at ops es more j op is =
+    let here : 0 + j ≡ j = omega arith in
+    slot_at 0 ops es more j op is ∙ ap (λ k. combined op (words_for k es)) here

@@ -15,6 +15,7 @@ use Rattle.vert_eval.specs.declared.environment.Flow.TheVariants.{Going, Broke}
 use Rattle.vert_eval.specs.Rounds.{Scene, loop}
 use Rattle.vert_eval.specs.Runs.{Ran}
 use Rattle.circulant_plan.specs.Ring.{members_by_steps, members_with, order_of}
+use Rattle.circulant_plan.proofs.SpanLaws.{is_below}
 use Rattle.instrument.specs.Continued.{IsSplit, SameOutcome, segment, whole, with_segment}
 use Rattle.instrument.specs.Loops.{loop_split}
 use Rattle.instrument.specs.Segments.{begun, carried_words, given, only_lets, own_words}
@@ -43,7 +44,7 @@ no_words (c ∷ cs) none [] = refl
 no_words (Constant ∷ cs) none (x ∷ xs) = no_words cs none xs
 no_words (Reduced op ∷ cs) none (x ∷ xs) = no_words cs none xs
 no_words (Carried ∷ cs) none (x ∷ xs) =
-    let some : nat_lt 0 (suc (carried_in cs)) ≡ true = refl in cc
+    let some : nat_lt 0 (suc (carried_in cs)) ≡ true = is_below 0 (suc (carried_in cs)) (omega arith) in cc
 
 -- a loop without a carry has no break and carries no let
 unbroken_free : (d : Dense) → (loop_split d).carry ≡ None →

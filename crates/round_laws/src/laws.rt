@@ -1,5 +1,9 @@
+ghost use Rattle.round_laws.specs.DenseClose.{ClosesDense};
 ghost use Rattle.round_laws.specs.DenseRound.{RoundByMachines};
 ghost use Rattle.round_laws.specs.Lets.{LetsByMachines};
+ghost use Rattle.round_laws.specs.Partials.{FillsSent};
+ghost use Rattle.round_laws.specs.Scans.{ScansAfresh, ScansTheRing};
+ghost use Rattle.round_laws.specs.Seen.{EnvironmentsAreSeen, LoopsAreSeen};
 ghost use Rattle.round_laws.specs.Steps.{BeginsAfresh, ComesByMachines, GrowsByMachines};
 
 /// The law that what the machines of a chunk do at a vertex, step by step, is its whole loop. It does nothing.
@@ -17,4 +21,27 @@ pub fn lets_at_the_end()
 /// The law of a dense round at a vertex by machines. It does nothing.
 pub fn dense_rounds()
     ensures { RoundByMachines }
+{}
+
+/// The law that where a machine sees the source's rows and degrees its environments and loops are the source's. It
+/// does nothing.
+pub fn sights_agree()
+    ensures environments { EnvironmentsAreSeen }
+    ensures loops { LoopsAreSeen }
+{}
+
+/// The law that a scan at a vertex does what the machine of the step does by the source. It does nothing.
+pub fn scans_by_the_source()
+    ensures ring { ScansTheRing }
+    ensures afresh { ScansAfresh }
+{}
+
+/// The law of the partials to which the words of a step are added. It does nothing.
+pub fn partials_by_steps()
+    ensures { FillsSent }
+{}
+
+/// The law that the close of a dense round makes the source's rows. It does nothing.
+pub fn dense_closes()
+    ensures { ClosesDense }
 {}

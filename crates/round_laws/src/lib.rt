@@ -4,4 +4,6 @@
 
 mod laws;
 
-pub use laws::{dense_rounds, lets_at_the_end, ring_comes_round};
+pub use laws::{
+    dense_closes, dense_rounds, lets_at_the_end, partials_by_steps, ring_comes_round, scans_by_the_source, sights_agree,
+};
