@@ -6,3 +6,6 @@ pub mod Shapes
 pub mod PartViews
 pub mod Planned
 pub mod Ring
+pub mod State
+pub mod Work
+pub mod Sight
