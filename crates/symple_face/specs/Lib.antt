@@ -9,3 +9,6 @@ pub mod Ring
 pub mod State
 pub mod Work
 pub mod Sight
+pub mod Cluster
+pub mod Source
+pub mod Ideal
