@@ -1,15 +1,21 @@
 -- A cluster of machines of one kind and the messages under way, as plain data, and what an event makes of them.
-use Rattle.std.specs.Prelude.{◌≡◌, ℕ, ◌+◌, ◌*◌, ◌&&◌, Bool, true, false, Option, Some, None, is_some, List, [], ◌∷◌, ◌++◌, map, length, slice_get, slice_set}
+use Rattle.std.specs.Prelude.{◌≡◌, ◌≤◌, ℕ, ◌+◌, ◌*◌, ◌&&◌, Bool, true, false, Option, Some, None, is_some, List, [], ◌∷◌, ◌++◌, map, length, slice_get, slice_set}
 use Rattle.std.specs.List.{filter, list_all, range_with_len}
+use Rattle.vert_base.specs.declared.graph.Edge.{Edge}
+use Rattle.vert_base.specs.declared.limits.TheConstants.{EDGES, VERTICES}
 use Rattle.vert_base.specs.declared.message.Event.{Event}
 use Rattle.vert_base.specs.declared.message.Event.TheVariants.{Go, Take}
 use Rattle.vert_base.specs.Letters.{Letter, found, placed, without}
+use Rattle.vert_base.specs.Neighbours.{AreBelow}
+use Rattle.word_kinds.specs.Fits.{HaveWeights}
+use Rattle.chunk_split.specs.Chunks.{AreEnds, vertices_of}
 use Rattle.circulant_plan.specs.Remaining.{way_left}
 use Rattle.circulant_plan.specs.Skeleton.{is_over}
 use Rattle.instrument.specs.declared.split.Split.{Split}
 use Rattle.symple_face.specs.declared.action.Action.{Action}
 use Rattle.symple_face.specs.declared.action.Action.TheVariants.{Ready, Waits, Over}
 use Rattle.symple_face.specs.Parts.{PlainPart}
+use Rattle.symple_face.specs.PartsOf.{parts_of}
 use Rattle.symple_face.specs.Plans.{blocks_of}
 use Rattle.symple_face.specs.State.{State, action_of}
 use Rattle.symple_face.specs.Work.{Work, PlainStart}
@@ -121,3 +127,15 @@ first_world work split parts = record { sites = map (λ part. work.first part sp
 abbrev pub restarted_world : Work → Split → List PlainPart → PlainStart → World
 restarted_world work split parts start =
     record { sites = map (λ part. work.restarted part split start) parts; under_way = [] }
+
+-- these are the parts of one graph for one run, in order
+pub record IsOneRun (parts : List PlainPart) : Type 0 where
+  pub ends : List ℕ
+  pub edges : List Edge
+  pub draws : ℕ
+  pub chunks : AreEnds 64 ends
+  pub within : vertices_of ends ≤ VERTICES
+  pub below : AreBelow (vertices_of ends) edges
+  pub weights : HaveWeights edges
+  pub few : length edges ≤ EDGES
+  pub parts_are : parts ≡ parts_of ends draws edges

@@ -79,7 +79,7 @@ ran_with src round v c step None = leaves (block_env src round v)
 ran_with src round v c step (Some d) =
     if is_set (value_of d.when_test (block_env src round v))
     then machine_ran (scene src round) d (block_env src round v) src.job.graph.ends (machines_of src) c
-        (members_in src v) step
+    (members_in src v) step
     else leaves (block_env src round v)
 
 abbrev pub ideal_ran : Source → ℕ → ℕ → ℕ → ℕ → Ran
