@@ -1,7 +1,13 @@
+pub mod Chunks
 pub mod DenseClose
 pub mod DenseRound
+pub mod Keys
 pub mod Lets
+pub mod Members
 pub mod Partials
+pub mod Planned
 pub mod Scans
 pub mod Seen
 pub mod Steps
+pub mod Sums
+pub mod Vertices

@@ -1,5 +1,5 @@
-use Rattle.part_laws.proofs.Keys.{keys_below, keys_rise}
-use Rattle.part_laws.proofs.laws.sparse_keys.Goals as goal
+use Rattle.round_laws.proofs.Keys.{keys_below, keys_rise}
+use Rattle.round_laws.proofs.parts.sparse_keys.Goals as goal
 
 pub returns-clause-below : goal.returns-clause-below
 returns-clause-below c = keys_below

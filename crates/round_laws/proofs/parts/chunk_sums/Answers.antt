@@ -1,5 +1,5 @@
-use Rattle.part_laws.proofs.Sums.{chunks_cover, counts_by_chunks, steps_are_machines, sums_by_chunks, sums_by_machines, totals_by_chunks}
-use Rattle.part_laws.proofs.laws.chunk_sums.Goals as goal
+use Rattle.round_laws.proofs.Sums.{chunks_cover, counts_by_chunks, steps_are_machines, sums_by_chunks, sums_by_machines, totals_by_chunks}
+use Rattle.round_laws.proofs.parts.chunk_sums.Goals as goal
 
 pub returns-clause-cover : goal.returns-clause-cover
 returns-clause-cover c = chunks_cover

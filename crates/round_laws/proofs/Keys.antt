@@ -10,7 +10,8 @@ use Rattle.vert_base.specs.Neighbours.{in_order, ins_of, source, target, turned}
 use Rattle.vert_base.proofs.Orders.{Rises, all_append, in_order_below, in_order_rises, in_order_sorted}
 use Rattle.circulant_plan.proofs.CircleLaws.{mod_high, mod_low}
 use Rattle.graph_table.proofs.BucketLaws.{in_order_is}
-use Rattle.part_laws.specs.Keys.{KeysBelow, KeysRise, key_of}
+use Rattle.symple_face.specs.CoreSparse.{key_of}
+use Rattle.round_laws.specs.Keys.{KeysBelow, KeysRise}
 
 all_that :
     {X : Type 0} (P Q : X → Type 0) (p : X → Bool) (xs : List X) → AllByRecursion P xs →

@@ -4,7 +4,7 @@ use Rattle.std.specs.Prelude.{slice_index}
 use Rattle.std.proofs.lemmas.Bool.{cases_lt}
 use Rattle.circulant_plan.specs.Ring.{lies_in, start_of}
 use Rattle.symple_face.proofs.ChunkLaws.{lies_is, one_chunk}
-use Rattle.part_laws.specs.Chunks.{EachHasAChunk, EndsReach, NoneHasTwo}
+use Rattle.round_laws.specs.Chunks.{EachHasAChunk, EndsReach, NoneHasTwo}
 
 pub ends_reach : EndsReach
 ends_reach most ends are = record { some = are.0; count = refl; rises = are.2; last = refl }

@@ -1,5 +1,5 @@
-use Rattle.part_laws.proofs.Members.{push_members, scan_members, scans_in_turn, steps_members}
-use Rattle.part_laws.proofs.laws.member_edges.Goals as goal
+use Rattle.round_laws.proofs.Members.{push_members, scan_members, scans_in_turn, steps_members}
+use Rattle.round_laws.proofs.parts.member_edges.Goals as goal
 
 pub returns-clause-scan : goal.returns-clause-scan
 returns-clause-scan c = scan_members

@@ -1,5 +1,5 @@
-use Rattle.part_laws.proofs.Vertices.{own_law, worked_law}
-use Rattle.part_laws.proofs.laws.known_degrees.Goals as goal
+use Rattle.round_laws.proofs.Vertices.{own_law, worked_law}
+use Rattle.round_laws.proofs.parts.known_degrees.Goals as goal
 
 pub returns-clause-own : goal.returns-clause-own
 returns-clause-own c = own_law

@@ -1,5 +1,5 @@
-use Rattle.part_laws.proofs.Chunks.{each_has_a_chunk, ends_reach, none_has_two}
-use Rattle.part_laws.proofs.laws.one_chunk.Goals as goal
+use Rattle.round_laws.proofs.Chunks.{each_has_a_chunk, ends_reach, none_has_two}
+use Rattle.round_laws.proofs.parts.one_chunk.Goals as goal
 
 pub returns-clause-reach : goal.returns-clause-reach
 returns-clause-reach c = ends_reach

@@ -1,12 +1,9 @@
 -- The keys under which a sparse round combines the words of a vertex.
-use Rattle.std.specs.Prelude.{◌≡◌, ◌<◌, ◌≤◌, ℕ, ◌+◌, ◌-◌, ◌%◌, List}
+use Rattle.std.specs.Prelude.{◌≡◌, ◌<◌, ◌≤◌, ℕ, List}
 use Rattle.std.specs.List.{flat_map, range_with_len}
 use Rattle.vert_base.specs.declared.graph.Edge.{Edge}
 use Rattle.vert_base.specs.Neighbours.{bucket, ins_of, source, turned}
-
--- the key of a source u at a vertex whose list turns at t, among n vertices
-abbrev pub key_of : ℕ → ℕ → ℕ → ℕ
-key_of n t u = (u + n - t) % n
+use Rattle.symple_face.specs.CoreSparse.{key_of}
 
 abbrev pub KeysBelow : Type 0
 KeysBelow = (n t u : ℕ) → t ≤ n → u < n → key_of n t u < n

@@ -7,7 +7,7 @@ use Rattle.std.proofs.lemmas.List.Elements.{All-from_recursion}
 use Rattle.std.proofs.lemmas.List.Folds.{list_any-append}
 use Rattle.vert_base.specs.Neighbours.{in_order}
 use Rattle.graph_table.proofs.StartLaws.{start_all}
-use Rattle.part_laws.specs.Vertices.{are_some}
+use Rattle.round_laws.specs.Vertices.{are_some}
 
 pub some-filter : {X : Type 0} (test : X → Bool) (xs : List X) → are_some (filter test xs) ≡ list_any test xs
 some-filter test [] = refl

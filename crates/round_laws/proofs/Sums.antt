@@ -14,7 +14,7 @@ use Rattle.circulant_plan.proofs.CircleLaws.{order_high, order_low}
 use Rattle.circulant_plan.proofs.SpanLaws.{range_split}
 use Rattle.graph_table.proofs.FilterLaws.{all_range, all_true, filter-flat_map, map-append, map-flat_map, map_same}
 use Rattle.symple_face.specs.Parts.{chunk_vertices}
-use Rattle.part_laws.specs.Sums.{ChunksCover, CountsByChunks, StepsAreMachines, SumsByChunks, SumsByMachines, TotalsByChunks, each}
+use Rattle.round_laws.specs.Sums.{ChunksCover, CountsByChunks, StepsAreMachines, SumsByChunks, SumsByMachines, TotalsByChunks, each}
 use Rattle.symple_face.proofs.ChunkLaws.{chunk_rises}
 
 -- ---- lists of numbers

@@ -1,5 +1,5 @@
-use Rattle.part_laws.proofs.Vertices.{pushed_law, refreshed_law}
-use Rattle.part_laws.proofs.laws.met_vertices.Goals as goal
+use Rattle.round_laws.proofs.Vertices.{pushed_law, refreshed_law}
+use Rattle.round_laws.proofs.parts.met_vertices.Goals as goal
 
 pub returns-clause-refreshed : goal.returns-clause-refreshed
 returns-clause-refreshed c = refreshed_law

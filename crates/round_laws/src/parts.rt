@@ -1,9 +1,9 @@
-ghost use Rattle.part_laws.specs.Chunks.{EachHasAChunk, EndsReach, NoneHasTwo};
-ghost use Rattle.part_laws.specs.Keys.{KeysBelow, KeysRise};
-ghost use Rattle.part_laws.specs.Members.{PushMembers, ScanMembers, ScansReadInTurn, StepsMembers};
-ghost use Rattle.part_laws.specs.Planned.{PlannedCanBeTaken};
-ghost use Rattle.part_laws.specs.Sums.{ChunksCover, CountsByChunks, StepsAreMachines, SumsByChunks, SumsByMachines, TotalsByChunks};
-ghost use Rattle.part_laws.specs.Vertices.{KnowsOwn, KnowsWorked, PushedMeet, RefreshedMeet};
+ghost use Rattle.round_laws.specs.Chunks.{EachHasAChunk, EndsReach, NoneHasTwo};
+ghost use Rattle.round_laws.specs.Keys.{KeysBelow, KeysRise};
+ghost use Rattle.round_laws.specs.Members.{PushMembers, ScanMembers, ScansReadInTurn, StepsMembers};
+ghost use Rattle.round_laws.specs.Planned.{PlannedCanBeTaken};
+ghost use Rattle.round_laws.specs.Sums.{ChunksCover, CountsByChunks, StepsAreMachines, SumsByChunks, SumsByMachines, TotalsByChunks};
+ghost use Rattle.round_laws.specs.Vertices.{KnowsOwn, KnowsWorked, PushedMeet, RefreshedMeet};
 
 /// The law that each vertex lies in one chunk, and that the chunks are those of the ring. It does nothing.
 pub fn one_chunk()

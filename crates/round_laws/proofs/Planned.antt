@@ -10,7 +10,7 @@ use Rattle.circulant_plan.specs.Ring.{before_machine, order_of}
 use Rattle.circulant_plan.proofs.CircleLaws.{before_after, order_of_chunk}
 use Rattle.double_buffer.specs.Taking.{CanTakeKind, IsOfRound, IsOfStep}
 use Rattle.symple_face.specs.Plans.{concerns, goes_by_plan, is_half, is_whole, ring_of}
-use Rattle.part_laws.specs.Planned.{PlannedCanBeTaken}
+use Rattle.round_laws.specs.Planned.{PlannedCanBeTaken}
 
 -- from one machine of p to another one
 record Goes (p : ℕ) (x : Name) : Type 0 where

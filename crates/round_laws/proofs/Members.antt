@@ -1,19 +1,18 @@
 -- The edges into a vertex in the parts of machines.
-use Rattle.std.proofs.Common.{ℕ, List, ◌∷◌, [], ◌++◌, sym, ap, ◌∙◌, arith, append-nil}
+use Rattle.std.proofs.Common.{◌≡◌, ◌+◌, ℕ, suc, List, sym, ap, ◌∙◌, arith}
 use Rattle.std.specs.Prelude.{◌==◌}
-use Rattle.std.specs.List.{filter, flat_map, range_with_len}
-use Rattle.std.proofs.lemmas.List.Concat.{flat_map-append}
+use Rattle.std.specs.List.{filter, range_with_len}
 use Rattle.vert_base.specs.declared.graph.Edge.{Edge}
 use Rattle.vert_base.specs.Neighbours.{bucket, in_order, ins_of, source, target}
 use Rattle.vert_base.proofs.Orders.{bucket-in_order, filter_comm, filter-in_order, part-two_orders}
 use Rattle.chunk_split.specs.Chunks.{vertices_of}
-use Rattle.circulant_plan.specs.Ring.{lies_in, members_with, order_of}
-use Rattle.circulant_plan.proofs.SpanLaws.{range_split}
+use Rattle.circulant_plan.specs.Ring.{lies_in, members_by_steps, members_with, order_of}
 use Rattle.circulant_plan.proofs.ReadingLaws.{reads_in_turn}
 use Rattle.graph_table.proofs.BucketLaws.{bucket_kept}
 use Rattle.graph_table.proofs.FilterLaws.{all_true, flat_map_same}
 use Rattle.symple_face.specs.PartsOf.{scan_of}
-use Rattle.part_laws.specs.Members.{PushMembers, ScanMembers, ScansReadInTurn, StepsMembers}
+use Rattle.round_laws.proofs.Ranges.{steps_more}
+use Rattle.round_laws.specs.Members.{PushMembers, ScanMembers, ScansReadInTurn, StepsMembers}
 
 pub scan_members : ScanMembers
 scan_members ends edges m v lt =
@@ -32,10 +31,8 @@ push_members ends edges m v lt lies =
 
 pub steps_members : StepsMembers
 steps_members ends p d count members =
-    let f : ℕ → List Edge = λ step. members_with ends (order_of d step p) members in
-    ap (flat_map f) (range_split count 1 0 count (omega arith))
-    ∙ flat_map-append f (range_with_len 0 count) (count ∷ [])
-    ∙ ap (λ l. flat_map f (range_with_len 0 count) ++ l) (append-nil (f count))
+    let one : count + 1 ≡ suc count = omega arith in
+    ap (λ k. members_by_steps ends p d 0 k members) one ∙ steps_more ends p d count members
 
 pub scans_in_turn : ScansReadInTurn
 scans_in_turn ends edges p d v are lt lies within =

@@ -15,10 +15,10 @@ use Rattle.circulant_plan.proofs.SpanLaws.{range_split}
 use Rattle.graph_table.proofs.FilterLaws.{all_filter, all_passes, all_range, all_weaker, filter_all, filter_filter, filter_none, filter_same}
 use Rattle.symple_face.specs.Parts.{chunk_vertices, edges_between, push_list, refresh_list}
 use Rattle.symple_face.specs.PartsOf.{known_of, push_of}
-use Rattle.part_laws.specs.Vertices.{KnowsOwn, KnowsWorked, PushedMeet, RefreshedMeet, are_some, members_at}
+use Rattle.round_laws.specs.Vertices.{KnowsOwn, KnowsWorked, PushedMeet, RefreshedMeet, are_some, members_at}
 use Rattle.symple_face.proofs.ChunkLaws.{chunk_rises, chunk_within, lies_high, lies_is, lies_low, lies_within}
-use Rattle.part_laws.proofs.Lists.{any-filter, any-flat_map, any_and, any_kept, any_more, any_range, any_same, some-filter, some-in_order}
-use Rattle.part_laws.proofs.Sums.{chunks_cover}
+use Rattle.round_laws.proofs.Lists.{any-filter, any-flat_map, any_and, any_kept, any_more, any_range, any_same, some-filter, some-in_order}
+use Rattle.round_laws.proofs.Sums.{chunks_cover}
 
 -- the tests of an edge between two chunks at one of its ends
 at_target : (s t : Bool) (lies : ℕ → Bool) (end v : ℕ) → ((s && lies end) && (end == v)) ≡ (lies v && ((end == v) && s))
