@@ -24,6 +24,7 @@
 -- Scans: a scan at a vertex does what the machine of the step does, whatever the key.
 -- Partials: what is sent goes to the ends of buckets, and the values of partials by their buckets.
 -- DenseClose: the tail runs in the environment that the loop leaves, so the close makes the source's row.
+-- SparseClose: keys rise along N_t(v), so the buckets in turn are what its members emit.
 -- Readable: what the blocks of a typed program may read.
 pub mod Chunks
 pub mod DenseClose
@@ -38,6 +39,7 @@ pub mod Ranges
 pub mod Readable
 pub mod Scans
 pub mod Seen
+pub mod SparseClose
 pub mod Steps
 pub mod Sums
 pub mod Vertices

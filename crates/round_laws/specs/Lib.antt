@@ -8,6 +8,7 @@ pub mod Partials
 pub mod Planned
 pub mod Scans
 pub mod Seen
+pub mod SparseClose
 pub mod Steps
 pub mod Sums
 pub mod Vertices

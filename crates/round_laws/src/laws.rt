@@ -4,6 +4,7 @@ ghost use Rattle.round_laws.specs.Lets.{LetsByMachines};
 ghost use Rattle.round_laws.specs.Partials.{FillsSent};
 ghost use Rattle.round_laws.specs.Scans.{ScansAfresh, ScansTheRing};
 ghost use Rattle.round_laws.specs.Seen.{EnvironmentsAreSeen, LoopsAreSeen};
+ghost use Rattle.round_laws.specs.SparseClose.{ClosesSparse};
 ghost use Rattle.round_laws.specs.Steps.{BeginsAfresh, ComesByMachines, GrowsByMachines};
 
 /// The law that what the machines of a chunk do at a vertex, step by step, is its whole loop. It does nothing.
@@ -44,4 +45,9 @@ pub fn partials_by_steps()
 /// The law that the close of a dense round makes the source's rows. It does nothing.
 pub fn dense_closes()
     ensures { ClosesDense }
+{}
+
+/// The law that the close of a sparse round makes the source's rows. It does nothing.
+pub fn sparse_closes()
+    ensures { ClosesSparse }
 {}
