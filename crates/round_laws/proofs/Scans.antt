@@ -33,7 +33,7 @@ use Rattle.symple_face.specs.Ideal.{told_state}
 use Rattle.symple_face.specs.Ring.{RingState, Fresh, Running, Broken, operand, operand_at, operands, state_of, state_with, step_ran, step_state}
 use Rattle.symple_face.specs.Shapes.{reduced_in}
 use Rattle.symple_face.specs.Sight.{Sight, seen_env, seen_loop}
-use Rattle.round_laws.specs.Scans.{Sees, ScansAfresh, ScansAs, ScansTheRing, ran_behind, ring_after, sent_of, width_of}
+use Rattle.round_laws.specs.Scans.{Sees, SeesLoop, ScansAfresh, ScansAs, ScansTheRing, ran_behind, ring_after, sent_of, width_of}
 use Rattle.round_laws.proofs.Lets.{unmarked_none}
 use Rattle.round_laws.proofs.Seen.{loop_seen, seen_environment}
 use Rattle.round_laws.proofs.Steps.{begins_afresh, grows}
@@ -76,7 +76,7 @@ told_with width Going words = refl
 told_with width Broke words = refl
 
 module _ (split : Split) (d : Dense) (g : Sight) (s : Scene) (key v : ℕ) (e : Edge) (es : List Edge)
-    (h : IsSplit (program_of split) d (env_at s v (none split))) (sees : Sees g s v (e ∷ es)) where
+    (h : IsSplit (program_of split) d (env_at s v (none split))) (sees : SeesLoop g s v (e ∷ es)) where
   abbrev env : Env
   env = env_at s v (none split)
 

@@ -1,6 +1,7 @@
 pub mod Chunks
 pub mod DenseClose
 pub mod DenseRound
+pub mod IdealScans
 pub mod Keys
 pub mod Lets
 pub mod Members

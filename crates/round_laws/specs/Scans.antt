@@ -1,5 +1,5 @@
 -- A scan at a vertex does what the machine of a step does by the source.
-use Rattle.std.specs.Prelude.{◌≡◌, ℕ, ℤ, List, [], ◌++◌, None, if◌then◌else◌}
+use Rattle.std.specs.Prelude.{◌≡◌, ℕ, ℤ, List, [], ◌∷◌, ◌++◌, None, if◌then◌else◌, ⊤}
 use Rattle.vert_base.specs.declared.graph.Edge.{Edge}
 use Rattle.vert_tree.specs.declared.program.Dense.{Dense}
 use Rattle.slot_merge.specs.Combine.{slot_values}
@@ -41,11 +41,16 @@ sent_of split d ran = record {
 abbrev pub width_of : Split → ℕ
 width_of split = words_in (loop_carry split.dense)
 
--- the sight has what a scan at a vertex looks at
-pub record Sees (g : Sight) (s : Scene) (v : ℕ) (members : List Edge) : Type 0 where
+-- the sight has what a loop over members of a vertex looks at
+pub record SeesLoop (g : Sight) (s : Scene) (v : ℕ) (members : List Edge) : Type 0 where
   pub scene : SeesScene g s
   pub vertex : SeesVertex g s v
   pub sources : SeesSources g s members
+
+-- the same of a scan, which looks at nothing where there are no members
+abbrev pub Sees : Sight → Scene → ℕ → List Edge → Type 0
+Sees g s v [] = ⊤
+Sees g s v (e ∷ es) = SeesLoop g s v (e ∷ es)
 
 -- what a scan sends and reads is that of this run
 pub record ScansAs (split : Split) (d : Dense) (got : Scanned) (ran : Ran) : Type 0 where

@@ -1,5 +1,6 @@
 ghost use Rattle.round_laws.specs.DenseClose.{ClosesDense};
 ghost use Rattle.round_laws.specs.DenseRound.{RoundByMachines};
+ghost use Rattle.round_laws.specs.IdealScans.{FreshScansAreIdeal, ScansAreIdeal};
 ghost use Rattle.round_laws.specs.Lets.{LetsByMachines};
 ghost use Rattle.round_laws.specs.Partials.{FillsSent};
 ghost use Rattle.round_laws.specs.Scans.{ScansAfresh, ScansTheRing};
@@ -35,6 +36,8 @@ pub fn sights_agree()
 pub fn scans_by_the_source()
     ensures ring { ScansTheRing }
     ensures afresh { ScansAfresh }
+    ensures ideal { ScansAreIdeal }
+    ensures fresh { FreshScansAreIdeal }
 {}
 
 /// The law of the partials to which the words of a step are added. It does nothing.
