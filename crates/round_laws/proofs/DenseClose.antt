@@ -44,7 +44,7 @@ use Rattle.order_laws.specs.Agreement.{SameButNeighbour}
 use Rattle.value_laws.specs.Blind.{SameButKey}
 use Rattle.value_laws.proofs.Blind.{lets_keyed, run_keyed, tail_anywhere, value_keyed}
 use Rattle.symple_face.specs.CoreClose.{closed_row, closing_words, tail_at, tail_env, values_of}
-use Rattle.symple_face.specs.CoreDense.{mark_after, told_words}
+use Rattle.symple_face.specs.CoreScan.{mark_after, sent_by_segment, told_words}
 use Rattle.symple_face.specs.CoreSight.{none, program_of}
 use Rattle.symple_face.specs.CoreTakes.{classes_of, reduced_ops, slot_count}
 use Rattle.symple_face.specs.Ideal.{told_state}
@@ -52,7 +52,7 @@ use Rattle.symple_face.specs.Ring.{Fresh, closing, combined_operands, machine_ra
 use Rattle.symple_face.specs.Sight.{Sight, seen_env}
 use Rattle.round_laws.specs.DenseClose.{ClosesDense, ran_at}
 use Rattle.round_laws.specs.Partials.{partial_ops, sent_words, step_buckets}
-use Rattle.round_laws.specs.Scans.{ring_after, sent_of, width_of}
+use Rattle.round_laws.specs.Scans.{ring_after, width_of}
 use Rattle.round_laws.specs.Seen.{SeesScene, SeesVertex}
 use Rattle.round_laws.proofs.DenseRound.{round_words}
 use Rattle.round_laws.proofs.Lets.{lets_by_machines}
@@ -313,14 +313,14 @@ module _ (split : Split) (d : Dense) (g : Sight) (s : Scene) (p c v : ℕ)
           first (λ j op is.
           let words : ℕ → List ℤ = λ k. option_to_list (combined op (words_for j (steps k).emitted)) in
           let at : (k : ℕ) → k < p → buckets j k ≡ words k =
-          λ k lt. ap (λ b. if b then sent_words (sent_of split d (ran k)) j else []) (is_below k p lt)
+          λ k lt. ap (λ b. if b then sent_words (sent_by_segment split d (ran k)) j else []) (is_below k p lt)
           ∙ ap option_to_list (slot_value_at slots (ran k).emitted (operands (loop_split d).reduced.items (ran k).env) j op is
           ∙ ap (λ r. combined op (words_for j r.emitted)) (runs k)) in
           let below : (k : ℕ) → k < p → more j k ≡ words k =
           λ k lt. ap (λ b. if b then buckets j k ++ words_for j tail else buckets j k) (ne_eqb p k (λ e. omega arith)) ∙ at k lt in
           let last : more j p ≡ words_for j (run d.tail.items looped.env).emitted =
           ap (λ b. if b then buckets j p ++ words_for j tail else buckets j p) (eq-eqb p p refl)
-          ∙ ap (λ b. (if b then sent_words (sent_of split d (ran p)) j else []) ++ words_for j tail) (not_below p p (omega arith))
+          ∙ ap (λ b. (if b then sent_words (sent_by_segment split d (ran p)) j else []) ++ words_for j tail) (not_below p p (omega arith))
           ∙ ap (words_for j) (tail_emits ps filled) in
           ap (combined op) (joined_steps (more j) words p below ∙ ap (λ l. flat_map words (range_with_len 0 p) ++ l) last)
           ∙ round_words (program_of split) d s p c v h test are within lies op j)
@@ -343,11 +343,11 @@ module _ (split : Split) (d : Dense) (g : Sight) (s : Scene) (p c v : ℕ)
         (filled_first 0 slots (reduced_ops (classes_of split.dense)) buckets (p + 1) ps filled)
         (λ j op is.
         let none_at : (k : ℕ) → k < p → buckets j k ≡ [] =
-        λ k lt. ap (λ b. if b then sent_words (sent_of split d (ran k)) j else []) (is_below k p lt)
+        λ k lt. ap (λ b. if b then sent_words (sent_by_segment split d (ran k)) j else []) (is_below k p lt)
         ∙ ap option_to_list (slot_value_at slots (ran k).emitted (operands (loop_split d).reduced.items (ran k).env) j op is
         ∙ ap (λ r. combined op (words_for j r.emitted)) (idle k)) in
         let last : buckets j p ≡ [] =
-        ap (λ b. if b then sent_words (sent_of split d (ran p)) j else []) (not_below p p (omega arith)) in
+        ap (λ b. if b then sent_words (sent_by_segment split d (ran p)) j else []) (not_below p p (omega arith)) in
         ap (combined op) (joined_steps (buckets j) (λ k. []) p none_at
         ∙ ap (λ l. flat_map (λ k. []) (range_with_len 0 p) ++ l) last
         ∙ append-nil (flat_map (λ k. []) (range_with_len 0 p)) ∙ nothing_joined (range_with_len 0 p))

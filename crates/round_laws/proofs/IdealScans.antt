@@ -11,7 +11,7 @@ use Rattle.instrument.specs.Continued.{IsSplit}
 use Rattle.instrument.specs.Loops.{loop_split}
 use Rattle.dep_layout.specs.Spelling.{State as LoopState}
 use Rattle.body_shape.specs.Update.{Sent}
-use Rattle.symple_face.specs.CoreDense.{Scanned, fresh, scanned}
+use Rattle.symple_face.specs.CoreScan.{Scanned, fresh, scanned, sent_by_segment}
 use Rattle.symple_face.specs.CoreSight.{program_of}
 use Rattle.symple_face.specs.Ideal.{block_env, first_members, ideal_ran, ideal_sent, machines_of, members_in, ran_with, ring_with, state_at, told_state}
 use Rattle.symple_face.specs.Ring.{operands}
@@ -19,7 +19,7 @@ use Rattle.symple_face.specs.Shapes.{reduced_in}
 use Rattle.symple_face.specs.Sight.{Sight}
 use Rattle.symple_face.specs.Source.{Source, scene}
 use Rattle.round_laws.specs.IdealScans.{FreshScansAreIdeal, IsIdealScan, RunsDense, ScansAreIdeal, step_members}
-use Rattle.round_laws.specs.Scans.{ScansAs, Sees, ran_behind, ring_after, sent_of, width_of}
+use Rattle.round_laws.specs.Scans.{ScansAs, Sees, ran_behind, ring_after, width_of}
 use Rattle.round_laws.proofs.Ranges.{steps_more}
 use Rattle.round_laws.proofs.Scans.{reduced_are, scans_afresh, scans_the_ring}
 
@@ -51,7 +51,7 @@ module _ (src : Source) (d : Dense) (g : Sight) (round v c step key : ℕ)
   ran_is : ideal_ran run round v c step ≡ ran_behind s d env before here
   ran_is = ap (ran_with run round v c step) dense
 
-  sent_is : IsSplit (program_of src.split) d env → ideal_sent run round v c step ≡ sent_of src.split d (ran_behind s d env before here)
+  sent_is : IsSplit (program_of src.split) d env → ideal_sent run round v c step ≡ sent_by_segment src.split d (ran_behind s d env before here)
   sent_is h = λ i. record {
     values = slot_values 0 (slot_ops (program_of src.split)) (ran_is i).emitted;
     operands = operands (reduced_are src.split d env h i) (ran_is i).env;

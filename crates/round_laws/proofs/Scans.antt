@@ -28,12 +28,12 @@ use Rattle.body_shape.specs.Missing.{nothing_sent}
 use Rattle.body_shape.specs.Update.{Sent}
 use Rattle.symple_face.specs.CoreSight.{none, program_of}
 use Rattle.symple_face.specs.CoreTakes.{slot_count, unsent}
-use Rattle.symple_face.specs.CoreDense.{Scanned, fresh, is_broken, mark_after, passed, scanned, scanned_by, segment_seen, told_words}
+use Rattle.symple_face.specs.CoreScan.{Scanned, fresh, is_broken, mark_after, passed, scanned, scanned_by, segment_seen, sent_by_segment, told_words}
 use Rattle.symple_face.specs.Ideal.{told_state}
 use Rattle.symple_face.specs.Ring.{RingState, Fresh, Running, Broken, operand, operand_at, operands, state_of, state_with, step_ran, step_state}
 use Rattle.symple_face.specs.Shapes.{reduced_in}
 use Rattle.symple_face.specs.Sight.{Sight, seen_env, seen_loop}
-use Rattle.round_laws.specs.Scans.{Sees, SeesLoop, ScansAfresh, ScansAs, ScansTheRing, ran_behind, ring_after, sent_of, width_of}
+use Rattle.round_laws.specs.Scans.{Sees, SeesLoop, ScansAfresh, ScansAs, ScansTheRing, ran_behind, ring_after, width_of}
 use Rattle.round_laws.proofs.Lets.{unmarked_none}
 use Rattle.round_laws.proofs.Seen.{loop_seen, seen_environment}
 use Rattle.round_laws.proofs.Steps.{begins_afresh, grows}
@@ -57,7 +57,7 @@ pub reduced_are : (split : Split) (d : Dense) (env : Env) → IsSplit (program_o
 reduced_are split d env h = ap reduced_in (split.split ∙ ap (option_map loop_split) h.dense)
 
 pub nothing_is_sent : (split : Split) (d : Dense) (env : Env) → IsSplit (program_of split) d env → env.touched ≡ 0 →
-    unsent split ≡ sent_of split d (leaves env)
+    unsent split ≡ sent_by_segment split d (leaves env)
 nothing_is_sent split d env h unmarked = λ i. record {
   values = no_values_are 0 (program_of split).slots.items i;
   operands =
@@ -176,7 +176,7 @@ module _ (split : Split) (d : Dense) (g : Sight) (s : Scene) (key v : ℕ)
   none_there : (rs : RingState) (before : List Edge) → ScansAs split d (scan [] rs) (ran_behind s d at_v before [])
   none_there rs before = record {
     sent = nothing_is_sent split d at_v h refl
-        ∙ ap (sent_of split d) (same_either (is_set (value_of d.when_test at_v)) (leaves at_v));
+        ∙ ap (sent_by_segment split d) (same_either (is_set (value_of d.when_test at_v)) (leaves at_v));
     reads = ap (λ r. r.reads) (same_either (is_set (value_of d.when_test at_v)) (leaves at_v));
   }
 
@@ -191,7 +191,7 @@ module _ (split : Split) (d : Dense) (g : Sight) (s : Scene) (key v : ℕ)
       (ap (λ rs. (scan (e ∷ es) rs).state) (chosen before) ∙ runs.0
       ∙ ap told ((grows s d at_v (program_of split) h before (e ∷ es)).state ∙ sym (chosen (before ++ (e ∷ es)))),
       record {
-        sent = ap (λ rs. (scan (e ∷ es) rs).sent) (chosen before) ∙ runs.1.sent ∙ ap (sent_of split d) (sym ran);
+        sent = ap (λ rs. (scan (e ∷ es) rs).sent) (chosen before) ∙ runs.1.sent ∙ ap (sent_by_segment split d) (sym ran);
         reads = ap (λ rs. (scan (e ∷ es) rs).reads) (chosen before) ∙ runs.1.reads ∙ ap (λ r. r.reads) (sym ran);
       })
   with_test before e es sees false test =
@@ -203,7 +203,7 @@ module _ (split : Split) (d : Dense) (g : Sight) (s : Scene) (key v : ℕ)
       ap (λ b. if b then step_ran s d at_v (e ∷ es) (state_of s d at_v before) else leaves at_v) test in
       (ap (λ x. x.state) by ∙ ap told (sym (fresh_yet (before ++ (e ∷ es)))),
       record {
-        sent = ap (λ x. x.sent) by ∙ nothing_is_sent split d at_v h refl ∙ ap (sent_of split d) (sym ran);
+        sent = ap (λ x. x.sent) by ∙ nothing_is_sent split d at_v h refl ∙ ap (sent_by_segment split d) (sym ran);
         reads = ap (λ x. x.reads) by ∙ ap (λ r. r.reads) (sym ran);
       })
 
@@ -222,7 +222,7 @@ module _ (split : Split) (d : Dense) (g : Sight) (s : Scene) (key v : ℕ)
         ap (λ b. if b then step_ran s d at_v (e ∷ es) (state_of s d at_v before) else leaves at_v) test
         ∙ begins_afresh s d at_v (program_of split) h free before (e ∷ es) in
         record {
-          sent = runs.1.sent ∙ ap (sent_of split d) (sym ran);
+          sent = runs.1.sent ∙ ap (sent_by_segment split d) (sym ran);
           reads = runs.1.reads ∙ ap (λ r. r.reads) (sym ran);
         }
     fresh_test before e es sees false test =
@@ -230,7 +230,7 @@ module _ (split : Split) (d : Dense) (g : Sight) (s : Scene) (key v : ℕ)
         let ran : ran_behind s d at_v before (e ∷ es) ≡ leaves at_v =
         ap (λ b. if b then step_ran s d at_v (e ∷ es) (state_of s d at_v before) else leaves at_v) test in
         record {
-          sent = ap (λ x. x.sent) by ∙ nothing_is_sent split d at_v h refl ∙ ap (sent_of split d) (sym ran);
+          sent = ap (λ x. x.sent) by ∙ nothing_is_sent split d at_v h refl ∙ ap (sent_by_segment split d) (sym ran);
           reads = ap (λ x. x.reads) by ∙ ap (λ r. r.reads) (sym ran);
         }
 

@@ -66,7 +66,7 @@ sum_swap f (x ∷ xs) ys =
     (λ y. sym (sum-cons (f x y) (map (λ x. f x y) xs))))
 
 -- a total is not changed by what a total begins with
-total_alone :
+pub total_alone :
     (op : Combine) → op ≢ First → (xs : List ℤ) → combined_of op (neutral op) (total_of op xs) ≡ total_of op xs
 total_alone op other xs =
     combined_of-comm op other (neutral op) (total_of op xs)

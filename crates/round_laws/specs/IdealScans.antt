@@ -5,7 +5,7 @@ use Rattle.vert_tree.specs.declared.program.Dense.{Dense}
 use Rattle.circulant_plan.specs.Ring.{members_with, order_of}
 use Rattle.instrument.specs.Continued.{IsSplit}
 use Rattle.instrument.specs.Loops.{loop_split}
-use Rattle.symple_face.specs.CoreDense.{Scanned, fresh, scanned}
+use Rattle.symple_face.specs.CoreScan.{Scanned, fresh, scanned}
 use Rattle.symple_face.specs.CoreSight.{program_of}
 use Rattle.symple_face.specs.Ideal.{block_env, ideal_ran, ideal_sent, machines_of, members_in, state_at}
 use Rattle.symple_face.specs.Sight.{Sight}

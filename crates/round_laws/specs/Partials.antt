@@ -10,7 +10,7 @@ use Rattle.instrument.specs.declared.split.Split.{Split}
 use Rattle.body_shape.specs.Update.{Sent}
 use Rattle.symple_face.specs.CoreSight.{program_of}
 use Rattle.symple_face.specs.CoreTakes.{classes_of, reduced_ops, with_sent}
-use Rattle.round_laws.specs.Scans.{sent_of}
+use Rattle.symple_face.specs.CoreScan.{sent_by_segment}
 
 -- the operators of the partials: one for each slot, then one for each reduced let
 abbrev pub partial_ops : Split → List Combine
@@ -22,7 +22,7 @@ sent_words sent place = option_to_list (slice_index_or (sent.values ++ sent.oper
 
 -- the words for each partial under each key: what the machine of a step sends, the key being the step
 abbrev pub step_buckets : Split → Dense → (ℕ → Ran) → ℕ → ℕ → ℕ → List ℤ
-step_buckets split d ran p place key = if nat_lt key p then sent_words (sent_of split d (ran key)) place else []
+step_buckets split d ran p place key = if nat_lt key p then sent_words (sent_by_segment split d (ran key)) place else []
 
 -- what is sent goes to the ends of the buckets of its key
 abbrev pub FillsSent : Type 0

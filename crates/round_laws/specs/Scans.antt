@@ -13,7 +13,7 @@ use Rattle.instrument.specs.Continued.{IsSplit}
 use Rattle.instrument.specs.Loops.{loop_split}
 use Rattle.body_shape.specs.Update.{Sent}
 use Rattle.symple_face.specs.CoreSight.{none, program_of}
-use Rattle.symple_face.specs.CoreDense.{Scanned, fresh, scanned}
+use Rattle.symple_face.specs.CoreScan.{Scanned, fresh, scanned, sent_by_segment}
 use Rattle.symple_face.specs.Ideal.{told_state}
 use Rattle.symple_face.specs.Plans.{loop_carry}
 use Rattle.symple_face.specs.Ring.{RingState, Fresh, operands, state_of, step_ran}
@@ -29,13 +29,6 @@ ring_after s d env members = if is_set (value_of d.when_test env) then state_of 
 abbrev pub ran_behind : Scene → Dense → Env → List Edge → List Edge → Ran
 ran_behind s d env before members =
     if is_set (value_of d.when_test env) then step_ran s d env members (state_of s d env before) else leaves env
-
--- what is sent of a run
-abbrev pub sent_of : Split → Dense → Ran → Sent
-sent_of split d ran = record {
-  values = slot_values 0 (slot_ops (program_of split)) ran.emitted;
-  operands = operands (loop_split d).reduced.items ran.env;
-}
 
 -- how many words a loop state has
 abbrev pub width_of : Split → ℕ
@@ -54,7 +47,7 @@ Sees g s v (e ∷ es) = SeesLoop g s v (e ∷ es)
 
 -- what a scan sends and reads is that of this run
 pub record ScansAs (split : Split) (d : Dense) (got : Scanned) (ran : Ran) : Type 0 where
-  pub sent : got.sent ≡ sent_of split d ran
+  pub sent : got.sent ≡ sent_by_segment split d ran
   pub reads : got.reads ≡ ran.reads
 
 -- begun with the state of the loop before, a scan hands on the state of the loop behind its members, and sends and
