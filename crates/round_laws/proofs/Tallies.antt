@@ -104,13 +104,16 @@ rows_are rows =
 sum-passing : {X : Type 0} (test : X → Bool) (f : X → ℕ) (xs : List X) →
     sum (map f (filter test xs)) ≡ sum (map (λ x. if test x then f x else 0) xs)
 sum-passing test f [] = refl
-sum-passing test f (x ∷ xs) = by (test x) ∙ sym (sum-more (if test x then f x else 0) (map (λ x. if test x then f x else 0) xs))
+sum-passing test f (x ∷ xs) =
+    by (test x) (sum-passing test f xs) ∙ sym (sum-more (if test x then f x else 0) (map (λ x. if test x then f x else 0) xs))
   where
-    by : (b : Bool) → sum (map f (cond b (x ∷ filter test xs) (filter test xs))) ≡
+    by : (b : Bool) → sum (map f (filter test xs)) ≡ sum (map (λ x. if test x then f x else 0) xs) →
+        sum (map f (cond b (x ∷ filter test xs) (filter test xs))) ≡
         (if b then f x else 0) + sum (map (λ x. if test x then f x else 0) xs)
-    by true = sum-more (f x) (map f (filter test xs)) ∙ ap (λ n. f x + n) (sum-passing test f xs)
-    by false = let none : sum (map f (filter test xs)) ≡ 0 + sum (map f (filter test xs)) = omega arith in
-        none ∙ ap (λ n. 0 + n) (sum-passing test f xs)
+    by true rest = sum-more (f x) (map f (filter test xs)) ∙ ap (λ n. f x + n) rest
+    by false rest =
+        let none : sum (map f (filter test xs)) ≡ 0 + sum (map f (filter test xs)) = omega arith in
+        none ∙ ap (λ n. 0 + n) rest
 
 -- machine 0 and the others are all machines
 all_machines : (p : ℕ) → 1 ≤ p → 0 ∷ others_of p 0 ≡ range_with_len 0 p

@@ -12,4 +12,5 @@ pub mod Seen
 pub mod SparseClose
 pub mod Steps
 pub mod Sums
+pub mod Tallies
 pub mod Vertices

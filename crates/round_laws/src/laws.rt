@@ -7,6 +7,7 @@ ghost use Rattle.round_laws.specs.Scans.{ScansAfresh, ScansTheRing};
 ghost use Rattle.round_laws.specs.Seen.{EnvironmentsAreSeen, LoopsAreSeen};
 ghost use Rattle.round_laws.specs.SparseClose.{ClosesSparse};
 ghost use Rattle.round_laws.specs.Steps.{BeginsAfresh, ComesByMachines, GrowsByMachines};
+ghost use Rattle.round_laws.specs.Tallies.{TalliesAreSummed};
 
 /// The law that what the machines of a chunk do at a vertex, step by step, is its whole loop. It does nothing.
 pub fn ring_comes_round()
@@ -53,4 +54,9 @@ pub fn dense_closes()
 /// The law that the close of a sparse round makes the source's rows. It does nothing.
 pub fn sparse_closes()
     ensures { ClosesSparse }
+{}
+
+/// The law that the tallies of a round come to the counts and totals of all vertices. It does nothing.
+pub fn tallies_are_summed()
+    ensures { TalliesAreSummed }
 {}
