@@ -40,6 +40,7 @@ pub mod Ranges
 pub mod Readable
 pub mod Scans
 pub mod Seen
+pub mod Sights
 pub mod SparseClose
 pub mod Steps
 pub mod Sums

@@ -9,6 +9,7 @@ pub mod Partials
 pub mod Planned
 pub mod Scans
 pub mod Seen
+pub mod Sights
 pub mod SparseClose
 pub mod Steps
 pub mod Sums

@@ -5,6 +5,7 @@ ghost use Rattle.round_laws.specs.Lets.{LetsByMachines};
 ghost use Rattle.round_laws.specs.Partials.{FillsSent};
 ghost use Rattle.round_laws.specs.Scans.{ScansAfresh, ScansTheRing};
 ghost use Rattle.round_laws.specs.Seen.{EnvironmentsAreSeen, LoopsAreSeen};
+ghost use Rattle.round_laws.specs.Sights.{OwnAreSeen, OwnScansAreSeen, ToldScansAreSeen};
 ghost use Rattle.round_laws.specs.SparseClose.{ClosesSparse};
 ghost use Rattle.round_laws.specs.Steps.{BeginsAfresh, ComesByMachines, GrowsByMachines};
 ghost use Rattle.round_laws.specs.Tallies.{TalliesAreSummed};
@@ -59,4 +60,11 @@ pub fn sparse_closes()
 /// The law that the tallies of a round come to the counts and totals of all vertices. It does nothing.
 pub fn tallies_are_summed()
     ensures { TalliesAreSummed }
+{}
+
+/// The law that a machine sees the source's rows and degrees, in its own chunk and where it was told of another. It does nothing.
+pub fn machines_see_the_source()
+    ensures own { OwnAreSeen }
+    ensures here { OwnScansAreSeen }
+    ensures told { ToldScansAreSeen }
 {}
