@@ -29,6 +29,8 @@
 pub mod Chunks
 pub mod DenseClose
 pub mod DenseRound
+pub mod FoldTakes
+pub mod Held
 pub mod IdealScans
 pub mod Keys
 pub mod Lets

@@ -1,7 +1,9 @@
 pub mod Chunks
 pub mod DenseClose
 pub mod DenseRound
+pub mod FoldTakes
 pub mod IdealScans
+pub mod IsIdeal
 pub mod Keys
 pub mod Lets
 pub mod Members

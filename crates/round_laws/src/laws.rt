@@ -1,5 +1,6 @@
 ghost use Rattle.round_laws.specs.DenseClose.{ClosesDense};
 ghost use Rattle.round_laws.specs.DenseRound.{RoundByMachines};
+ghost use Rattle.round_laws.specs.FoldTakes.{TakesWhatIsKept};
 ghost use Rattle.round_laws.specs.IdealScans.{FreshScansAreIdeal, ScansAreIdeal};
 ghost use Rattle.round_laws.specs.Lets.{LetsByMachines};
 ghost use Rattle.round_laws.specs.Partials.{FillsSent};
@@ -67,4 +68,9 @@ pub fn machines_see_the_source()
     ensures own { OwnAreSeen }
     ensures here { OwnScansAreSeen }
     ensures told { ToldScansAreSeen }
+{}
+
+/// The law that a machine that takes an ideal body still holds what the source's run says. It does nothing.
+pub fn takes_are_ideal()
+    ensures { TakesWhatIsKept }
 {}
