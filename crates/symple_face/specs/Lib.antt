@@ -20,3 +20,6 @@ pub mod CoreFirst
 pub mod CoreWork
 pub mod Lawful
 pub mod Restarts
+pub mod Cluster
+pub mod Source
+pub mod Ideal

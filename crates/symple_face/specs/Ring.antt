@@ -1,19 +1,18 @@
 -- The loop of a vertex whose members lie with several machines.
-use Rattle.std.specs.Prelude.{◌==◌, ℕ, zero, suc, ◌+◌, ℤ, List, [], ◌∷◌, Option, None, Some, if◌then◌else◌, map, option_to_list}
+use Rattle.std.specs.Prelude.{ℕ, zero, suc, ◌+◌, ℤ, List, [], ◌∷◌, Option, None, Some, map, option_to_list}
 use Rattle.std.specs.Int.{bit_at}
 use Rattle.std.specs.List.{flat_map, range_with_len}
 use Rattle.vert_base.specs.declared.graph.Edge.{Edge}
 use Rattle.vert_base.specs.declared.value.Combine.{Combine}
-use Rattle.vert_base.specs.Neighbours.{ins_of}
 use Rattle.vert_tree.specs.declared.program.Dense.{Dense}
 use Rattle.carry_analysis.specs.declared.classes.Class.{Class}
 use Rattle.carry_analysis.specs.declared.classes.Class.TheVariants.{Constant, Reduced, Carried}
-use Rattle.slot_merge.specs.Combine.{combined, combined_of, words_for}
+use Rattle.slot_merge.specs.Combine.{combined, combined_of}
 use Rattle.vert_eval.specs.declared.environment.Env.{Env}
 use Rattle.vert_eval.specs.declared.environment.Flow.{Flow}
 use Rattle.vert_eval.specs.declared.environment.Flow.TheVariants.{Going, Broke}
-use Rattle.vert_eval.specs.Rounds.{Scene, members_of}
-use Rattle.vert_eval.specs.Runs.{Ran, leaves, run}
+use Rattle.vert_eval.specs.Rounds.{Scene}
+use Rattle.vert_eval.specs.Runs.{Ran, leaves}
 use Rattle.vert_eval.specs.Values.{word_at}
 use Rattle.circulant_plan.specs.Ring.{members_by_steps, members_with, order_of}
 use Rattle.instrument.specs.Continued.{segment, whole}
@@ -102,11 +101,3 @@ closing (Carried ∷ cs) (o ∷ own) [] came = o ∷ closing cs own [] came
 closing (Carried ∷ cs) (o ∷ own) (w ∷ carried) came = w ∷ closing cs own carried came
 closing (Reduced op ∷ cs) (o ∷ own) carried [] = o ∷ closing cs own carried []
 closing (Reduced op ∷ cs) (o ∷ own) carried (t ∷ came) = with_operand op o t ∷ closing cs own carried came
-
--- the words for a slot under each key: one from the machine of each step, and then those of the tail
-abbrev pub dense_bucket : Combine → ℕ → Scene → Dense → Env → ℕ → ℕ → ℕ → ℕ → List ℤ
-dense_bucket op slot s d env p c v key =
-    let ran : ℕ → Ran = machine_ran s d env s.graph.ends p c (ins_of s.graph.vertices s.graph.edges v) in
-    if key == p
-    then words_for slot (run d.tail.items (whole s d env (members_of s.graph v)).env).emitted
-    else option_to_list (combined op (words_for slot (ran key).emitted))

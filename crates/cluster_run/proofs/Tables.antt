@@ -1,0 +1,118 @@
+-- What the table of actions says of the names at a spot, and of the spot behind it.
+use Rattle.std.proofs.Common.{◌≡◌, ◌≢◌, ◌⊎◌, ℕ, zero, suc, ◌+◌, ◌<◌, ◌≤◌, Bool, true, false, cond, ◌&&◌, List, [], ◌∷◌, map, refl, ap, sym, ◌∙◌, subst, inl, inr, arith, ⊎_elim, nat_lt}
+use Rattle.std.specs.Prelude.{if◌then◌else◌, ◌==◌, ◌-◌}
+use Rattle.std.specs.List.{Contains}
+use Rattle.std.proofs.lemmas.Bool.{false≢true, cases_eq}
+use Rattle.vert_base.specs.declared.message.Name.{Name}
+use Rattle.vert_base.specs.declared.message.NameKind.TheVariants.{Refresh, Dep, Update, Push, Tally, Verdict}
+use Rattle.vert_base.specs.declared.value.Ruling.{Ruling}
+use Rattle.vert_base.specs.declared.value.Ruling.TheVariants.{Stop, Dense, Sparse}
+use Rattle.circulant_plan.specs.declared.spot.Ring.{Ring}
+use Rattle.circulant_plan.specs.declared.spot.Spot.{Spot}
+use Rattle.circulant_plan.specs.declared.spot.Spot.TheVariants.{Tell, Judge, Begin, Scan, Close, Over}
+use Rattle.circulant_plan.specs.Names.{refresh_name, dep_name, update_name, push_name, tally_name, verdict_name}
+use Rattle.circulant_plan.specs.Ring.{chunk_of, after_machine}
+use Rattle.circulant_plan.specs.Skeleton.{is_over, acting_ruling}
+use Rattle.circulant_plan.specs.Standing.{Standing, round_of, round_ruled, next_standing}
+use Rattle.circulant_plan.specs.Table.{others_of, name_if, tally_gives, begin_gives, needs_of, gives_of, after_begin, after_judge, next_spot}
+use Rattle.circulant_plan.specs.Deliveries.{HasSpot, IsSentBefore}
+use Rattle.circulant_plan.proofs.Members.{Has, has_map_cases, contains_from_has}
+use Rattle.circulant_plan.proofs.Choices.{has_name_if_cases}
+use Rattle.circulant_plan.proofs.NeedLaws.{needed_is_sent}
+use Rattle.circulant_plan.proofs.StandingLaws.{is_zero, not_zero}
+use Rattle.skeleton_laws.proofs.Settled.{dense_goes, sparse_goes}
+
+-- a spot is in a list of actions by some ruling that isn't stop
+pub record HasMode (ring : Ring) (m : ℕ) (spot : Spot) : Type 0 where
+  pub mode : Ruling
+  pub goes : mode ≢ Stop
+  pub has : HasSpot ring m mode spot
+
+pub mode_for : (ring : Ring) (m : ℕ) (ruling : Ruling) (spot : Spot) → HasSpot ring m ruling spot → HasMode ring m spot
+mode_for ring m ruling Tell has = record { mode = Dense; goes = dense_goes; has = tt }
+mode_for ring m ruling (Judge r) has = record { mode = Dense; goes = dense_goes; has = has }
+mode_for ring m ruling (Begin r) has = record { mode = Dense; goes = dense_goes; has = has }
+mode_for ring m ruling (Scan r s h) has = record { mode = Dense; goes = dense_goes; has = (has.0, has.1, has.2, refl) }
+mode_for ring m ruling (Close r true) has = record { mode = Dense; goes = dense_goes; has = (has.0, refl) }
+mode_for ring m ruling (Close r false) has = record { mode = Sparse; goes = sparse_goes; has = (has.0, refl) }
+mode_for ring m ruling Over has = record { mode = Dense; goes = dense_goes; has = tt }
+
+-- what a machine needs is addressed to it, and of the round of the spot
+pub need_here : (ring : Ring) (m : ℕ) (ruling : Ruling) (spot : Spot) (x : Name) → m < ring.machines →
+    ring.machines ≤ 64 → HasSpot ring m ruling spot → Has (needs_of ring m spot) x →
+    (x.to ≡ m) × (x.round ≡ round_of 0 spot)
+need_here ring m ruling spot x within few has h =
+    let mode = mode_for ring m ruling spot has in
+    let sent = needed_is_sent ring m mode.mode spot x within few mode.goes mode.has
+    (contains_from_has (needs_of ring m spot) x h) in
+    (sent.to, sent.round)
+
+-- ---- what a machine sends
+abbrev IsFrom : ℕ → Spot → Name → Type 0
+IsFrom m spot x = (x.from ≡ m) × (x.kind ≡ Verdict → (r : ℕ) × (spot ≡ Judge r) × (x.round ≡ r + 1))
+
+named : (f : ℕ → Name) (ns : List ℕ) (m : ℕ) (spot : Spot) (x : Name) → ((k : ℕ) → IsFrom m spot (f k)) →
+    Has (map f ns) x → IsFrom m spot x
+named f ns m spot x each h = let c = has_map_cases f ns x h in subst (IsFrom m spot) c.2 (each c.0)
+
+tally_from : (m r : ℕ) (spot : Spot) (x : Name) (b : Bool) → Has (if b then [] else tally_name r m ∷ []) x → IsFrom m spot x
+tally_from m r spot x true h = absurd h
+tally_from m r spot x false (inl e) = subst (IsFrom m spot) e (refl, λ same. absurd (let no : Tally ≡ Verdict = same in grind arith))
+tally_from m r spot x false (inr h) = absurd h
+
+judge_from : (ring : Ring) (m r : ℕ) (x : Name) (b : Bool) → (m == 0) ≡ b →
+    Has (if b then map (verdict_name (r + 1)) (others_of ring.machines 0) else []) x → IsFrom m (Judge r) x
+judge_from ring m r x true e h =
+    named (verdict_name (r + 1)) (others_of ring.machines 0) m (Judge r) x
+    (λ k. (sym (first m e), λ same. (r, refl, refl))) h
+  where
+    first : (m : ℕ) → (m == 0) ≡ true → m ≡ 0
+    first zero at = refl
+    first (suc m) at = grind arith
+judge_from ring m r x false e h = absurd h
+
+begin_from : (p m r : ℕ) (ruling : Ruling) (x : Name) → Has (begin_gives p m r ruling) x → IsFrom m (Begin r) x
+begin_from p m r Stop x h = absurd h
+begin_from p m r Dense x h =
+    named (refresh_name r m) (others_of p m) m (Begin r) x (λ k. (refl, λ same. absurd (let no : Refresh ≡ Verdict = same in grind arith))) h
+begin_from p m r Sparse x h =
+    named (push_name r m) (others_of p m) m (Begin r) x (λ k. (refl, λ same. absurd (let no : Push ≡ Verdict = same in grind arith))) h
+
+dep_from : (m r s h : ℕ) (to : ℕ) (x : Name) (carry : Bool) → Has (name_if carry (dep_name r s h m to)) x → IsFrom m (Scan r s h) x
+dep_from m r s h to x carry has =
+    let c = has_name_if_cases carry (dep_name r s h m to) x has in
+    subst (IsFrom m (Scan r s h)) c.1 (refl, λ same. absurd (let no : Dep ≡ Verdict = same in grind arith))
+
+scan_from : (ring : Ring) (m r s h : ℕ) (x : Name) (b : Bool) →
+    Has (if b then update_name r s h m (chunk_of m s ring.machines) ∷ name_if ring.carry (dep_name r s h m (after_machine m ring.machines)) else []) x → IsFrom m (Scan r s h) x
+scan_from ring m r s h x true (inl e) = subst (IsFrom m (Scan r s h)) e (refl, λ same. absurd (let no : Update ≡ Verdict = same in grind arith))
+scan_from ring m r s h x true (inr has) = dep_from m r s h (after_machine m ring.machines) x ring.carry has
+scan_from ring m r s h x false has = absurd has
+
+-- what a machine sends is from it, and a verdict comes from a judge
+pub gift_from : (ring : Ring) (m : ℕ) (spot : Spot) (ruling : Ruling) (x : Name) → Has (gives_of ring m spot ruling) x → IsFrom m spot x
+gift_from ring m Tell ruling x h = tally_from m 0 Tell x (m == 0) h
+gift_from ring m (Judge r) ruling x h = judge_from ring m r x (m == 0) refl h
+gift_from ring m (Begin r) ruling x h = begin_from ring.machines m r ruling x h
+gift_from ring m (Scan r s h) ruling x has = scan_from ring m r s h x (nat_lt s (ring.machines - 1)) has
+gift_from ring m (Close r dense) ruling x h = tally_from m r (Close r dense) x (m == 0) h
+gift_from ring m Over ruling x h = absurd h
+
+-- ---- which ruling counts
+-- an action goes by the ruling of its round at a begin alone
+pub record ActsAlike (ring : Ring) (m : ℕ) (spot : Spot) (a b : Ruling) : Type 0 where
+  pub gives : gives_of ring m spot a ≡ gives_of ring m spot b
+  pub next : next_spot ring m spot a ≡ next_spot ring m spot b
+
+acts_by : (ring : Ring) (m : ℕ) (spot : Spot) (a b : Ruling) → a ≡ b → ActsAlike ring m spot a b
+acts_by ring m spot a b e = record { gives = ap (gives_of ring m spot) e; next = ap (next_spot ring m spot) e }
+
+pub acts_alike : (ring : Ring) (m : ℕ) (judged known other : Ruling) (spot : Spot) →
+    ((r : ℕ) → spot ≡ Begin r → known ≡ other) →
+    ActsAlike ring m spot (acting_ruling judged known spot) (acting_ruling judged other spot)
+acts_alike ring m judged known other Tell same = record { gives = refl; next = refl }
+acts_alike ring m judged known other (Judge r) same = record { gives = refl; next = refl }
+acts_alike ring m judged known other (Begin r) same = acts_by ring m (Begin r) known other (same r refl)
+acts_alike ring m judged known other (Scan r s h) same = record { gives = refl; next = refl }
+acts_alike ring m judged known other (Close r dense) same = record { gives = refl; next = refl }
+acts_alike ring m judged known other Over same = record { gives = refl; next = refl }

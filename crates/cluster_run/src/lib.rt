@@ -1,0 +1,2 @@
+//! Many machines of one kind, and one event at a time.
+#![tactic(auto)]

@@ -1,6 +1,0 @@
-pub mod Chunks
-pub mod Keys
-pub mod Members
-pub mod Planned
-pub mod Sums
-pub mod Vertices

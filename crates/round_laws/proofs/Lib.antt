@@ -1,0 +1,50 @@
+-- What machines hold of a graph is the graph, and what they do in a round comes to the source run.
+--
+-- Parts, as `part_of` of symple_face makes them of a graph and of chunks: the edges into a vertex that a machine scans
+-- are the members of its loop that lie with it, and the edges over which its owner is pushed to are all that lead to
+-- it, each in the order of in(v) (Members); so the machines of the steps on a chunk read N_t(v) in its order. The lists
+-- of vertices between two machines are those of a chunk at which there is something to scan or to push over, and a
+-- machine knows the degrees of its own vertices and of all that it works on (Vertices). The keys of a sparse round rise
+-- along N_t(v) (Keys). Sums, counts and totals by chunks are those over all vertices, and sums by steps those by
+-- machines (Sums). The receiver of a planned message can take it (Planned).
+--
+-- Chunks: each vertex lies in one chunk, and the chunks are those of the ring.
+-- Lists: tests of lists, filters and orders, for the files on parts. Ranges: lists over the first so many numbers.
+-- Members: an order of a filter is a filter of the order, and an order of two keys keeps what has one of them.
+-- Keys: above the turn a key is u - t, below it n - t + u, so a list by ascending source that turns at t rises by key.
+-- Vertices: the chunk's vertices are those of all that pass `lies_in`; both tests are `list_any` over the same edges.
+-- Sums: the chunks cover the vertices from 0 on; what is summed over joined lists is summed over the lists.
+--
+-- Steps: one machine more in the ring of a vertex (`grows`), by the law of split loops: the segment of a machine adds
+-- to the loop so far what the whole loop adds. So emissions and reads are those of the machines of the steps, one
+-- after another (`by_machines`), and without a carry each machine begins afresh (`begins_afresh`).
+-- Lets: the lets at the loop's end are own words, carried ones, and own ones combined with the operands of the steps.
+-- DenseRound: a partial with a bucket for each step and one for the tail has what the source combines.
+-- Seen: a machine's environments and loops are the source's where it sees the source's rows and degrees.
+-- Scans: a scan at a vertex does what the machine of the step does, whatever the key.
+-- Partials: what is sent goes to the ends of buckets, and the values of partials by their buckets.
+-- DenseClose: the tail runs in the environment that the loop leaves, so the close makes the source's row.
+-- SparseClose: keys rise along N_t(v), so the buckets in turn are what its members emit.
+-- Readable: what the blocks of a typed program may read.
+pub mod Chunks
+pub mod DenseClose
+pub mod DenseRound
+pub mod FoldTakes
+pub mod Held
+pub mod IdealScans
+pub mod Keys
+pub mod Lets
+pub mod Lists
+pub mod Members
+pub mod Partials
+pub mod Planned
+pub mod Ranges
+pub mod Readable
+pub mod Scans
+pub mod Seen
+pub mod Sights
+pub mod SparseClose
+pub mod Steps
+pub mod Sums
+pub mod Tallies
+pub mod Vertices

@@ -1,0 +1,48 @@
+-- What the blocks of a typed program may read.
+use Rattle.std.proofs.Common.{◌≡◌, true, Option, Some, sym, ap, ◌∙◌}
+use Rattle.std.specs.Prelude.{◌&&◌, is_some}
+use Rattle.std.specs.List.{list_all}
+use Rattle.std.proofs.lemmas.Bool.{and_parts}
+use Rattle.vert_tree.specs.declared.program.Dense.{Dense}
+use Rattle.vert_tree.specs.declared.program.Program.{Program}
+use Rattle.vert_tree.specs.declared.program.Sparse.{Sparse}
+use Rattle.vert_tree.specs.Kinds.{is_kinded}
+use Rattle.vert_tree.specs.Limits.{is_limited, is_shallow, mode_stands, names_stand, version_stands}
+use Rattle.vert_tree.specs.Places.{is_placed, option_all}
+use Rattle.vert_tree.specs.Readable.{body_read, decls_read, dense_read, expr_read, in_fields, in_loop, in_sparse, in_tests, is_readable, sparse_read}
+use Rattle.vert_tree.specs.Typed.{is_typed}
+
+readable : (p : Program) → is_typed p ≡ true → is_readable p ≡ true
+readable p typed =
+    let a = and_parts (is_placed p) _ typed in
+    let b = and_parts (is_kinded p) _ a.1 in
+    let c = and_parts (is_limited p) _ b.1 in
+    let d = and_parts (is_shallow p) _ c.1 in
+    let e = and_parts (names_stand p) _ d.1 in
+    let f = and_parts (version_stands p) _ e.1 in
+    let g = and_parts (mode_stands p.mode (is_some p.dense) (is_some p.sparse)) _ f.1 in
+    (and_parts (is_readable p) _ g.1).0
+
+blocks_read : (p : Program) → is_typed p ≡ true →
+    (option_all dense_read p.dense ≡ true) × (option_all sparse_read p.sparse ≡ true)
+blocks_read p typed =
+    let a = and_parts (decls_read in_fields p.fields.items) _ (readable p typed) in
+    let b = and_parts (list_all (λ t. expr_read in_tests t.value) p.totals.items) _ a.1 in
+    let c = and_parts (expr_read in_fields p.start) _ b.1 in
+    let d = and_parts (option_all dense_read p.dense) _ c.1 in
+    (d.0, (and_parts (option_all sparse_read p.sparse) _ d.1).0)
+
+-- a tail reads no neighbour
+pub tail_read : (p : Program) (d : Dense) → is_typed p ≡ true → p.dense ≡ Some d → body_read in_tests d.tail.items ≡ true
+tail_read p d typed e =
+    let all : dense_read d ≡ true = ap (option_all dense_read) (sym e) ∙ (blocks_read p typed).0 in
+    let a = and_parts (expr_read in_tests d.when_test) _ all in
+    let b = and_parts (decls_read in_tests d.lets.items) _ a.1 in
+    (and_parts (body_read in_loop d.body.items) _ b.1).1
+
+-- a sparse body reads of the neighbour nothing but the weight of its edge
+pub pushed_read : (p : Program) (k : Sparse) → is_typed p ≡ true → p.sparse ≡ Some k → body_read in_sparse k.body.items ≡ true
+pushed_read p k typed e =
+    let all : sparse_read k ≡ true = ap (option_all sparse_read) (sym e) ∙ (blocks_read p typed).1 in
+    let a = and_parts (expr_read in_tests k.when_test) _ all in
+    (and_parts (decls_read in_tests k.sends.items) _ a.1).1

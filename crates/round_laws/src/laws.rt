@@ -1,0 +1,76 @@
+ghost use Rattle.round_laws.specs.DenseClose.{ClosesDense};
+ghost use Rattle.round_laws.specs.DenseRound.{RoundByMachines};
+ghost use Rattle.round_laws.specs.FoldTakes.{TakesWhatIsKept};
+ghost use Rattle.round_laws.specs.IdealScans.{FreshScansAreIdeal, ScansAreIdeal};
+ghost use Rattle.round_laws.specs.Lets.{LetsByMachines};
+ghost use Rattle.round_laws.specs.Partials.{FillsSent};
+ghost use Rattle.round_laws.specs.Scans.{ScansAfresh, ScansTheRing};
+ghost use Rattle.round_laws.specs.Seen.{EnvironmentsAreSeen, LoopsAreSeen};
+ghost use Rattle.round_laws.specs.Sights.{OwnAreSeen, OwnScansAreSeen, ToldScansAreSeen};
+ghost use Rattle.round_laws.specs.SparseClose.{ClosesSparse};
+ghost use Rattle.round_laws.specs.Steps.{BeginsAfresh, ComesByMachines, GrowsByMachines};
+ghost use Rattle.round_laws.specs.Tallies.{TalliesAreSummed};
+
+/// The law that what the machines of a chunk do at a vertex, step by step, is its whole loop. It does nothing.
+pub fn ring_comes_round()
+    ensures grows { GrowsByMachines }
+    ensures machines { ComesByMachines }
+    ensures afresh { BeginsAfresh }
+{}
+
+/// The law of the lets at the end of a loop by machines. It does nothing.
+pub fn lets_at_the_end()
+    ensures { LetsByMachines }
+{}
+
+/// The law of a dense round at a vertex by machines. It does nothing.
+pub fn dense_rounds()
+    ensures { RoundByMachines }
+{}
+
+/// The law that where a machine sees the source's rows and degrees its environments and loops are the source's. It
+/// does nothing.
+pub fn sights_agree()
+    ensures environments { EnvironmentsAreSeen }
+    ensures loops { LoopsAreSeen }
+{}
+
+/// The law that a scan at a vertex does what the machine of the step does by the source. It does nothing.
+pub fn scans_by_the_source()
+    ensures ring { ScansTheRing }
+    ensures afresh { ScansAfresh }
+    ensures ideal { ScansAreIdeal }
+    ensures fresh { FreshScansAreIdeal }
+{}
+
+/// The law of the partials to which the words of a step are added. It does nothing.
+pub fn partials_by_steps()
+    ensures { FillsSent }
+{}
+
+/// The law that the close of a dense round makes the source's rows. It does nothing.
+pub fn dense_closes()
+    ensures { ClosesDense }
+{}
+
+/// The law that the close of a sparse round makes the source's rows. It does nothing.
+pub fn sparse_closes()
+    ensures { ClosesSparse }
+{}
+
+/// The law that the tallies of a round come to the counts and totals of all vertices. It does nothing.
+pub fn tallies_are_summed()
+    ensures { TalliesAreSummed }
+{}
+
+/// The law that a machine sees the source's rows and degrees, in its own chunk and where it was told of another. It does nothing.
+pub fn machines_see_the_source()
+    ensures own { OwnAreSeen }
+    ensures here { OwnScansAreSeen }
+    ensures told { ToldScansAreSeen }
+{}
+
+/// The law that a machine that takes an ideal body still holds what the source's run says. It does nothing.
+pub fn takes_are_ideal()
+    ensures { TakesWhatIsKept }
+{}
