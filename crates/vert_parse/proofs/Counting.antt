@@ -9,11 +9,11 @@ use Rattle.vert_lex.specs.Tokens.{Name}
 use Rattle.vert_lex.specs.declared.token.Token.{Token}
 use Rattle.vert_lex.specs.View.{plain_kind as lexed_kind, plain_token, plain_tokens}
 use Rattle.vert_tree.specs.Views.{text_in, text_of}
-use Rattle.vert_parse.specs.declared.sign.Sign.{Sign}
-use Rattle.vert_parse.specs.declared.sign.SignKind.TheVariants as kinds
+use Rattle.tree_reader.specs.declared.sign.Sign.{Sign}
+use Rattle.tree_reader.specs.declared.sign.SignKind.TheVariants as kinds
 use Rattle.vert_parse.specs.Numbers.{IsSignOf}
 use Rattle.vert_parse.specs.Parsing.{AreSmall, IsSmallKind}
-use Rattle.vert_parse.specs.Signs.{plain, plain_sign}
+use Rattle.tree_reader.specs.Signs.{plain, plain_sign}
 
 abbrev Names : Type 0
 Names = List (String Global)

@@ -1,9 +1,3 @@
-pub mod AtomLaws
-pub mod Steps
-pub mod Blocks
-pub mod Shrinks
-pub mod Loops
-pub mod Ends
 pub mod Counting
 pub mod Adding
 pub mod Turns

@@ -10,7 +10,7 @@ use Rattle.vert_parse.specs.Entered.{enter_all, has_place, is_entered, texts_in}
 use Rattle.vert_parse.specs.Idents.{program_all}
 use Rattle.vert_parse.specs.Names.{program_names}
 use Rattle.vert_parse.specs.Parsing.{IsNamed, is_fresh}
-use Rattle.vert_parse.specs.Programs.{view_named}
+use Rattle.tree_reader.specs.Programs.{view_named}
 use Rattle.vert_parse.proofs.Adding.{all_entered}
 use Rattle.vert_parse.proofs.Within.{program_within}
 

@@ -27,7 +27,7 @@ use Rattle.vert_tree.specs.Views.{if_of, text_in, text_of, view, view_block, vie
 use Rattle.vert_grammar.specs.Reading.{block_of}
 use Rattle.vert_parse.specs.Entered.{is_entered}
 use Rattle.vert_parse.specs.Idents.{body_all, decl_all, dense_all, expr_all, level_all, program_all, slot_all, sparse_all, stmt_all, total_all}
-use Rattle.vert_parse.proofs.Blocks.{block_view, if_view}
+use Rattle.tree_reader.proofs.Blocks.{block_view, if_view}
 
 abbrev Names : Type 0
 Names = List (String Global)

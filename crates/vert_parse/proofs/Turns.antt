@@ -14,7 +14,7 @@ use Rattle.vert_tree.specs.Views.{view, view_block, view_statement}
 use Rattle.vert_parse.specs.Entered.{enter, enter_all}
 use Rattle.vert_parse.specs.Names.{Texts, block_names, statement_names, tree_names}
 use Rattle.vert_parse.proofs.Adding.{enter_both, enter_more, enter_none}
-use Rattle.vert_parse.proofs.Blocks.{if_view}
+use Rattle.tree_reader.proofs.Blocks.{if_view}
 
 -- ---- a name
 pub named_turn : (a b e : Texts) (text : List ℕ) (more : Texts) → b ≡ enter a text → e ≡ enter_all b more → e ≡ enter_all a (text ∷ more)

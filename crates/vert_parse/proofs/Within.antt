@@ -25,8 +25,8 @@ use Rattle.vert_tree.specs.Places.{option_all}
 use Rattle.vert_tree.specs.Views.{text_of, view, view_block, view_declaration, view_dense, view_node, view_slot, view_sparse, view_statement, view_total}
 use Rattle.vert_parse.specs.Idents.{body_all, decl_all, dense_all, expr_all, level_all, node_all, program_all, slot_all, sparse_all, stmt_all, total_all}
 use Rattle.vert_parse.specs.Names.{Texts, block_names, declaration_names, dense_names, given_names, program_names, slot_names, sparse_names, statement_names, total_names, tree_names}
-use Rattle.vert_parse.specs.Programs.{view_named}
-use Rattle.vert_parse.proofs.Blocks.{if_view}
+use Rattle.tree_reader.specs.Programs.{view_named}
+use Rattle.tree_reader.proofs.Blocks.{if_view}
 
 module _ (q : List ℕ → Bool) (names : List (String Global)) where
   abbrev p : Ident → Bool

@@ -4,8 +4,8 @@ use Rattle.std.specs.declared.alloc.Global.{Global}
 use Rattle.std.specs.declared.string.String.{String}
 use Rattle.vert_lex.specs.declared.token.Token.{Token}
 use Rattle.vert_lex.specs.View.{plain_token}
-use Rattle.vert_parse.specs.declared.sign.Sign.{Sign}
-use Rattle.vert_parse.specs.Signs.{plain_sign}
+use Rattle.tree_reader.specs.declared.sign.Sign.{Sign}
+use Rattle.tree_reader.specs.Signs.{plain_sign}
 
 -- At most one name was added, and the sign is the token whatever names are added later.
 pub record IsSignOf (token : Token) (before after : List (String Global)) (sign : Sign) : Type 0 where

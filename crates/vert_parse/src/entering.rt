@@ -4,7 +4,7 @@
 ghost use Rattle.std.specs.Prelude.{◌≡◌, flat_map, map, option_map, OnOk, IfErr};
 ghost use Rattle.vert_parse.specs.Entered.{enter, enter_all, texts_in};
 ghost use Rattle.vert_parse.specs.Names.{block_names, declaration_names, dense_names, given_names, program_names, slot_names, sparse_names, statement_names, total_names, tree_names};
-ghost use Rattle.vert_parse.specs.Programs.{view_named};
+ghost use Rattle.tree_reader.specs.Programs.{view_named};
 ghost use Rattle.vert_tree.specs.Views.{text_of, view, view_block, view_declaration, view_dense, view_slot, view_sparse, view_statement, view_total};
 
 use crate::fault::ParseFault;

@@ -1,8 +1,6 @@
 ghost use Rattle.std.specs.Prelude.{◌≡◌};
-ghost use Rattle.vert_parse.specs.declared.fault.Halt.TheVariants.{Memory};
 ghost use Rattle.vert_parse.specs.declared.fault.ParseFault.TheVariants.{Want};
 
-use crate::sign::Sign;
 use std::alloc::{AllocError, AllocFailed};
 use thiserror::Error;
 use vert_base::Span;
@@ -22,37 +20,6 @@ pub enum ParseFault {
     /// Memory ran out, or there are more names than an `Ident` has numbers for.
     #[error("out of memory")]
     Want,
-}
-
-/// Why reading stops.
-#[derive(Clone, Copy)]
-pub(crate) enum Why {
-    Unexpected,
-    TooDeep,
-    TooMany,
-}
-
-/// Memory ran out, or reading stops at the first of these tokens.
-#[derive(Clone, Copy)]
-pub(crate) enum Halt<'a> {
-    Memory,
-    Fault(Why, &'a [Sign]),
-}
-
-impl From<AllocError> for Halt<'_> {
-    ghost from_gives = { λ _ e. e ≡ Memory };
-
-    fn from(_failed: AllocError) -> Self {
-        Halt::Memory
-    }
-}
-
-impl<T: Drop> From<AllocFailed<T>> for Halt<'_> {
-    ghost from_gives = { λ _ e. e ≡ Memory };
-
-    fn from(_failed: AllocFailed<T>) -> Self {
-        Halt::Memory
-    }
 }
 
 impl From<AllocError> for ParseFault {

@@ -1,6 +1,6 @@
-ghost use Rattle.std.specs.Prelude.{◌≡◌, IfOk, IfErr};
+ghost use Rattle.std.specs.Prelude.{◌≡◌, IfOk, IfErr, OnOk};
 ghost use Rattle.vert_parse.specs.Parsing.{IsNamed};
-ghost use Rattle.vert_parse.specs.Programs.{view_named};
+ghost use Rattle.tree_reader.specs.Programs.{view_named};
 ghost use Rattle.vert_tree.specs.Views.{view_program};
 
 use crate::entering::enter_program;
@@ -17,26 +17,25 @@ fn texts(alloc: Global, used: IndexSet<String>) -> Result<Vec<String>, AllocErro
     used.into_iter().collect(alloc)
 }
 
-/// A program whose names had these texts, with its own names, each once and in order.
-pub(crate) fn with_names(
+/// Gives a program, whose names had these texts, its own names, each once and in order.
+pub(crate) fn give_names(
     alloc: Global,
-    program: Program,
+    program: &mut Program,
     names: &[String],
-) -> Result<Program, ParseFault>
-    ensures same { IfOk result (λ p. view_program p ≡ view_named names.now program) }
-    ensures named { IfOk result IsNamed }
+) -> Result<(), ParseFault>
+    ensures same { OnOk result (view_program program.new ≡ view_named names.now program.old) }
+    ensures named { OnOk result (IsNamed program.new) }
     ensures want { IfErr result (λ fault. fault ≡ ParseFault.Want) }
 {
     let mut used = IndexSet::new(alloc);
-    match enter_program(alloc, &program, names, &mut used) {
+    match enter_program(alloc, program, names, &mut used) {
         Ok(()) => {}
         Err(fault) => return Err(fault),
     }
     if used.len() as u64 > u64::from(u32::MAX) {
         return Err(ParseFault::Want);
     }
-    let mut program = program;
-    rename_program(&mut program, names, &used);
+    rename_program(program, names, &used);
     program.names = texts(alloc, used)?;
-    Ok(program)
+    Ok(())
 }

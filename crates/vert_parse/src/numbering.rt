@@ -2,11 +2,11 @@ ghost use Rattle.std.specs.Prelude.{◌≡◌, ◌<◌, ◌≤◌, ◌+◌, ◌^
 ghost use Rattle.vert_lex.specs.View.{plain_kind as lexed_kind, plain_tokens};
 ghost use Rattle.vert_parse.specs.Numbers.{IsSignOf};
 ghost use Rattle.vert_parse.specs.Parsing.{AreSmall, IsSmallKind};
-ghost use Rattle.vert_parse.specs.Signs.{plain};
+ghost use Rattle.tree_reader.specs.Signs.{plain};
 
 use crate::fault::ParseFault;
-use crate::sign::{Sign, SignKind, Small};
 use std::alloc::Global;
+use tree_reader::{Sign, SignKind, Small};
 use vert_lex::{Token, TokenKind};
 
 /// Tokens with numbers in place of their names, and the texts of the names by number.

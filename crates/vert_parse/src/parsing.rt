@@ -3,14 +3,13 @@ ghost use Rattle.vert_grammar.specs.Faults.{spot};
 ghost use Rattle.vert_grammar.specs.Reading.{reading};
 ghost use Rattle.vert_lex.specs.View.{plain_tokens};
 ghost use Rattle.vert_parse.specs.Parsing.{AreSmall, IsNamed, ParsesAs, fault_of};
-ghost use Rattle.vert_parse.specs.Signs.{plain, plain_why};
+ghost use Rattle.tree_reader.specs.Signs.{plain, plain_why};
 
-use crate::fault::{Halt, ParseFault, Why};
-use crate::naming::with_names;
+use crate::fault::ParseFault;
+use crate::naming::give_names;
 use crate::numbering::number_names;
-use crate::reader::Reader;
-use crate::sign::Sign;
 use std::alloc::Global;
+use tree_reader::{Halt, Reader, Sign, Why};
 use vert_base::Span;
 use vert_lex::Token;
 use vert_tree::Program;
@@ -46,7 +45,13 @@ pub fn parse(alloc: Global, tokens: &[Token], end: Span) -> Result<Program, Pars
         names: numbered.names,
     };
     match reader.all(&signs) {
-        Ok(program) => with_names(alloc, program, &reader.names),
+        Ok(program) => {
+            let mut program = program;
+            match give_names(alloc, &mut program, &reader.names) {
+                Ok(()) => Ok(program),
+                Err(fault) => Err(fault),
+            }
+        }
         Err(Halt::Memory) => Err(ParseFault::Want),
         Err(Halt::Fault(why, rest)) => Err(refusal(&reader, why, rest, end)),
     }

@@ -6,7 +6,7 @@ ghost use Rattle.std.specs.List.{list_all};
 ghost use Rattle.vert_parse.specs.Entered.{has_place};
 ghost use Rattle.vert_parse.specs.Idents.{body_all, decl_all, dense_all, expr_all, program_all, slot_all, sparse_all, stmt_all, total_all};
 ghost use Rattle.vert_parse.specs.Parsing.{is_fresh};
-ghost use Rattle.vert_parse.specs.Programs.{view_named};
+ghost use Rattle.tree_reader.specs.Programs.{view_named};
 ghost use Rattle.vert_tree.specs.Places.{option_all};
 ghost use Rattle.vert_tree.specs.Views.{view, view_block, view_declaration, view_dense, view_name, view_slot, view_sparse, view_statement, view_total};
 
