@@ -60,7 +60,7 @@ length-heights [] place = refl
 length-heights (i ∷ rest) place = omega (arith, length-heights rest (place + 1))
 
 -- no level list is entered above 64
-low_entry : (place height : ℕ) (list : List Instr) → IsEntered place height list → height ≤ 64
+pub low_entry : (place height : ℕ) (list : List Instr) → IsEntered place height list → height ≤ 64
 low_entry place height [] e = let none : 0 ≡ height = e.entry in omega arith
 low_entry place height (i ∷ rest) e = (opened place height i rest e).low
 

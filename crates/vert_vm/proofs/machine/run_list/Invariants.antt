@@ -2,7 +2,7 @@ use Rattle.std.proofs.Common.{◌≡◌, ◌≤◌, ◌-◌, length, drop}
 use Rattle.vert_eval.specs.Frames.{SameFrame}
 use Rattle.vert_code.specs.Machine.{goes_on, run_code}
 use Rattle.vert_vm.specs.Steps.{IsEntered}
-use Rattle.vert_vm.proofs.EndLaws.{SameEnd}
+use Rattle.vert_vm.specs.Ends.{SameEnd}
 use Rattle.vert_vm.proofs.machine.run_list.Given as goal
 
 -- what is left to run ends as the whole does
