@@ -31,11 +31,7 @@ impl SplitLoop {
         ensures draws { CanDraw env.new }
     {
         begin_lets(&program.program.dense, env);
-        env.locals = begin_words(
-            self.classes.locals.as_slice(),
-            received,
-            env.locals.as_slice(),
-        );
+        begin_words(self.classes.locals.as_slice(), received, &mut env.locals);
         env.touched = 0;
     }
 
@@ -96,34 +92,30 @@ fn add_lets(lets: &[Decl], env: &mut Env)
     }
 }
 
-// The words with which a segment begins, from those that the lets have of their own.
-fn begin_words(classes: &[Class], received: Option<&[i64]>, words: &[i64]) -> ArrayVec<i64, 8>
-    requires few { length words.now ≤ 8 }
-    requires each { length classes.now ≡ length words.now }
-    ensures items { result.items ≡ with_neutral classes.now (with_received classes.now (option_copied received.entry) words.now) }
-    ensures count { length result.items ≡ length words.now }
+// Writes the words with which a segment begins over those that the lets have of their own.
+fn begin_words(classes: &[Class], received: Option<&[i64]>, words: &mut ArrayVec<i64, 8>)
+    requires each { length classes.now ≡ length words.old.items }
+    ensures items { words.new.items ≡ with_neutral classes.now (with_received classes.now (option_copied received.entry) words.old.items) }
+    ensures count { length words.new.items ≡ length words.old.items }
 {
-    match received {
-        Some(received) => with_neutral(classes, received_over(classes, received, words).as_slice()),
-        None => with_neutral(classes, words),
+    if let Some(received) = received {
+        receive(classes, received, words);
     }
+    reset(classes, words);
 }
 
-// The words with those received over the carried ones.
-fn received_over(classes: &[Class], received: &[i64], words: &[i64]) -> ArrayVec<i64, 8>
-    requires few { length words.now ≤ 8 }
-    requires each { length classes.now ≡ length words.now }
-    ensures items { result.items ≡ received_over classes.now received.now words.now }
-    ensures count { length result.items ≡ length words.now }
+// Writes the words received over the carried ones.
+fn receive(classes: &[Class], received: &[i64], words: &mut ArrayVec<i64, 8>)
+    requires each { length classes.now ≡ length words.old.items }
+    ensures items { words.new.items ≡ received_over classes.now received.now words.old.items }
+    ensures count { length words.new.items ≡ length words.old.items }
 {
-    let mut all = ArrayVec::new();
     let mut left = received;
     for (i, class) in classes.iter().enumerate() {
         let (word, rest) = received_word(*class, left, words[i]);
-        all.push(word);
+        words[i] = word;
         left = rest;
     }
-    all
 }
 
 // The word of a let, and the words received for the lets behind it.
@@ -137,18 +129,15 @@ fn received_word(class: Class, received: &[i64], own: i64) -> (i64, &[i64])
     }
 }
 
-// The words with neutral values in the place of the reduced ones.
-fn with_neutral(classes: &[Class], words: &[i64]) -> ArrayVec<i64, 8>
-    requires few { length words.now ≤ 8 }
-    requires each { length classes.now ≡ length words.now }
-    ensures items { result.items ≡ with_neutral classes.now words.now }
-    ensures count { length result.items ≡ length words.now }
+// Writes neutral values over the reduced words.
+fn reset(classes: &[Class], words: &mut ArrayVec<i64, 8>)
+    requires each { length classes.now ≡ length words.old.items }
+    ensures items { words.new.items ≡ with_neutral classes.now words.old.items }
+    ensures count { length words.new.items ≡ length words.old.items }
 {
-    let mut all = ArrayVec::new();
     for (i, class) in classes.iter().enumerate() {
-        all.push(reset_word(*class, words[i]));
+        words[i] = reset_word(*class, words[i]);
     }
-    all
 }
 
 // A word as a segment begins with it.

@@ -1,4 +1,4 @@
--- How two runs end alike, with the partials that their emissions leave.
+-- Laws of runs that end alike.
 use Rattle.std.proofs.Common.{◌≡◌, ℕ, List, refl, sym, ap, ◌∙◌}
 use Rattle.slot_merge.specs.declared.partial.Partial.{Partial}
 use Rattle.slot_merge.specs.Partials.{with_emissions}
@@ -7,12 +7,7 @@ use Rattle.vert_eval.specs.declared.environment.Env.{Env}
 use Rattle.vert_eval.specs.declared.environment.Flow.TheVariants.{Going, Broke}
 use Rattle.vert_eval.specs.Runs.{Act, Ran, after, followed_by}
 use Rattle.vert_eval.proofs.RunLaws.{followed-Broke, followed-Going}
-
--- two runs end alike, each with the partials that stood when it began and the key of its words
-pub record SameEnd (key : ℕ) (ps : List Partial) (r : Ran) (other_key : ℕ) (qs : List Partial) (s : Ran) : Type 0 where
-  pub env : r.env ≡ s.env
-  pub flow : r.flow ≡ s.flow
-  pub partials : with_emissions key ps r.emitted ≡ with_emissions other_key qs s.emitted
+use Rattle.vert_vm.specs.Ends.{SameEnd}
 
 pub SameEnd-refl : (key : ℕ) (ps : List Partial) (r : Ran) → SameEnd key ps r key ps r
 SameEnd-refl key ps r = record { env = refl; flow = refl; partials = refl }

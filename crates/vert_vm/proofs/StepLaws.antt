@@ -57,7 +57,7 @@ level-drop (suc n) place (i ∷ rest) within h =
     ap (λ (q : ℕ). is_level q (drop n rest)) same ∙ level-drop n (place + 1) rest less (opened place (slice_index (heights place (i ∷ rest)) 0) i rest (record { entry = refl; level = h })).level
 
 -- no level list is entered above 64
-low_entry : (place height : ℕ) (list : List Instr) → IsEntered place height list → height ≤ 64
+pub low_entry : (place height : ℕ) (list : List Instr) → IsEntered place height list → height ≤ 64
 low_entry place height [] e = let none : 0 ≡ height = e.entry in omega arith
 low_entry place height (i ∷ rest) e = (opened place height i rest e).low
 

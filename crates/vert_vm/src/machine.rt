@@ -1,18 +1,21 @@
 //! The machine: a place in a list of instructions, and a stack.
 
-ghost use Rattle.std.specs.Prelude.{◌≡◌, ◌<◌, ◌+◌, ◌^◌, [], true, length, IfSome, IfNone, pos};
+ghost use Rattle.std.specs.Prelude.{◌≡◌, ◌<◌, ◌≤◌, ◌+◌, ◌^◌, ℕ, ℤ, List, [], ◌∷◌, true, drop, length, IfSome, IfNone, pos, FitsSigned};
+ghost use Rattle.std.specs.Int.{w64};
 ghost use Rattle.draw_source.specs.Draws.{draw_word};
 ghost use Rattle.vert_tree.specs.declared.name.What.TheVariants as what;
 ghost use Rattle.slot_merge.specs.Partials.{with_emissions};
 ghost use Rattle.vert_eval.specs.declared.environment.Flow.TheVariants.{Going, Broke};
 ghost use Rattle.vert_eval.specs.Frames.{SameFrame};
 ghost use Rattle.vert_eval.specs.Values.{CanDraw, counts_of, slot_value};
-ghost use Rattle.vert_code.specs.Machine.{run_code, step};
+ghost use Rattle.vert_code.specs.Machine.{gives, run_code, step};
 ghost use Rattle.vert_code.specs.Valid.{has_names, list_names, way_of};
+ghost use Rattle.vert_vm.specs.Ends.{SameEnd, rest_of};
 ghost use Rattle.vert_vm.specs.Steps.{CanStep, IsEntered};
 
 use crate::operations::{
-    emit, fork, give, invert, lower, negate, operate, raise, to_active, to_field, to_local,
+    emit, fork, give, invert, lower, negate, operate, raise, set_local, to_active, to_field,
+    to_local,
 };
 use crate::stack::Stack;
 use draw_source::draw;
@@ -36,7 +39,7 @@ pub(crate) fn run_list(list: &[Instr], stack: &mut Stack, env: &mut Env, emits: 
 {
     let mut place = 0;
     while place < list.len() {
-        match run_step(list[place], place, stack, env, emits) {
+        match run_next(list, place, stack, env, emits) {
             Some(next) => place = next,
             None => return Flow::Broke,
         }
@@ -44,8 +47,97 @@ pub(crate) fn run_list(list: &[Instr], stack: &mut Stack, env: &mut Env, emits: 
     Flow::Going
 }
 
-/// Runs one instruction: the place where the run goes on, which a break hasn't.
+/// Runs the next instruction, and behind one that loads a value the one behind it too, which mostly
+/// takes the value at once: then it need not go over the stack. Tells the place where the run goes on.
 #[inline]
+fn run_next(
+    list: &[Instr],
+    place: usize,
+    stack: &mut Stack,
+    env: &mut Env,
+    emits: &mut Emits,
+) -> Option<usize>
+    requires inside { place < length list.now }
+    requires entered { IsEntered place (length stack.old) (drop place list.now) }
+    requires names { list_names (counts_of env.old) list.now ≡ true }
+    requires draws { CanDraw env.old }
+    requires partials { length emits.old.slots.items ≡ length env.old.slots.items }
+    ensures ahead { IfSome result (λ next. place < next) }
+    ensures within { IfSome result (λ next. next ≤ length list.now) }
+    ensures entered { IfSome result (λ next. IsEntered next (length stack.new) (drop next list.now)) }
+    ensures ends { IfSome result (λ next. SameEnd env.new.key emits.new.slots.items (rest_of list.now next stack.new env.new) env.old.key emits.old.slots.items (rest_of list.now place stack.old env.old)) }
+    ensures env { IfNone result (env.new ≡ (rest_of list.now place stack.old env.old).env) }
+    ensures broke { IfNone result (Broke ≡ (rest_of list.now place stack.old env.old).flow) }
+    ensures emits { IfNone result (emits.new.slots.items ≡ with_emissions env.old.key emits.old.slots.items (rest_of list.now place stack.old env.old).emitted) }
+    ensures kept { SameFrame env.old env.new }
+    ensures partials { length emits.new.slots.items ≡ length emits.old.slots.items }
+{
+    match loaded(list[place], env) {
+        Some(value) => run_above(list[place + 1], value, place + 1, stack, env, emits),
+        None => run_step(list[place], place, stack, env, emits),
+    }
+}
+
+/// The value that an instruction loads, of those that loops mostly load.
+#[inline]
+fn loaded(instr: Instr, env: &Env) -> Option<i64>
+    requires names { has_names (counts_of env.now) instr ≡ true }
+    ensures loads { IfSome result (λ value. (place : ℕ) → (stack : List ℤ) → step instr place stack env.now ≡ gives value stack env.now) }
+    ensures fits { IfSome result (λ value. FitsSigned w64 value) }
+{
+    match instr {
+        Instr::Push(x) => Some(x),
+        Instr::Word(builtin) => Some(builtin_word(builtin, env)),
+        Instr::Field(i) => Some(word_in(&env.row.words, i)),
+        Instr::Local(i) => Some(word_in(&env.locals, i)),
+        Instr::OtherField(i) => Some(word_in(&env.other_row.words, i)),
+        Instr::OtherWord(builtin) => Some(other_word(builtin, env)),
+        _ => None,
+    }
+}
+
+/// Runs one instruction, with one more value above the stack.
+#[inline]
+fn run_above(
+    instr: Instr,
+    value: i64,
+    place: usize,
+    stack: &mut Stack,
+    env: &mut Env,
+    emits: &mut Emits,
+) -> Option<usize>
+    requires height { length stack.old < 64 }
+    requires room { CanStep (way_of instr) place (length (value ∷ stack.old)) }
+    requires small { place < 2 ^ 63 }
+    requires names { has_names (counts_of env.old) instr ≡ true }
+    requires draws { CanDraw env.old }
+    requires partials { length emits.old.slots.items ≡ length env.old.slots.items }
+    ensures next { IfSome result (λ next. next ≡ place + 1 + (step instr place (value ∷ stack.old) env.old).over) }
+    ensures going { IfSome result (λ next. Going ≡ (step instr place (value ∷ stack.old) env.old).ran.flow) }
+    ensures broke { IfNone result (Broke ≡ (step instr place (value ∷ stack.old) env.old).ran.flow) }
+    ensures stack { stack.new ≡ (step instr place (value ∷ stack.old) env.old).stack }
+    ensures env { env.new ≡ (step instr place (value ∷ stack.old) env.old).ran.env }
+    ensures emits { emits.new.slots.items ≡ with_emissions env.old.key emits.old.slots.items (step instr place (value ∷ stack.old) env.old).ran.emitted }
+    ensures kept { SameFrame env.old env.new }
+    ensures partials { length emits.new.slots.items ≡ length emits.old.slots.items }
+{
+    match instr {
+        Instr::ToLocal(op, i) => {
+            set_local(op, i, value, env);
+            Some(place + 1)
+        }
+        Instr::JumpUnless(_) if truth(value) => Some(place + 1),
+        Instr::JumpUnless(target) => Some(target as usize),
+        _ => {
+            stack.push(value);
+            run_step(instr, place, stack, env, emits)
+        }
+    }
+}
+
+/// Runs one instruction: the place where the run goes on, which a break hasn't. It stands by itself,
+/// since the code of its many cases would crowd out that of the loop over neighbours.
+#[inline(never)]
 fn run_step(
     instr: Instr,
     place: usize,

@@ -122,10 +122,20 @@ pub(crate) fn to_local(op: AssignOp, i: u8, place: usize, stack: &mut Stack, env
     ensures kept { SameFrame env.old env.new }
 {
     let value = stack.pop();
+    set_local(op, i, value, env);
+    place + 1
+}
+
+/// Assigns a value to a let.
+#[inline]
+pub(crate) fn set_local(op: AssignOp, i: u8, value: i64, env: &mut Env)
+    requires inside { i < length env.old.locals.items }
+    ensures env { env.new ≡ with_target (what.Local i) op value env.old }
+    ensures kept { SameFrame env.old env.new }
+{
     let left = assign(op, word_in(&env.locals, i), value);
     put(&mut env.locals, i, left);
     env.touched = note(op, i, env.touched);
-    place + 1
 }
 
 #[inline]

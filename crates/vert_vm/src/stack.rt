@@ -1,21 +1,24 @@
 ghost use Rattle.std.specs.Prelude.{◌≡◌, ◌<◌, [], ◌∷◌, length};
 ghost use Rattle.vert_code.specs.Machine.{top, under};
 
-use arrayvec::ArrayVec;
 use std::marker::Model;
 
 /// The stack of a machine. Contracts see it as the list of its values, the topmost first.
 #[derive(Drop)]
 pub(crate) struct Stack {
-    values: ArrayVec<i64, 64>,
+    values: [i64; 64],
+    height: usize,
 }
 
 impl Model for Stack {
-    ghost use Rattle.std.specs.Prelude.{ℤ, List, reverse};
+    ghost use Rattle.std.specs.Prelude.{◌≤◌, ℤ, List, reverse, take};
 
     ghost Value = { List ℤ };
 
-    ghost view = { λ s. reverse s.values.items };
+    // What stands above the height was taken.
+    ghost view = { λ s. reverse (take s.height s.values) };
+
+    ghost invariant = { λ s. s.height ≤ 64 };
 }
 
 impl Stack {
@@ -25,7 +28,8 @@ impl Stack {
         ensures { result ≡ [] }
     {
         Stack {
-            values: ArrayVec::new(),
+            values: [0; 64],
+            height: 0,
         }
     }
 
@@ -35,7 +39,8 @@ impl Stack {
         requires { length self.old < 64 }
         ensures { self.new ≡ value ∷ self.old }
     {
-        self.values.push(value);
+        self.values[self.height] = value;
+        self.height += 1;
     }
 
     /// Takes the topmost value.
@@ -45,6 +50,7 @@ impl Stack {
         ensures value { result ≡ top self.old }
         ensures rest { self.new ≡ under self.old }
     {
-        self.values.pop().unwrap()
+        self.height -= 1;
+        self.values[self.height]
     }
 }

@@ -2,7 +2,7 @@ use Rattle.std.proofs.Common.{◌≡◌, [], length}
 use Rattle.std.specs.List.{All}
 use Rattle.vert_eval.specs.Frames.{SameFrame, beside}
 use Rattle.vert_vm.specs.Segments.{IsWide, loop_code}
-use Rattle.vert_vm.proofs.EndLaws.{SameEnd}
+use Rattle.vert_vm.specs.Ends.{SameEnd}
 use Rattle.vert_vm.proofs.SegmentLaws.{Feeding}
 use Rattle.vert_vm.proofs.segment.step_segment.Given as goal
 
