@@ -246,6 +246,7 @@ pub(crate) fn run_by_code(
             ruling: played.ruling,
             active: played.active,
             edges: played.edges,
+            read: played.read,
             reads: outcome.reads,
         })?;
     }

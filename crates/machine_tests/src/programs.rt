@@ -1,12 +1,15 @@
 //! Programs that tests read, and what tests run them over.
 
+use chunk_split::Cuts;
 use edge_reader::{Edges, read_text};
+use graph_table::Table;
 use instrument::{Split, split_of};
 use plain_run::{PlainRun, run_plainly};
 use program_reader::read_program;
 use sample_programs::plain;
 use std::alloc::{AllocError, Global};
 use std::test::Fail;
+use vert_base::limits::MACHINES;
 use vert_code::{Code, compile};
 use vert_tree::Typed;
 
@@ -43,15 +46,23 @@ pub(crate) fn numbers(alloc: Global, cell: &str) -> Result<Vec<u32>, Fail> {
     Ok(list)
 }
 
-/// The source run of a program, with draws from 42.
+/// The source run of a program over chunks with these ends, with draws from 42 and its reads.
 pub(crate) fn plain_run(
     alloc: Global,
     program: &Typed,
     edges: &Edges,
     ends: &[u32],
-) -> Result<PlainRun, AllocError> {
-    match run_plainly(alloc, program, edges.vertices, &edges.list, ends, 42) {
+) -> Result<PlainRun, Fail> {
+    let Ok(table) = Table::build(alloc, edges) else {
+        return Err(Fail::from("no table"));
+    };
+    let cuts: Cuts<MACHINES> = Cuts::from_ends(ends).ok_or("no ends")?;
+    let whole = cuts.end(cuts.count() - 1);
+    if whole != table.vertices() {
+        return Err(Fail::from("ends of another graph"));
+    }
+    match run_plainly(alloc, program, &table, &cuts, 42, true) {
         Ok(run) => Ok(run),
-        Err(_) => Err(AllocError),
+        Err(_) => Err(Fail::from("no run")),
     }
 }

@@ -23,7 +23,7 @@ use Rattle.graph_table.proofs.FilterLaws.{all_filter, all_flat_map, all_passes, 
 use Rattle.symple_face.proofs.ChunkLaws.{chunk_rises, chunk_within}
 use Rattle.symple_face.proofs.ListLaws.{other_list}
 use Rattle.mirror_table.proofs.PartLaws.{all_in_order, others_same, push_of_push, push_to_scan, refresh_of_scan, refresh_to_push, sources_below, targets_below}
-use Rattle.mirror_table.proofs.SplitLaws.{by_index}
+use Rattle.graph_table.proofs.SplitLaws.{by_index}
 
 -- the vertex lists of a chunk's vertices hold edges of the graph
 module _ (most : ℕ) (ends : List ℕ) (edges : List Edge) (are : AreEnds most ends) (below : AreBelow (vertices_of ends) edges) (m : ℕ) (here : m < length ends) where

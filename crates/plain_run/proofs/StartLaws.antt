@@ -29,16 +29,15 @@ pub first_row_is :
     words ≡ map (λ d. value_of d.value env) j.program.fields.items →
     left ≡ with_row (record { words = record { items = words }; active = false }) env →
     active ≡ is_set (value_of j.program.start left) →
-    let made : Row = record { words = left.row.words; active = active } in made ≡ first_row j v
+    let made : Row = record { words = record { items = words }; active = active } in made ≡ first_row j v
 first_row_is j v env left words active e w l a =
     let start = env_at (scene_of j 0 [] []) v [] in
     let firsts : List ℤ = map (λ d. value_of d.value start) j.program.fields.items in
     let row : List ℤ → Row = λ ws. record { words = record { items = ws }; active = false } in
     let all : words ≡ firsts = w ∙ ap (λ x. map (λ d. value_of d.value x) j.program.fields.items) e in
     let same : left ≡ with_row (row firsts) start = l ∙ (ap (λ ws. with_row (row ws) env) all ∙ ap (with_row (row firsts)) e) in
-    let put : Env → Bool → Row = λ x b. record { words = x.row.words; active = b } in
-    ap (λ b. put left b) (a ∙ ap (λ x. is_set (value_of j.program.start x)) same)
-    ∙ ap (λ x. put x (is_set (value_of j.program.start (with_row (row firsts) start)))) same
+    let put : List ℤ → Bool → Row = λ ws b. record { words = record { items = ws }; active = b } in
+    ap (λ ws. put ws active) all ∙ ap (put firsts) (a ∙ ap (λ x. is_set (value_of j.program.start x)) same)
 
 -- how many words the environment of a vertex has where there are rows alone
 pub row_counts_are : (s : Scene) (v : ℕ) (p : Program) → length (row_at s.rows v).words.items ≡ length p.fields.items → s.totals ≡ [] → counts_of (env_at s v []) ≡ row_counts p

@@ -7,10 +7,9 @@ use Rattle.vert_eval.specs.SourceRun as meaning
 use Rattle.plain_run.specs.declared.job.Job.{Job}
 use Rattle.plain_run.specs.declared.job.Standing.{Standing}
 use Rattle.plain_run.specs.Lists.{plain_graph}
-use Rattle.plain_run.specs.Views.{graph_of}
 
 abbrev pub job_of : Job → meaning.Job
-job_of j = record { program = j.program.now.program; graph = graph_of j.graph.now; draws = j.draws }
+job_of j = record { program = j.program.now.program; graph = j.graph.now; draws = j.draws }
 
 abbrev pub standing_of : Standing → meaning.Standing
 standing_of s = record {

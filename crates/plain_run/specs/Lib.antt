@@ -1,6 +1,7 @@
 pub mod Frames
+pub mod Inside
 pub mod Jobs
+pub mod Laws
 pub mod Lists
-pub mod Sides
 pub mod Told
 pub mod Views

@@ -6,10 +6,6 @@ use Rattle.vert_base.specs.declared.graph.Edge.{Edge}
 use Rattle.vert_base.specs.declared.graph.VertexId.{VertexId}
 use Rattle.vert_eval.specs.Rounds.{Graph}
 
--- the lists in a list of lists
-abbrev pub lists_of : {X : Type 0} → Vec (Vec X Global) Global → List (List X)
-lists_of vs = map (λ v. v.items) vs.items
-
 -- the numbers of vertices
 abbrev pub ids_of : List VertexId → List ℕ
 ids_of vertices = map (λ v. v.0) vertices

@@ -4,12 +4,14 @@ ghost use Rattle.vert_base.specs.Neighbours.{source};
 ghost use Rattle.vert_tree.specs.Places.{Rights, body_placed, dense_placed, lets_placed};
 ghost use Rattle.slot_merge.specs.Partials.{with_emissions};
 ghost use Rattle.vert_eval.specs.Values.{CanDraw, counts_of};
+ghost use Rattle.vert_eval.specs.declared.environment.Flow.TheVariants.{Going};
 ghost use Rattle.vert_eval.specs.Rounds.{dense_at, dense_block, loop, member_act, with_lets};
 ghost use Rattle.plain_run.specs.Frames.{SameDraws, SameFrame};
-ghost use Rattle.plain_run.specs.Views.{AreWide, IsReady, counts_in, members_at, scene_of};
+ghost use Rattle.plain_run.specs.Views.{AreInside, AreWide, IsReady, counts_in, members_at, members_in, scene_of};
 
+use super::graph::Members;
 use super::run::run_body;
-use super::scene::{Scene, enter};
+use super::scene::{Scene, enter_member};
 use slot_merge::Emits;
 use vert_base::Edge;
 use vert_eval::{Env, Flow, eval, truth};
@@ -43,18 +45,25 @@ fn visit(scene: &Scene, body: &[Stmt], member: &Edge, env: &mut Env, emits: &mut
     ensures kept { SameFrame env.old env.new }
     ensures partials { length emits.new.slots.items ≡ length emits.old.slots.items }
 {
-    enter(scene, member, env);
+    enter_member(scene, member, env);
     run_body(body, env, emits)
 }
 
-/// Runs the loop: how many members were read.
-fn run_loop(
+/// How a loop ended: how many members were read, and whether it broke.
+#[derive(Clone, Copy)]
+struct Looped {
+    read: usize,
+    flow: Flow,
+}
+
+/// Runs the loop over some members.
+fn run_members(
     scene: &Scene,
     body: &[Stmt],
     members: &[Edge],
     env: &mut Env,
     emits: &mut Emits,
-) -> usize
+) -> Looped
     requires inside { All (λ e. source e < scene.now.graph.now.vertices) members.now }
     requires rows { length scene.now.rows.now ≡ scene.now.graph.now.vertices }
     requires wide { AreWide (length env.old.other_row.words.items) scene.now.rows.now }
@@ -62,9 +71,13 @@ fn run_loop(
     requires draws { CanDraw env.old }
     requires partials { length emits.old.slots.items ≡ length env.old.slots.items }
     ensures env { env.new ≡ (loop (scene_of scene.now) body.now members.now env.old).env }
-    ensures emits { emits.new.slots.items ≡ with_emissions env.old.key emits.old.slots.items (loop (scene_of scene.now) body.now members.now env.old).emitted }
-    ensures within { result ≤ length members.now }
-    ensures reads { map source (take result members.now) ≡ (loop (scene_of scene.now) body.now members.now env.old).reads }
+    ensures flow { result.flow ≡ (loop (scene_of scene.now) body.now members.now env.old).flow }
+    ensures emits { emits.new.slots.items ≡ with_emissions env.old.key emits.old.slots.items
+        (loop (scene_of scene.now) body.now members.now env.old).emitted }
+    ensures within { result.read ≤ length members.now }
+    ensures whole { result.flow ≡ Going → result.read ≡ length members.now }
+    ensures reads { map source (take result.read members.now)
+        ≡ (loop (scene_of scene.now) body.now members.now env.old).reads }
     ensures kept { SameFrame env.old env.new }
     ensures partials { length emits.new.slots.items ≡ length emits.old.slots.items }
 {
@@ -72,11 +85,49 @@ fn run_loop(
     for member in members {
         read += 1;
         match visit(scene, body, member, env, emits) {
-            Flow::Broke => return read,
+            Flow::Broke => {
+                return Looped {
+                    read,
+                    flow: Flow::Broke,
+                };
+            }
             Flow::Going => {}
         }
     }
-    read
+    Looped {
+        read,
+        flow: Flow::Going,
+    }
+}
+
+/// Runs the loop: how many members were read.
+fn run_loop(
+    scene: &Scene,
+    body: &[Stmt],
+    members: &Members,
+    env: &mut Env,
+    emits: &mut Emits,
+) -> usize
+    requires inside { AreInside scene.now.graph.now.vertices members.now }
+    requires rows { length scene.now.rows.now ≡ scene.now.graph.now.vertices }
+    requires wide { AreWide (length env.old.other_row.words.items) scene.now.rows.now }
+    requires names { (rights : Rights) × IsTrue (body_placed rights (counts_of env.old) body.now) }
+    requires draws { CanDraw env.old }
+    requires partials { length emits.old.slots.items ≡ length env.old.slots.items }
+    ensures env { env.new ≡ (loop (scene_of scene.now) body.now (members_in members.now) env.old).env }
+    ensures emits { emits.new.slots.items ≡ with_emissions env.old.key emits.old.slots.items
+        (loop (scene_of scene.now) body.now (members_in members.now) env.old).emitted }
+    ensures within { result ≤ length (members_in members.now) }
+    ensures reads { map source (take result (members_in members.now))
+        ≡ (loop (scene_of scene.now) body.now (members_in members.now) env.old).reads }
+    ensures kept { SameFrame env.old env.new }
+    ensures partials { length emits.new.slots.items ≡ length emits.old.slots.items }
+{
+    let first = run_members(scene, body, members.first, env, emits);
+    match first.flow {
+        Flow::Broke => first.read,
+        Flow::Going => first.read + run_members(scene, body, members.rest, env, emits).read,
+    }
 }
 
 /// The lets, the loop and the tail: how many members were read.
@@ -95,7 +146,7 @@ fn run_block(scene: &Scene, dense: &Dense, v: u32, env: &mut Env, emits: &mut Em
         ≡ (dense_block (scene_of scene.now) dense.now (members_at scene.now v) env.old).reads }
 {
     run_lets(&dense.lets, env);
-    let read = run_loop(scene, &dense.body, scene.graph.members_of(v), env, emits);
+    let read = run_loop(scene, &dense.body, &scene.graph.members_of(v), env, emits);
     run_body(&dense.tail, env, emits);
     read
 }

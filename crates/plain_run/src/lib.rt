@@ -3,8 +3,8 @@
 
 mod dense;
 mod graph;
-mod index;
 mod job;
+mod laws;
 mod round;
 mod rounds;
 mod run;
@@ -15,4 +15,5 @@ mod standing;
 mod start;
 mod totals;
 
+pub use laws::runs_by_table;
 pub use rounds::{PlainRun, PlayedRound, run_plainly};

@@ -1,57 +1,83 @@
 //! One round: what each vertex gathers, and its row after the update.
-ghost use Rattle.std.specs.Prelude.{◌≡◌, ◌<◌, ◌≤◌, ◌++◌, ◌∷◌, [], IfOk, length, map, take};
+ghost use Rattle.std.specs.Prelude.{◌≡◌, ◌<◌, ◌≤◌, ◌++◌, ◌∷◌, [], IfOk, if◌then◌else◌, length, map, take};
 ghost use Rattle.vert_base.specs.Neighbours.{source};
 ghost use Rattle.slot_merge.specs.Combine.{slot_values};
 ghost use Rattle.slot_merge.specs.Partials.{empty_partial, with_emissions};
 ghost use Rattle.vert_eval.specs.Rounds.{env_at, gathered, reads_of, rows_after, slot_ops, updated};
 ghost use Rattle.plain_run.specs.Lists.{id_lists_of, ids_of};
-ghost use Rattle.plain_run.specs.Views.{AreWide, IsReady, members_at, program_of, scene_of};
+ghost use Rattle.plain_run.specs.Told.{kept_reads, read_in};
+ghost use Rattle.plain_run.specs.Views.{AreWide, IsReady, members_at, members_in, program_of, scene_of};
 
 use super::dense::run_dense;
+use super::graph::Members;
 use super::run::run_body;
-use super::scene::{Scene, bare_env, env_at};
-use super::slots::{no_emits, values_of};
+use super::scene::{Scene, blank_env, copy_row, enter_bare, enter_vertex};
+use super::slots::{clear_emits, put_values};
 use super::sparse::run_sparse;
 use arrayvec::ArrayVec;
 use slot_merge::Emits;
-use std::alloc::Global;
-use vert_base::{Edge, Row, Ruling, VertexId, Want};
+use std::alloc::{AllocError, Global};
+use vert_base::{Edge, Row, Ruling, VertexId};
+use vert_eval::Env;
 
-/// What a round gives: the rows after it, and at each vertex the sources that were read, in order.
+/// What a round gives: the rows after it, how many sources were read, and where they are kept, those
+/// that each vertex read, in order.
 #[derive(Drop)]
 pub(crate) struct Outcome {
     pub rows: Vec<Row>,
+    pub read: u64,
     pub reads: Vec<Vec<VertexId>>,
 }
 
-/// What a vertex gathers: the values of its slots, and how many members its loop read.
+/// What the vertices of a round work with, one after another: an environment of their own, one of a
+/// sender, and the partials of the slots.
 #[derive(Drop)]
-struct Gathered {
-    values: ArrayVec<Option<i64>, 8>,
-    read: usize,
+struct Desk {
+    env: Env,
+    sender: Env,
+    emits: Emits,
+}
+
+fn blank_desk() -> Desk {
+    Desk {
+        env: blank_env(),
+        sender: blank_env(),
+        emits: Emits {
+            slots: ArrayVec::new(),
+        },
+    }
 }
 
 /// Lets a vertex emit: how many members its loop read.
-fn emit_at(scene: &Scene, ruling: Ruling, v: u32, emits: &mut Emits) -> usize
+fn emit_at(scene: &Scene, ruling: Ruling, v: u32, desk: &mut Desk) -> usize
     requires ready { IsReady scene.now }
     requires inside { v < scene.now.graph.now.vertices }
-    requires partials { length emits.old.slots.items ≡ length (program_of scene.now).slots.items }
-    ensures emits { emits.new.slots.items ≡ with_emissions 0 emits.old.slots.items (gathered (program_of scene.now) ruling (scene_of scene.now) v).emitted }
+    requires partials { length desk.old.emits.slots.items ≡ length (program_of scene.now).slots.items }
+    ensures emits { desk.new.emits.slots.items ≡ with_emissions 0 desk.old.emits.slots.items
+        (gathered (program_of scene.now) ruling (scene_of scene.now) v).emitted }
     ensures within { result ≤ length (members_at scene.now v) }
-    ensures reads { map source (take result (members_at scene.now v)) ≡ (gathered (program_of scene.now) ruling (scene_of scene.now) v).reads }
+    ensures reads { map source (take result (members_at scene.now v))
+        ≡ (gathered (program_of scene.now) ruling (scene_of scene.now) v).reads }
 {
     match ruling {
         Ruling::Stop => 0,
         Ruling::Dense => match &scene.program.program.dense {
             Some(dense) => {
-                let mut env = bare_env(scene, v);
-                run_dense(scene, dense, v, &mut env, emits)
+                enter_bare(scene, v, &mut desk.env);
+                run_dense(scene, dense, v, &mut desk.env, &mut desk.emits)
             }
             None => 0,
         },
         Ruling::Sparse => match &scene.program.program.sparse {
             Some(sparse) => {
-                run_sparse(scene, sparse, v, emits);
+                run_sparse(
+                    scene,
+                    sparse,
+                    v,
+                    &mut desk.sender,
+                    &mut desk.env,
+                    &mut desk.emits,
+                );
                 0
             }
             None => 0,
@@ -59,74 +85,114 @@ fn emit_at(scene: &Scene, ruling: Ruling, v: u32, emits: &mut Emits) -> usize
     }
 }
 
-fn gather(scene: &Scene, ruling: Ruling, v: u32) -> Gathered
+/// Gathers what a vertex emits in the partials: how many members its loop read.
+fn gather(scene: &Scene, ruling: Ruling, v: u32, desk: &mut Desk) -> usize
     requires ready { IsReady scene.now }
     requires inside { v < scene.now.graph.now.vertices }
-    ensures values { result.values.items ≡ slot_values 0 (slot_ops (program_of scene.now)) (gathered (program_of scene.now) ruling (scene_of scene.now) v).emitted }
-    ensures within { result.read ≤ length (members_at scene.now v) }
-    ensures reads { map source (take result.read (members_at scene.now v)) ≡ (gathered (program_of scene.now) ruling (scene_of scene.now) v).reads }
+    ensures values { map (λ p. p.value) desk.new.emits.slots.items ≡ slot_values 0 (slot_ops (program_of scene.now))
+        (gathered (program_of scene.now) ruling (scene_of scene.now) v).emitted }
+    ensures within { result ≤ length (members_at scene.now v) }
+    ensures reads { map source (take result (members_at scene.now v))
+        ≡ (gathered (program_of scene.now) ruling (scene_of scene.now) v).reads }
 {
-    let mut emits = no_emits(&scene.program.program.slots);
-    let read = emit_at(scene, ruling, v, &mut emits);
-    Gathered {
-        values: values_of(&emits),
-        read,
-    }
+    clear_emits(&scene.program.program.slots, &mut desk.emits);
+    emit_at(scene, ruling, v, desk)
 }
 
 /// The row of a vertex after the update block, whose flag is the one last assigned.
-fn updated_row(scene: &Scene, v: u32, slots: ArrayVec<Option<i64>, 8>) -> Row
+fn updated_row(scene: &Scene, v: u32, desk: &mut Desk) -> Row
     requires ready { IsReady scene.now }
     requires inside { v < scene.now.graph.now.vertices }
-    requires slots { length slots.items ≡ length (program_of scene.now).slots.items }
-    ensures row { result ≡ updated (program_of scene.now).update.items (env_at (scene_of scene.now) v slots.items) }
+    requires slots { length desk.old.emits.slots.items ≡ length (program_of scene.now).slots.items }
+    ensures row { result ≡ updated (program_of scene.now).update.items
+        (env_at (scene_of scene.now) v (map (λ p. p.value) desk.old.emits.slots.items)) }
     ensures wide { length result.words.items ≡ length (program_of scene.now).fields.items }
 {
-    let mut env = env_at(scene, v, slots);
-    let mut emits = no_emits(&scene.program.program.slots);
-    run_body(&scene.program.program.update, &mut env, &mut emits);
-    Row {
-        words: env.row.words,
-        active: env.next_active,
+    enter_vertex(scene, v, &mut desk.env);
+    put_values(&desk.emits, &mut desk.env.slots);
+    run_body(
+        &scene.program.program.update,
+        &mut desk.env,
+        &mut desk.emits,
+    );
+    let mut row = Row {
+        words: ArrayVec::new(),
+        active: false,
+    };
+    copy_row(&desk.env.row, &mut row);
+    row.active = desk.env.next_active;
+    row
+}
+
+fn push_sources(edges: &[Edge], ids: &mut Vec<VertexId>) -> Result<(), AllocError>
+    ensures { IfOk result (λ _. ids_of ids.new.items ≡ ids_of ids.old.items ++ map source edges.now) }
+{
+    for edge in edges {
+        ids.push(edge.from)?;
     }
+    Ok(())
 }
 
 /// The sources of the members that were read, in order.
-fn sources(alloc: Global, members: &[Edge], read: usize) -> Result<Vec<VertexId>, Want>
-    requires { read ≤ length members.now }
-    ensures { IfOk result (λ ids. ids_of ids.items ≡ map source (take read members.now)) }
+fn sources(alloc: Global, members: &Members, read: usize) -> Result<Vec<VertexId>, AllocError>
+    requires { read ≤ length (members_in members.now) }
+    ensures { IfOk result (λ ids. ids_of ids.items ≡ map source (take read (members_in members.now))) }
 {
-    let mut ids = Vec::new(alloc);
-    for member in &members[..read] {
-        push(&mut ids, member.from)?;
+    let mut ids = Vec::with_capacity(alloc, read)?;
+    let first = members.first.len();
+    if read <= first {
+        push_sources(&members.first[..read], &mut ids)?;
+        return Ok(ids);
     }
+    push_sources(members.first, &mut ids)?;
+    push_sources(&members.rest[..read - first], &mut ids)?;
     Ok(ids)
 }
 
-/// Puts an item behind the others.
-pub(crate) fn push<T: Drop>(items: &mut Vec<T>, item: T) -> Result<(), Want>
-    ensures { IfOk result (λ _. items.new.items ≡ items.old.items ++ item ∷ []) }
+/// Keeps what a vertex read, where it is asked for.
+fn keep(
+    alloc: Global,
+    kept: bool,
+    members: &Members,
+    read: usize,
+    reads: &mut Vec<Vec<VertexId>>,
+) -> Result<(), AllocError>
+    requires { read ≤ length (members_in members.now) }
+    ensures { IfOk result (λ _. id_lists_of reads.new ≡ (if kept
+        then id_lists_of reads.old ++ map source (take read (members_in members.now)) ∷ []
+        else id_lists_of reads.old)) }
 {
-    match items.push(item) {
-        Ok(()) => Ok(()),
-        Err(_) => Err(Want),
+    if kept {
+        reads.push(sources(alloc, members, read)?)?;
     }
+    Ok(())
 }
 
-/// Plays one round.
-pub(crate) fn round(alloc: Global, scene: &Scene, ruling: Ruling) -> Result<Outcome, Want>
+/// Plays one round. What each vertex read is kept where it is asked for.
+pub(crate) fn round(
+    alloc: Global,
+    scene: &Scene,
+    ruling: Ruling,
+    kept: bool,
+) -> Result<Outcome, AllocError>
     requires { IsReady scene.now }
     ensures rows { IfOk result (λ outcome. outcome.rows.items ≡ rows_after (program_of scene.now) ruling (scene_of scene.now)) }
-    ensures reads { IfOk result (λ outcome. id_lists_of outcome.reads ≡ reads_of (program_of scene.now) ruling (scene_of scene.now)) }
+    ensures read { IfOk result (λ outcome. outcome.read ≡ read_in (reads_of (program_of scene.now) ruling (scene_of scene.now))) }
+    ensures reads { IfOk result (λ outcome. id_lists_of outcome.reads
+        ≡ kept_reads kept (reads_of (program_of scene.now) ruling (scene_of scene.now))) }
     ensures wide { IfOk result (λ outcome. AreWide (length (program_of scene.now).fields.items) outcome.rows.items) }
 {
-    let mut rows = Vec::new(alloc);
+    let vertices = scene.graph.vertices();
+    let mut rows = Vec::with_capacity(alloc, vertices as usize)?;
     let mut reads = Vec::new(alloc);
-    for v in 0..scene.graph.vertices {
-        let gathered = gather(scene, ruling, v);
-        push(&mut rows, updated_row(scene, v, gathered.values))?;
+    let mut read = 0u64;
+    let mut desk = blank_desk();
+    for v in 0..vertices {
         let members = scene.graph.members_of(v);
-        push(&mut reads, sources(alloc, members, gathered.read)?)?;
+        let count = gather(scene, ruling, v, &mut desk);
+        read += count as u64;
+        keep(alloc, kept, &members, count, &mut reads)?;
+        rows.push(updated_row(scene, v, &mut desk))?;
     }
-    Ok(Outcome { rows, reads })
+    Ok(Outcome { rows, read, reads })
 }

@@ -1,27 +1,33 @@
 ghost use Rattle.std.specs.Prelude.{◌≡◌, ◌≤◌, IfOk, length, map};
 ghost use Rattle.std.specs.List.{All};
-ghost use Rattle.vert_base.specs.Neighbours.{AreBelow};
+ghost use Rattle.vert_base.specs.declared.limits.TheConstants.{ROUNDS, VERTICES};
+ghost use Rattle.chunk_split.specs.Chunks.{vertices_of};
 ghost use Rattle.vert_eval.specs.SourceRun.{next_standing, played_at, resumed_run, source_run};
 ghost use Rattle.plain_run.specs.Jobs.{IsStanding, job_of, plain_job, standing_of};
 ghost use Rattle.plain_run.specs.Told.{rounds_told, told_of, told_played};
 
-use super::index::build;
+use super::graph::Graph;
 use super::job::{Job, Standing, limit_of};
-use super::round::{push, round};
+use super::round::round;
 use super::scene::Scene;
 use super::standing::standing_after;
 use super::start::first_rows;
-use std::alloc::Global;
-use vert_base::{Edge, Row, Ruling, VertexId, Want};
+use chunk_split::Cuts;
+use graph_table::Table;
+use std::alloc::{AllocError, Global};
+use vert_base::limits::MACHINES;
+use vert_base::{Row, Ruling, VertexId, Want};
 use vert_tree::Typed;
 
-/// A round that took place. `reads` has for each vertex the sources that its loop read, in order.
+/// A round that took place. `read` is how many sources were read, and `reads` has for each vertex
+/// those that its loop read, in order, where they are kept.
 #[derive(Drop)]
 pub struct PlayedRound {
     pub round: u32,
     pub ruling: Ruling,
     pub active: u64,
     pub edges: u64,
+    pub read: u64,
     pub reads: Vec<Vec<VertexId>>,
 }
 
@@ -40,11 +46,11 @@ struct Step {
 }
 
 /// The round before which this stands.
-fn play(alloc: Global, job: &Job, number: u32, standing: &Standing) -> Result<Step, Want>
-    requires number { number ≤ 10000 }
+fn play(alloc: Global, job: &Job, number: u32, standing: &Standing) -> Result<Step, AllocError>
+    requires number { number ≤ ROUNDS }
     requires standing { IsStanding job.now standing.now }
     ensures told { IfOk result (λ step. told_of step.played
-        ≡ told_played (played_at (job_of job.now) number (standing_of standing.now))) }
+        ≡ told_played job.now.kept (played_at (job_of job.now) number (standing_of standing.now))) }
     ensures next { IfOk result (λ step. standing_of step.next
         ≡ next_standing (job_of job.now) number (standing_of standing.now)) }
     ensures stands { IfOk result (λ step. IsStanding job.now step.next) }
@@ -57,12 +63,13 @@ fn play(alloc: Global, job: &Job, number: u32, standing: &Standing) -> Result<St
         rows: &standing.rows,
         totals: &standing.totals,
     };
-    let outcome = round(alloc, &scene, standing.ruling)?;
+    let outcome = round(alloc, &scene, standing.ruling, job.kept)?;
     let played = PlayedRound {
         round: number,
         ruling: standing.ruling,
         active: standing.active,
         edges: standing.edges,
+        read: outcome.read,
         reads: outcome.reads,
     };
     let next = standing_after(job, number, outcome.rows);
@@ -70,10 +77,11 @@ fn play(alloc: Global, job: &Job, number: u32, standing: &Standing) -> Result<St
 }
 
 /// The rounds from the first one on.
-fn run_from(alloc: Global, job: &Job, first: Standing) -> Result<PlainRun, Want>
+fn run_from(alloc: Global, job: &Job, first: Standing) -> Result<PlainRun, AllocError>
     requires { IsStanding job.now first }
     ensures rows { IfOk result (λ run. run.rows.items ≡ (resumed_run (job_of job.now) 1 (standing_of first)).last.rows) }
-    ensures rounds { IfOk result (λ run. map told_of run.rounds.items ≡ rounds_told (resumed_run (job_of job.now) 1 (standing_of first))) }
+    ensures rounds { IfOk result (λ run. map told_of run.rounds.items
+        ≡ rounds_told job.now.kept (resumed_run (job_of job.now) 1 (standing_of first))) }
     ensures each { IfOk result (λ run. length run.rows.items ≡ job.now.graph.now.vertices) }
     ensures wide { IfOk result (λ run. All (λ r. length r.words.items ≡ length job.now.program.now.program.fields.items) run.rows.items) }
 {
@@ -90,7 +98,7 @@ fn run_from(alloc: Global, job: &Job, first: Standing) -> Result<PlainRun, Want>
             _ => {}
         }
         let step = play(alloc, job, number, &standing)?;
-        push(&mut rounds, step.played)?;
+        rounds.push(step.played)?;
         standing = step.next;
     }
     Ok(PlainRun {
@@ -99,45 +107,44 @@ fn run_from(alloc: Global, job: &Job, first: Standing) -> Result<PlainRun, Want>
     })
 }
 
-fn run_job(alloc: Global, job: &Job) -> Result<PlainRun, Want>
+fn run_job(alloc: Global, job: &Job) -> Result<PlainRun, AllocError>
     ensures rows { IfOk result (λ run. run.rows.items ≡ (source_run (job_of job.now)).last.rows) }
-    ensures rounds { IfOk result (λ run. map told_of run.rounds.items ≡ rounds_told (source_run (job_of job.now))) }
+    ensures rounds { IfOk result (λ run. map told_of run.rounds.items ≡ rounds_told job.now.kept (source_run (job_of job.now))) }
     ensures each { IfOk result (λ run. length run.rows.items ≡ job.now.graph.now.vertices) }
     ensures wide { IfOk result (λ run. All (λ r. length r.words.items ≡ length job.now.program.now.program.fields.items) run.rows.items) }
 {
-    let Ok(rows) = first_rows(alloc, job) else {
-        return Err(Want);
-    };
+    let rows = first_rows(alloc, job)?;
     run_from(alloc, job, standing_after(job, 0, rows))
 }
 
-/// The run of a program over these edges by one machine, which holds all vertices and reads the
-/// edges into each in the order that the ends of the chunks give. The only error is want of memory.
+/// The run of a program over the edges of a table by one machine, which holds all vertices and reads
+/// the edges into each in the order that the ends of the chunks give. The only error is want of memory.
+///
+/// What each vertex read is kept only where it is asked for.
 pub fn run_plainly(
     alloc: Global,
     program: &Typed,
-    vertices: u32,
-    edges: &[Edge],
-    ends: &[u32],
+    table: &Table,
+    cuts: &Cuts<MACHINES>,
     draws: u64,
+    kept: bool,
 ) -> Result<PlainRun, Want>
-    requires vertices { vertices ≤ 2097152 }
-    requires edges { length edges.now ≤ 8388608 }
-    requires below { AreBelow vertices edges.now }
+    requires { vertices_of cuts.now ≡ table.now.vertices }
     ensures rows { IfOk result (λ run. run.rows.items
-        ≡ (source_run (plain_job program.now.program vertices ends.now edges.now draws)).last.rows) }
-    ensures rounds { IfOk result (λ run. map told_of run.rounds.items
-        ≡ rounds_told (source_run (plain_job program.now.program vertices ends.now edges.now draws))) }
-    ensures each { IfOk result (λ run. length run.rows.items ≡ vertices) }
+        ≡ (source_run (plain_job program.now.program table.now.vertices cuts.now table.now.list draws)).last.rows) }
+    ensures rounds { IfOk result (λ run. map told_of run.rounds.items ≡ rounds_told kept
+        (source_run (plain_job program.now.program table.now.vertices cuts.now table.now.list draws))) }
+    ensures each { IfOk result (λ run. length run.rows.items ≡ table.now.vertices) }
+    ensures few { IfOk result (λ run. length run.rows.items ≤ VERTICES) }
     ensures wide { IfOk result (λ run. All (λ r. length r.words.items ≡ length program.now.program.fields.items) run.rows.items) }
 {
-    let Ok(graph) = build(alloc, vertices, ends, edges) else {
-        return Err(Want);
-    };
+    let _vertices = table.vertices();
+    let graph = Graph { table, cuts };
     let job = Job {
         program,
         graph: &graph,
         draws,
+        kept,
     };
-    run_job(alloc, &job)
+    Ok(run_job(alloc, &job)?)
 }

@@ -1,11 +1,13 @@
-ghost use Rattle.std.specs.Prelude.{◌≡◌, ◌<◌, ◌≤◌, length, pos};
+//! What stands when a round begins, and the environment in which its vertices work.
+ghost use Rattle.std.specs.Prelude.{◌≡◌, ◌<◌, ◌≤◌, [], length, map};
+ghost use Rattle.vert_base.specs.declared.limits.TheConstants.{ROUNDS};
 ghost use Rattle.vert_base.specs.Neighbours.{source};
 ghost use Rattle.vert_eval.specs.Values.{CanDraw, counts_of};
 ghost use Rattle.vert_eval.specs.Rounds.{at_member, env_at, neighbour_of, row_at, sender_at, slot_ops};
-ghost use Rattle.plain_run.specs.Views.{IsReady, counts_in, graph_of, program_of, scene_of};
+ghost use Rattle.plain_run.specs.Views.{IsReady, counts_in, program_of, scene_of};
 
 use super::graph::Graph;
-use super::slots::no_values;
+use super::slots::clear_values;
 use arrayvec::ArrayVec;
 use vert_base::{Edge, Neighbour, Row, VertexId};
 use vert_eval::Env;
@@ -22,33 +24,65 @@ pub(crate) struct Scene<'a> {
     pub totals: &'a [i64],
 }
 
-pub(crate) fn row_copy(row: &Row) -> Row
-    ensures { result ≡ row.now }
-{
-    let mut words = ArrayVec::new();
-    words.try_extend_from_slice(&row.words).unwrap();
+fn blank_row() -> Row {
     Row {
-        words,
-        active: row.active,
+        words: ArrayVec::new(),
+        active: false,
     }
 }
 
-/// The row of a vertex, which is empty where the scene has none.
-fn row_of(scene: &Scene, v: u32) -> Row
-    ensures { result ≡ row_at scene.now.rows.now v }
+/// An environment of no vertex, which is to be entered.
+pub(crate) fn blank_env() -> Env {
+    Env {
+        id: VertexId(0),
+        n: 0,
+        round: 0,
+        indeg: 0,
+        outdeg: 0,
+        draws: 0,
+        row: blank_row(),
+        next_active: false,
+        locals: ArrayVec::new(),
+        touched: 0,
+        other: Neighbour {
+            id: VertexId(0),
+            weight: 0,
+            indeg: 0,
+            outdeg: 0,
+        },
+        other_row: blank_row(),
+        sends: ArrayVec::new(),
+        slots: ArrayVec::new(),
+        totals: ArrayVec::new(),
+        key: 0,
+    }
+}
+
+/// Writes a row over another one.
+pub(crate) fn copy_row(row: &Row, copy: &mut Row)
+    ensures { copy.new ≡ row.now }
+{
+    copy.words.clear();
+    copy.words.try_extend_from_slice(&row.words).unwrap();
+    copy.active = row.active;
+}
+
+/// Writes the row of a vertex, which is empty where the scene has none.
+fn read_row(scene: &Scene, v: u32, row: &mut Row)
+    ensures { row.new ≡ row_at scene.now.rows.now v }
 {
     match scene.rows.get(v as usize) {
-        Some(row) => row_copy(row),
-        None => Row {
-            words: ArrayVec::new(),
-            active: false,
-        },
+        Some(found) => copy_row(found, row),
+        None => {
+            row.words.clear();
+            row.active = false;
+        }
     }
 }
 
 fn neighbour(graph: &Graph, u: u32, weight: i64) -> Neighbour
     requires { u < graph.now.vertices }
-    ensures { result ≡ neighbour_of (graph_of graph.now) u weight }
+    ensures { result ≡ neighbour_of graph.now u weight }
 {
     Neighbour {
         id: VertexId(u),
@@ -58,57 +92,50 @@ fn neighbour(graph: &Graph, u: u32, weight: i64) -> Neighbour
     }
 }
 
-fn totals_of(scene: &Scene) -> ArrayVec<i64, 4>
-    requires { length scene.now.totals.now ≤ 4 }
-    ensures { result.items ≡ scene.now.totals.now }
-{
-    let mut totals = ArrayVec::new();
-    totals.try_extend_from_slice(scene.totals).unwrap();
-    totals
-}
-
-/// The environment of a vertex with these values of the slots.
-pub(crate) fn env_at(scene: &Scene, v: u32, slots: ArrayVec<Option<i64>, 8>) -> Env
+/// Makes the environment that of a vertex without slots.
+pub(crate) fn enter_vertex(scene: &Scene, v: u32, env: &mut Env)
     requires inside { v < scene.now.graph.now.vertices }
     requires totals { length scene.now.totals.now ≤ 4 }
-    ensures { result ≡ env_at (scene_of scene.now) v slots.items }
+    requires round { scene.now.round ≤ ROUNDS }
+    ensures env { env.new ≡ env_at (scene_of scene.now) v [] }
+    ensures draws { CanDraw env.new }
 {
-    Env {
-        id: VertexId(v),
-        n: scene.graph.vertices,
-        round: scene.round,
-        indeg: scene.graph.indegree(v),
-        outdeg: scene.graph.outdegree(v),
-        draws: scene.draws,
-        row: row_of(scene, v),
-        next_active: false,
-        locals: ArrayVec::new(),
-        touched: 0,
-        other: neighbour(scene.graph, v, 0),
-        other_row: row_of(scene, v),
-        sends: ArrayVec::new(),
-        slots,
-        totals: totals_of(scene),
-        key: 0,
-    }
+    env.other = neighbour(scene.graph, v, 0);
+    env.id = env.other.id;
+    env.n = scene.graph.vertices();
+    env.round = scene.round;
+    env.indeg = env.other.indeg;
+    env.outdeg = env.other.outdeg;
+    env.draws = scene.draws;
+    read_row(scene, v, &mut env.row);
+    env.next_active = false;
+    env.locals.clear();
+    env.touched = 0;
+    read_row(scene, v, &mut env.other_row);
+    env.sends.clear();
+    env.slots.clear();
+    env.totals.clear();
+    env.totals.try_extend_from_slice(scene.totals).unwrap();
+    env.key = 0;
 }
 
-/// The environment of a vertex that has no values of the slots.
-pub(crate) fn bare_env(scene: &Scene, v: u32) -> Env
+/// Makes the environment that of a vertex that has no values of the slots.
+pub(crate) fn enter_bare(scene: &Scene, v: u32, env: &mut Env)
     requires ready { IsReady scene.now }
     requires inside { v < scene.now.graph.now.vertices }
-    ensures env { result ≡ sender_at (scene_of scene.now) (slot_ops (program_of scene.now)) v }
-    ensures counts { counts_of result ≡ counts_in scene.now }
-    ensures draws { CanDraw result }
+    ensures env { env.new ≡ sender_at (scene_of scene.now) (slot_ops (program_of scene.now)) v }
+    ensures counts { counts_of env.new ≡ counts_in scene.now }
+    ensures draws { CanDraw env.new }
 {
-    env_at(scene, v, no_values(&scene.program.program.slots))
+    enter_vertex(scene, v, env);
+    clear_values(&scene.program.program.slots, &mut env.slots);
 }
 
 /// Makes a member of the neighbours the one that the environment is at.
-pub(crate) fn enter(scene: &Scene, member: &Edge, env: &mut Env)
+pub(crate) fn enter_member(scene: &Scene, member: &Edge, env: &mut Env)
     requires { source member.now < scene.now.graph.now.vertices }
     ensures { env.new ≡ at_member (scene_of scene.now) member.now env.old }
 {
     env.other = neighbour(scene.graph, member.from.0, i64::from(member.weight));
-    env.other_row = row_of(scene, member.from.0);
+    read_row(scene, member.from.0, &mut env.other_row);
 }

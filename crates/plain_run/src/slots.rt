@@ -6,33 +6,34 @@ use arrayvec::ArrayVec;
 use slot_merge::{Emits, Partial};
 use vert_tree::SlotDecl;
 
-/// No value for any slot.
-pub(crate) fn no_values(slots: &[SlotDecl]) -> ArrayVec<Option<i64>, 8>
+/// Takes all values of the slots away.
+pub(crate) fn clear_values(slots: &[SlotDecl], values: &mut ArrayVec<Option<i64>, 8>)
     requires { length slots.now ≤ 8 }
-    ensures { result.items ≡ no_values (map (λ s. s.op) slots.now) }
+    ensures { values.new.items ≡ no_values (map (λ s. s.op) slots.now) }
 {
-    values_of(&no_emits(slots))
-}
-
-/// The partials of slots to which nothing was emitted.
-pub(crate) fn no_emits(slots: &[SlotDecl]) -> Emits
-    requires { length slots.now ≤ 8 }
-    ensures { result.slots.items ≡ map empty_partial (map (λ s. s.op) slots.now) }
-{
-    let mut partials = ArrayVec::new();
-    for slot in slots {
-        partials.push(Partial::new(slot.op));
+    values.clear();
+    for _slot in slots {
+        values.push(None);
     }
-    Emits { slots: partials }
 }
 
-/// The values that the slots have.
-pub(crate) fn values_of(emits: &Emits) -> ArrayVec<Option<i64>, 8>
-    ensures { result.items ≡ map (λ p. p.value) emits.now.slots.items }
+/// Makes the partials those of slots to which nothing was emitted.
+pub(crate) fn clear_emits(slots: &[SlotDecl], emits: &mut Emits)
+    requires { length slots.now ≤ 8 }
+    ensures { emits.new.slots.items ≡ map empty_partial (map (λ s. s.op) slots.now) }
 {
-    let mut values = ArrayVec::new();
+    emits.slots.clear();
+    for slot in slots {
+        emits.slots.push(Partial::new(slot.op));
+    }
+}
+
+/// Gives the slots the values that were emitted to them.
+pub(crate) fn put_values(emits: &Emits, values: &mut ArrayVec<Option<i64>, 8>)
+    ensures { values.new.items ≡ map (λ p. p.value) emits.now.slots.items }
+{
+    values.clear();
     for partial in emits.slots.as_slice() {
         values.push(partial.value);
     }
-    values
 }

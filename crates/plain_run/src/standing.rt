@@ -1,7 +1,9 @@
-ghost use Rattle.std.specs.Prelude.{◌≡◌, ◌≤◌, ◌<◌, ◌^◌, length};
-ghost use Rattle.vert_eval.specs.SourceRun.{active_edges, active_vertices, ruling_after, standing_after};
+ghost use Rattle.std.specs.Prelude.{◌≡◌, ◌≤◌, ◌+◌, if◌then◌else◌, length};
+ghost use Rattle.vert_base.specs.declared.limits.TheConstants.{ROUNDS};
+ghost use Rattle.vert_base.specs.declared.value.Ruling.TheVariants.{Stop};
+ghost use Rattle.mode_switch.specs.Ruling.{ruling_of};
+ghost use Rattle.vert_eval.specs.SourceRun.{active_edges, active_vertices, standing_after, stops_after};
 ghost use Rattle.plain_run.specs.Jobs.{HasRows, IsStanding, job_of, standing_of};
-ghost use Rattle.plain_run.specs.Views.{graph_of};
 
 use super::graph::Graph;
 use super::job::{Job, Standing, limit_of};
@@ -18,11 +20,12 @@ fn active_vertices(rows: &[Row]) -> u64
 /// How many edges leave the active vertices.
 fn active_edges(graph: &Graph, rows: &[Row]) -> u64
     requires { length rows.now ≡ graph.now.vertices }
-    ensures edges { result ≡ active_edges (graph_of graph.now) rows.now }
-    ensures few { result ≤ length graph.now.edges.now }
+    ensures edges { result ≡ active_edges graph.now rows.now }
+    ensures few { result ≤ length graph.now.edges }
 {
+    let _edges = graph.edges();
     let mut edges = 0u64;
-    for v in 0..graph.vertices {
+    for v in 0..graph.vertices() {
         if rows[v as usize].active {
             edges += u64::from(graph.outdegree(v));
         }
@@ -30,14 +33,18 @@ fn active_edges(graph: &Graph, rows: &[Row]) -> u64
     edges
 }
 
-/// Whether and in which mode a round follows.
-fn ruling_after(job: &Job, round: u32, rows: &[Row], totals: &[i64]) -> Ruling
-    requires round { round ≤ 10000 }
-    requires rows { HasRows job.now rows.now }
+/// Whether and in which mode a round follows, given how many vertices are active and how many edges
+/// leave them.
+fn ruling_after(job: &Job, round: u32, active: u64, edges: u64, totals: &[i64]) -> Ruling
+    requires round { round ≤ ROUNDS }
+    requires active { active ≤ job.now.graph.now.vertices }
+    requires edges { edges ≤ length job.now.graph.now.edges }
     requires totals { length totals.now ≡ length job.now.program.now.program.totals.items }
-    ensures { result ≡ ruling_after (job_of job.now) round rows.now totals.now }
+    ensures { result ≡ (if stops_after (job_of job.now) round totals.now then Stop
+        else ruling_of active edges (length job.now.graph.now.edges) (round + 1)
+        job.now.program.now.program.limit job.now.program.now.program.mode) }
 {
-    let active = active_vertices(rows);
+    let _vertices = job.graph.vertices();
     if active == 0 {
         return Ruling::Stop;
     }
@@ -46,8 +53,8 @@ fn ruling_after(job: &Job, round: u32, rows: &[Row], totals: &[i64]) -> Ruling
     }
     ruling(
         active,
-        active_edges(job.graph, rows),
-        job.graph.edges.len() as u64,
+        edges,
+        u64::from(job.graph.edges()),
         round + 1,
         limit_of(job.program),
         job.program.program.mode,
@@ -56,15 +63,15 @@ fn ruling_after(job: &Job, round: u32, rows: &[Row], totals: &[i64]) -> Ruling
 
 /// What stands after a round, given its rows.
 pub(crate) fn standing_after(job: &Job, round: u32, rows: Vec<Row>) -> Standing
-    requires round { round ≤ 10000 }
+    requires round { round ≤ ROUNDS }
     requires rows { HasRows job.now rows.items }
     ensures standing { standing_of result ≡ standing_after (job_of job.now) round rows.items }
     ensures stands { IsStanding job.now result }
 {
     let totals = totals_after(job, round, &rows);
-    let ruling = ruling_after(job, round, &rows, &totals);
     let active = active_vertices(&rows);
     let edges = active_edges(job.graph, &rows);
+    let ruling = ruling_after(job, round, active, edges, &totals);
     Standing {
         rows,
         totals,

@@ -7,7 +7,7 @@ ghost use Rattle.vert_eval.specs.SourceRun.{first_row, first_rows, with_row};
 ghost use Rattle.plain_run.specs.Jobs.{HasRows, job_of};
 
 use super::job::Job;
-use super::scene::{Scene, env_at, row_copy};
+use super::scene::{Scene, blank_env, copy_row, enter_vertex};
 use arrayvec::ArrayVec;
 use std::alloc::{AllocError, Global};
 use vert_base::Row;
@@ -27,11 +27,11 @@ fn field_words(fields: &[Decl], env: &Env) -> ArrayVec<i64, 16>
     words
 }
 
-fn enter_row(row: Row, env: &mut Env)
-    ensures { env.new ≡ with_row row env.old }
+fn enter_row(row: &Row, env: &mut Env)
+    ensures { env.new ≡ with_row row.now env.old }
 {
-    env.other_row = row_copy(&row);
-    env.row = row;
+    copy_row(row, &mut env.row);
+    copy_row(row, &mut env.other_row);
 }
 
 /// Whether the value of the expression counts as true.
@@ -44,7 +44,7 @@ pub(crate) fn holds(test: &Expr, env: &Env) -> bool
 }
 
 /// The row of a vertex before the first round.
-fn first_row(job: &Job, v: u32) -> Row
+fn first_row(job: &Job, v: u32, env: &mut Env) -> Row
     requires { v < job.now.graph.now.vertices }
     ensures { result ≡ first_row (job_of job.now) v }
 {
@@ -57,20 +57,14 @@ fn first_row(job: &Job, v: u32) -> Row
         totals: &[],
     };
     let program = &job.program.program;
-    let mut env = env_at(&scene, v, ArrayVec::new());
-    let words = field_words(&program.fields, &env);
-    enter_row(
-        Row {
-            words,
-            active: false,
-        },
-        &mut env,
-    );
-    let active = holds(&program.start, &env);
-    Row {
-        words: env.row.words,
-        active,
-    }
+    enter_vertex(&scene, v, env);
+    let mut row = Row {
+        words: field_words(&program.fields, env),
+        active: false,
+    };
+    enter_row(&row, env);
+    row.active = holds(&program.start, env);
+    row
 }
 
 /// The rows before the first round.
@@ -78,9 +72,11 @@ pub(crate) fn first_rows(alloc: Global, job: &Job) -> Result<Vec<Row>, AllocErro
     ensures rows { IfOk result (λ rows. rows.items ≡ first_rows (job_of job.now)) }
     ensures stands { IfOk result (λ rows. HasRows job.now rows.items) }
 {
-    let mut rows = Vec::with_capacity(alloc, job.graph.vertices as usize)?;
-    for v in 0..job.graph.vertices {
-        rows.push(first_row(job, v))?;
+    let vertices = job.graph.vertices();
+    let mut rows = Vec::with_capacity(alloc, vertices as usize)?;
+    let mut env = blank_env();
+    for v in 0..vertices {
+        rows.push(first_row(job, v, &mut env))?;
     }
     Ok(rows)
 }

@@ -1,5 +1,6 @@
 ghost use Rattle.std.specs.Prelude.{IsTrue, ◌≡◌, ◌≤◌, ◌<◌, [], length, map};
 ghost use Rattle.std.specs.List.{list_all};
+ghost use Rattle.vert_base.specs.declared.limits.TheConstants.{ROUNDS};
 ghost use Rattle.vert_tree.specs.Places.{expr_placed, row_counts, stop_counts};
 ghost use Rattle.slot_merge.specs.Combine.{combined_of, neutral};
 ghost use Rattle.vert_eval.specs.Rounds.{env_at};
@@ -9,7 +10,7 @@ ghost use Rattle.vert_eval.specs.SourceRun.{scene_of, stops_after, total_after, 
 ghost use Rattle.plain_run.specs.Jobs.{HasRows, job_of};
 
 use super::job::Job;
-use super::scene::{Scene, env_at};
+use super::scene::{Scene, blank_env, enter_vertex};
 use super::start::holds;
 use arrayvec::ArrayVec;
 use vert_base::{Combine, Row};
@@ -48,7 +49,7 @@ fn with_value(op: Combine, held: i64, value: &Expr, env: &Env) -> i64
 
 /// A total over all vertices of the rows after a round.
 fn total_after(job: &Job, round: u32, rows: &[Row], total: &TotalDecl) -> i64
-    requires round { round ≤ 10000 }
+    requires round { round ≤ ROUNDS }
     requires rows { HasRows job.now rows.now }
     requires names { IsTrue (expr_placed (row_counts job.now.program.now.program) total.now.value) }
     ensures { result ≡ total_after (job_of job.now) round rows.now total.now }
@@ -61,9 +62,10 @@ fn total_after(job: &Job, round: u32, rows: &[Row], total: &TotalDecl) -> i64
         rows,
         totals: &[],
     };
+    let mut env = blank_env();
     let mut word = first_word(total.op);
-    for v in 0..job.graph.vertices {
-        let env = env_at(&scene, v, ArrayVec::new());
+    for v in 0..job.graph.vertices() {
+        enter_vertex(&scene, v, &mut env);
         word = with_value(total.op, word, &total.value, &env);
     }
     word
@@ -71,7 +73,7 @@ fn total_after(job: &Job, round: u32, rows: &[Row], total: &TotalDecl) -> i64
 
 fn total_words(job: &Job, round: u32, rows: &[Row], totals: &[TotalDecl]) -> ArrayVec<i64, 4>
     requires room { length totals.now ≤ 4 }
-    requires round { round ≤ 10000 }
+    requires round { round ≤ ROUNDS }
     requires rows { HasRows job.now rows.now }
     requires names { IsTrue (list_all (λ t. expr_placed (row_counts job.now.program.now.program) t.value) totals.now) }
     ensures { result.items ≡ map (total_after (job_of job.now) round rows.now) totals.now }
@@ -85,7 +87,7 @@ fn total_words(job: &Job, round: u32, rows: &[Row], totals: &[TotalDecl]) -> Arr
 
 /// The totals of the rows after a round.
 pub(crate) fn totals_after(job: &Job, round: u32, rows: &[Row]) -> ArrayVec<i64, 4>
-    requires round { round ≤ 10000 }
+    requires round { round ≤ ROUNDS }
     requires rows { HasRows job.now rows.now }
     ensures { result.items ≡ totals_after (job_of job.now) round rows.now }
 {
@@ -94,7 +96,7 @@ pub(crate) fn totals_after(job: &Job, round: u32, rows: &[Row]) -> ArrayVec<i64,
 
 fn test_after(job: &Job, round: u32, totals: &[i64], test: &Expr) -> bool
     requires some { 0 < job.now.graph.now.vertices }
-    requires round { round ≤ 10000 }
+    requires round { round ≤ ROUNDS }
     requires totals { length totals.now ≡ length job.now.program.now.program.totals.items }
     requires names { IsTrue (expr_placed (stop_counts job.now.program.now.program) test.now) }
     ensures { result ≡ is_set (value_of test.now (env_at (scene_of (job_of job.now) round [] totals.now) 0 [])) }
@@ -107,14 +109,15 @@ fn test_after(job: &Job, round: u32, totals: &[i64], test: &Expr) -> bool
         rows: &[],
         totals,
     };
-    let env = env_at(&scene, 0, ArrayVec::new());
+    let mut env = blank_env();
+    enter_vertex(&scene, 0, &mut env);
     holds(test, &env)
 }
 
 /// Whether the stop test holds after a round, where there is a vertex.
 pub(crate) fn stops_after(job: &Job, round: u32, totals: &[i64]) -> bool
     requires some { 0 < job.now.graph.now.vertices }
-    requires round { round ≤ 10000 }
+    requires round { round ≤ ROUNDS }
     requires totals { length totals.now ≡ length job.now.program.now.program.totals.items }
     ensures { result ≡ stops_after (job_of job.now) round totals.now }
 {

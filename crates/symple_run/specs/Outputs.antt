@@ -1,5 +1,5 @@
 -- What the commands put.
-use Rattle.std.specs.Prelude.{ℕ, ◌<◌, ◌^◌, ◌+◌, List, [], ◌∷◌, ◌++◌, Option, None, Some, codes, decimal, flat_map, length, map, slice_get, slice_index, sum, if◌then◌else◌}
+use Rattle.std.specs.Prelude.{ℕ, ◌<◌, ◌^◌, ◌+◌, List, [], ◌∷◌, ◌++◌, Option, None, Some, codes, decimal, flat_map, length, slice_get, slice_index, if◌then◌else◌}
 use Rattle.std.specs.List.{All, range_with_len}
 use Rattle.array_text.specs.Reads.{read_head_text, sources_text}
 use Rattle.array_text.specs.Rounds.{round_text}
@@ -29,7 +29,7 @@ job_of machines draws program graph = record {
 
 -- the line of a round that took place, with the number of sources that were read in it
 abbrev pub told_text : Told → List ℕ
-told_text told = round_text told.round told.ruling told.active told.edges (sum (map length told.reads))
+told_text told = round_text told.round told.ruling told.active told.edges told.read
 
 -- the line of a vertex and the sources that it read, where there are any
 abbrev pub read_line : ℕ → ℕ → List ℕ → List ℕ
@@ -50,7 +50,7 @@ abbrev pub told_run : Lines → Program → List Told → List Row → List ℕ
 told_run lines program tolds rows = flat_map (told_lines lines) tolds ++ table_text program rows
 
 abbrev pub text_of_run : Lines → Program → Run → List ℕ
-text_of_run lines program run = told_run lines program (rounds_told run) run.last.rows
+text_of_run lines program run = told_run lines program (rounds_told lines.reads run) run.last.rows
 
 -- what the source run of a program puts
 abbrev pub play_text : Play → List ℕ
@@ -102,9 +102,8 @@ freedom_text p OtherLoop = codes "not free: loop\n"
 abbrev pub free_text : Program → List ℕ
 free_text p = freedom_text p (freedom_of p)
 
--- a u64 counts the sources that a round read, and a u32 its vertices
+-- a u32 counts the vertices of a round
 pub record IsFew (told : Told) : Type 0 where
-  pub sources : sum (map length told.reads) < 2 ^ 64
   pub vertices : length told.reads < 2 ^ 32
 
 abbrev pub AreFew : List Told → Type 0

@@ -1,5 +1,5 @@
 ghost use Rattle.std.specs.Prelude.{◌≡◌, ◌<◌, ◌^◌, [], flat_map, if◌then◌else◌, length, map};
-ghost use Rattle.std.specs.List.{All, sum_by};
+ghost use Rattle.std.specs.List.{All};
 ghost use Rattle.array_text.specs.Writes.{Writes};
 ghost use Rattle.plain_run.specs.Lists.{id_lists_of, ids_of};
 ghost use Rattle.plain_run.specs.Told.{told_of};
@@ -40,7 +40,6 @@ fn write_played<O: Sink>(lines: &Lines, played: &PlayedRound, out: &mut O) -> Re
 
 /// Puts the line of a round, where it is asked for.
 fn write_report<O: Sink>(asked: bool, played: &PlayedRound, out: &mut O) -> Result<(), SinkFault>
-    requires { IsFew (told_of played.now) }
     ensures { Writes O.held O.faults O.spare out.old out.new
         (if asked then told_text (told_of played.now) else []) result }
 {
@@ -52,7 +51,7 @@ fn write_report<O: Sink>(asked: bool, played: &PlayedRound, out: &mut O) -> Resu
         ruling: played.ruling,
         active: played.active,
         edges: played.edges,
-        reads: count_reads(&played.reads),
+        reads: played.read,
     };
     write_round(&report, out)
 }
@@ -68,18 +67,6 @@ fn write_sources<O: Sink>(asked: bool, played: &PlayedRound, out: &mut O) -> Res
         return Ok(());
     }
     write_read_lines(played.round, &played.reads, out)
-}
-
-/// How many sources were read, by all vertices.
-fn count_reads(reads: &[Vec<VertexId>]) -> u64
-    requires { sum_by (λ v. length v.items) reads.now < 2 ^ 64 }
-    ensures { result ≡ sum_by (λ v. length v.items) reads.now }
-{
-    let mut count = 0;
-    'vertices: for sources in reads {
-        count += sources.len() as u64;
-    }
-    count
 }
 
 /// Puts a line for each vertex that read others.

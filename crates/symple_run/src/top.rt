@@ -1,10 +1,13 @@
-ghost use Rattle.std.specs.Prelude.{◌≡◌, ◌≤◌, IfOk, None, option_map};
+ghost use Rattle.std.specs.Prelude.{◌≡◌, ◌≤◌, IfOk, None, length, map, option_map};
 ghost use Rattle.std.specs.String.{string_bytes};
 ghost use Rattle.chunk_split.specs.Bounds.{ends_of};
+ghost use Rattle.vert_base.specs.declared.limits.TheConstants.{VERTICES};
 ghost use Rattle.edge_reader.specs.Gives.{graph_of_edges};
+ghost use Rattle.plain_run.specs.Told.{rounds_told, told_of};
+ghost use Rattle.vert_eval.specs.SourceRun.{source_run};
 ghost use Rattle.symple_run.specs.Commands.{asked, order_of, plan_order, play_of, run_order};
 ghost use Rattle.symple_run.specs.Headline.{Answers, IsComplete, TellsFreedom};
-ghost use Rattle.symple_run.specs.Outputs.{plan_text, play_text};
+ghost use Rattle.symple_run.specs.Outputs.{job_of, plan_text, play_text};
 ghost use Rattle.symple_run.specs.States.{input_state, outside, shelf_state, sink_state};
 ghost use Rattle.symple_run.specs.SourceRuns.{IsSourceRun};
 ghost use Rattle.symple_run.specs.Walks.{Performs, Plays};
@@ -25,19 +28,19 @@ use graph_table::Table;
 use instrument::{Split, split_of};
 use order_free::order_free_programs;
 use outside::{Shelf, Sink, Source};
-use plain_run::run_plainly;
+use plain_run::{PlainRun, run_plainly, runs_by_table};
 use std::alloc::Global;
 use symple_words::{GraphForm, Job, Line, read_words};
 use vert_base::Want;
 use vert_base::limits::MACHINES;
+use vert_tree::Typed;
 
 /// The chunks of a graph for so many machines.
-fn chunks(alloc: Global, edges: &Edges, machines: u8) -> Result<Cuts<MACHINES>, Want>
+fn chunks(alloc: Global, edges: Edges, machines: u8) -> Result<Cuts<MACHINES>, Want>
     requires { AreMachines machines }
-    ensures { IfOk result
-        (λ cuts. cuts ≡ ends_of machines edges.now.vertices edges.now.list.items) }
+    ensures { IfOk result (λ cuts. cuts ≡ ends_of machines edges.vertices edges.list.items) }
 {
-    let table = Table::build(alloc, edges)?;
+    let table = Table::from_edges(alloc, edges)?;
     Ok(cuts_of(&table, machines))
 }
 
@@ -57,7 +60,7 @@ fn run<H: Shelf, O: Sink>(
 {
     let typed = load_program(alloc, shelf, &job.program)?;
     let edges = load_graph(alloc, shelf, &job.form, &job.graph)?;
-    play(alloc, job, machines, &split_of(typed), &edges, out)
+    play(alloc, job, machines, &split_of(typed), edges, out)
 }
 
 /// Plays the program on the graph, cut into chunks, and puts what is asked of the run.
@@ -66,27 +69,40 @@ fn play<O: Sink>(
     job: &Job,
     machines: u8,
     split: &Split,
-    edges: &Edges,
+    edges: Edges,
     out: &mut O,
 ) -> Result<(), Failure>
     requires { AreMachines machines }
     ensures { Plays (play_text (play_of (job_view job.now) machines split.now.program.program
-        (graph_of_edges edges.now)))
+        (graph_of_edges edges)))
         (sink_state O.held O.faults O.spare out.old)
         (sink_state O.held O.faults O.spare out.new) result }
 {
-    let cuts = chunks(alloc, edges, machines)?;
-    let (vertices, draws) = (edges.vertices, job.draws);
-    let played = run_plainly(
-        alloc,
-        &split.program,
-        vertices,
-        &edges.list,
-        cuts.ends(),
-        draws,
-    )?;
+    let played = run_over(alloc, job, machines, &split.program, edges)?;
     put_run(split, &played, &job.lines, out)?;
     Ok(())
+}
+
+/// Runs the program over the table of the edges, which is dropped when the run is over.
+fn run_over(
+    alloc: Global,
+    job: &Job,
+    machines: u8,
+    program: &Typed,
+    edges: Edges,
+) -> Result<PlainRun, Want>
+    requires { AreMachines machines }
+    ensures rows { IfOk result (λ run. run.rows.items ≡ (source_run
+        (job_of machines job.now.draws program.now.program (graph_of_edges edges))).last.rows) }
+    ensures rounds { IfOk result (λ run. map told_of run.rounds.items
+        ≡ rounds_told job.now.lines.reads (source_run
+        (job_of machines job.now.draws program.now.program (graph_of_edges edges)))) }
+    ensures few { IfOk result (λ run. length run.rows.items ≤ VERTICES) }
+{
+    runs_by_table();
+    let table = Table::from_edges(alloc, edges)?;
+    let cuts = cuts_of(&table, machines);
+    run_plainly(alloc, program, &table, &cuts, job.draws, job.lines.reads)
 }
 
 /// Puts how the graph is cut and who works on which chunk in each step.
@@ -105,13 +121,13 @@ fn plan<H: Shelf, O: Sink>(
     ensures later { H.loads shelf.old ≤ H.loads shelf.new }
 {
     let edges = load_graph(alloc, shelf, form, name)?;
-    lay_out(alloc, machines, &edges, out)
+    lay_out(alloc, machines, edges, out)
 }
 
 /// Puts the plan of a graph.
-fn lay_out<O: Sink>(alloc: Global, machines: u8, edges: &Edges, out: &mut O) -> Result<(), Failure>
+fn lay_out<O: Sink>(alloc: Global, machines: u8, edges: Edges, out: &mut O) -> Result<(), Failure>
     requires { AreMachines machines }
-    ensures { Plays (plan_text machines (graph_of_edges edges.now))
+    ensures { Plays (plan_text machines (graph_of_edges edges))
         (sink_state O.held O.faults O.spare out.old)
         (sink_state O.held O.faults O.spare out.new) result }
 {

@@ -1,9 +1,8 @@
 use Rattle.std.proofs.Common.{◌≡◌, length, map, take, sym, ap, ◌∙◌}
 use Rattle.vert_base.specs.Neighbours.{source}
 use Rattle.vert_tree.specs.Places.{body_placed, lets_placed, loop_rights, tail_rights}
-use Rattle.vert_eval.specs.Rounds.{members_of}
 use Rattle.vert_eval.specs.Values.{counts_of}
-use Rattle.plain_run.specs.Views.{counts_in, graph_of, scene_of}
+use Rattle.plain_run.specs.Views.{counts_in, members_at, members_in, scene_of}
 use Rattle.plain_run.proofs.BlockLaws.{block_partials, block_reads, counts_after, dense_parts}
 use Rattle.plain_run.proofs.dense.run_block.Goals as goal
 
@@ -34,12 +33,12 @@ run_body-requires-clause-names c =
 pub returns-clause-emits : goal.returns-clause-emits
 returns-clause-emits c =
     let scene = scene_of c.args.scene.now in
-    let members = members_of (graph_of c.args.scene.now.graph.now) c.args.v in
-    block_partials scene c.args.dense.now members c.members_of.result.now c.deref.result.now c.deref-2.result.now c.deref-3.result.now c.args.env.now c.run_lets.new.env c.deref.ensures.value c.deref-2.ensures.value c.members_of.ensures.members c.run_lets.ensures.value c.run_loop-read.new.env _ _ _ c.deref-3.ensures.value c.run_lets.ensures.same.key c.run_loop-read.ensures.env c.run_loop-read.ensures.kept.key c.run_loop-read.ensures.emits c.run_body.ensures.emits
+    let members = members_at c.args.scene.now c.args.v in
+    block_partials scene c.args.dense.now members (members_in c.members_of.result) c.deref.result.now c.deref-2.result.now c.deref-3.result.now c.args.env.now c.run_lets.new.env c.deref.ensures.value c.deref-2.ensures.value c.members_of.ensures.members c.run_lets.ensures.value c.run_loop-read.new.env _ _ _ c.deref-3.ensures.value c.run_lets.ensures.same.key c.run_loop-read.ensures.env c.run_loop-read.ensures.kept.key c.run_loop-read.ensures.emits c.run_body.ensures.emits
 
 pub returns-clause-reads : goal.returns-clause-reads
 returns-clause-reads c =
     let scene = scene_of c.args.scene.now in
-    let members = members_of (graph_of c.args.scene.now.graph.now) c.args.v in
+    let members = members_at c.args.scene.now c.args.v in
     ap (λ l. map source (take c.run_loop-read.result l)) (sym c.members_of.ensures.members)
-    ∙ block_reads scene c.args.dense.now members c.members_of.result.now c.deref.result.now c.deref-2.result.now c.deref-3.result.now c.args.env.now c.run_lets.new.env c.deref.ensures.value c.deref-2.ensures.value c.members_of.ensures.members c.run_lets.ensures.value _ c.run_loop-read.ensures.reads
+    ∙ block_reads scene c.args.dense.now members (members_in c.members_of.result) c.deref.result.now c.deref-2.result.now c.deref-3.result.now c.args.env.now c.run_lets.new.env c.deref.ensures.value c.deref-2.ensures.value c.members_of.ensures.members c.run_lets.ensures.value _ c.run_loop-read.ensures.reads

@@ -13,9 +13,8 @@ pub loop-v-preserved : goal.loop-v-preserved
 loop-v-preserved c =
     let s = scene_of (job_of c.args.job.now) c.args.round c.args.rows.now [] in
     let t = c.args.total.now in
-    let same = c.env_at-env.ensures ∙ ap (env_at s c.loop-v.v) c.new.ensures in
     let here = to_z-of_z w64 c.with_value-word.result (search rules) ∙ c.with_value-word.ensures in
-    total_step t.op t.value s c.loop-v.v c.env_at-env.result _ _ c.loop-v.invariant same here
+    total_step t.op t.value s c.loop-v.v c.enter_vertex.new.env _ _ c.loop-v.invariant c.enter_vertex.ensures.env here
 
 pub returns : goal.returns
 returns c =

@@ -1,16 +1,10 @@
-use Rattle.std.proofs.Common.{◌<◌, length, arith}
-use Rattle.vert_eval.specs.Rounds.{indegree}
-use Rattle.plain_run.specs.Views.{graph_of}
-use Rattle.plain_run.proofs.GraphLaws.{length_each, element_at}
+use Rattle.std.proofs.Common.{ℕ, ◌∙◌, subst}
+use Rattle.vert_base.specs.Neighbours.{AreBelow}
+use Rattle.plain_run.proofs.GraphLaws.{ins_count}
 use Rattle.plain_run.proofs.graph.Graph.indegree.Goals as goal
-
-pub index-requires : goal.index-requires
-index-requires c =
-    let graph = c.args.self.now in
-    let long : c.args.v < length graph.indegrees.items = length_each (indegree (graph_of graph)) graph.indegrees.items graph.vertices c.args.v graph.into c.requires in
-    omega arith
 
 pub returns : goal.returns
 returns c =
-    let graph = c.args.self.now in
-    element_at (indegree (graph_of graph)) graph.indegrees.items graph.vertices c.args.v c.index.result.now graph.into c.requires c.index.ensures
+    let table = c.self.inside.table.now in
+    let below : AreBelow table.vertices table.list = subst (λ (n : ℕ). AreBelow n table.list) c.vertices-vertices.ensures.value c.vertices-vertices.ensures.below in
+    rw (← c.self.view_is) (c.indeg.ensures.value ∙ ins_count table.vertices table.list c.args.v below)

@@ -1,6 +1,0 @@
-use Rattle.std.proofs.Common.{◌≡◌, take, map}
-use Rattle.slot_merge.specs.Partials.{empty_partial}
-use Rattle.plain_run.proofs.slots.no_emits.Given as goal
-
-abbrev pub invariant-loop-slot : goal.invariant-loop-slot
-invariant-loop-slot l = l.partials.items ≡ map empty_partial (map (λ s. s.op) (take l.slot-index l.slots))

@@ -1,5 +1,0 @@
-use Rattle.std.proofs.Common.{◌≡◌, take, map}
-use Rattle.plain_run.proofs.slots.values_of.Given as goal
-
-abbrev pub invariant-loop-partial : goal.invariant-loop-partial
-invariant-loop-partial l = l.values.items ≡ map (λ p. p.value) (take l.partial-index l.partial-items)
