@@ -1,7 +1,7 @@
 -- The neighbours that lie with the machines of the first steps.
 use Rattle.std.proofs.Common.{◌≡◌, ◌≢◌, ℕ, zero, suc, ◌+◌, ◌-◌, ◌<◌, ◌≤◌, Bool, true, false, ◌||◌, List, [], ◌∷◌, ◌++◌, refl, ap, sym, ◌∙◌, arith, ⊎_elim, subst, append-nil, slice_index}
 use Rattle.std.specs.List.{filter}
-use Rattle.std.proofs.lemmas.Bool.{or_left, or_right, cases_Bool, cases_lt}
+use Rattle.std.proofs.lemmas.Bool.{or_left, or_right, cases_Bool, cases_lt, or_from}
 use Rattle.std.proofs.lemmas.List.Elements.{filter-append}
 use Rattle.vert_base.specs.declared.graph.Edge.{Edge}
 use Rattle.vert_base.specs.Neighbours.{source, ins_of, neighbours_of}
@@ -11,10 +11,6 @@ use Rattle.circulant_plan.specs.Laws.{ReadsEarlyOnes}
 use Rattle.circulant_plan.proofs.SpanLaws.{rises_far}
 use Rattle.circulant_plan.proofs.CircleLaws.{order_once}
 use Rattle.circulant_plan.proofs.ReadingLaws.{bound, lies_is, lies_above, lies_below, order_within, end_is, start_is, bound_rises, by_parts}
-
-both_false : (a b : Bool) → a ≡ false → b ≡ false → (a || b) ≡ false
-both_false true b e f = absurd (grind arith)
-both_false false b e f = f
 
 -- a test that follows from another one keeps what that kept
 filter_kept : {X : Type 0} (q r : X → Bool) (xs : List X) → ((x : X) → r x ≡ true → q x ≡ true) →
@@ -81,7 +77,7 @@ module _ (n p : ℕ) (ends : List ℕ) (are : AreEndsUpTo n p ends) (d : ℕ) (o
       lies_early ends p d count v ≡ false
   late_is zero s v le lt here = refl
   late_is (suc count) s v le lt here =
-      both_false (lies_early ends p d count v) (lies_in ends (order_of d count p) v)
+      or_from (lies_early ends p d count v) (lies_in ends (order_of d count p) v)
       (late_is count s v (omega arith) lt here)
       (apart (order_of d s p) (order_of d count p) v
       (λ same. let once = order_once p d s count own lt (omega arith) same in absurd (omega arith))

@@ -5,13 +5,13 @@ use Rattle.std.proofs.lemmas.Bool.{cases_Bool}
 use Rattle.chunk_split.specs.Chunks.{AreEnds, Holds}
 use Rattle.circulant_plan.specs.Ring.{lies_in}
 use Rattle.vert_base.specs.Ends.{start_of}
-use Rattle.symple_face.proofs.ChunkLaws.{lies_is, one_chunk, same_start}
+use Rattle.symple_face.proofs.ChunkLaws.{lies_is, one_chunk}
 
 pub owner_lies : (ends : List ℕ) (v m : ℕ) → Holds ends v m → lies_in ends m v ≡ true
 owner_lies ends v m holds =
     let low = holds.1 in
     let high = holds.2 in
-    lies_is (start_of ends m) (slice_index ends m) v (omega (arith, same_start ends m)) high
+    lies_is (start_of ends m) (slice_index ends m) v (omega arith) high
 
 pub others_not : (most : ℕ) (ends : List ℕ) (v m k : ℕ) → AreEnds most ends → Holds ends v m → k < length ends → k ≢ m → lies_in ends k v ≡ false
 others_not most ends v m k are holds lt ne =

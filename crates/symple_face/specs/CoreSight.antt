@@ -9,7 +9,8 @@ use Rattle.vert_tree.specs.declared.program.Program.{Program}
 use Rattle.vert_eval.specs.Rounds.{empty_row, no_values, row_at, slot_ops}
 use Rattle.chunk_split.specs.Chunks.{vertices_of}
 use Rattle.circulant_plan.specs.Names.{refresh_name, verdict_name}
-use Rattle.circulant_plan.specs.Ring.{lies_in, start_of}
+use Rattle.circulant_plan.specs.Ring.{lies_in}
+use Rattle.vert_base.specs.Ends.{start_of}
 use Rattle.instrument.specs.declared.split.Split.{Split}
 use Rattle.body_shape.specs.Refresh.{PlainRow, rows_read}
 use Rattle.body_shape.specs.Verdict.{judged_read}

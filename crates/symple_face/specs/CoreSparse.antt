@@ -23,7 +23,7 @@ use Rattle.instrument.specs.declared.split.Split.{Split}
 use Rattle.body_shape.specs.Push.{sends_read}
 use Rattle.symple_face.specs.CoreSight.{beside, held_body, known, none, own_sight, own_start, program_of}
 use Rattle.symple_face.specs.CoreTakes.{emptied, noted}
-use Rattle.symple_face.specs.Shapes.{sends_in}
+use Rattle.vert_tree.specs.Places.{sends_in}
 use Rattle.symple_face.specs.Sight.{Sight, seen_env}
 use Rattle.symple_face.specs.State.{State, machine, p_of}
 

@@ -8,7 +8,7 @@ use Rattle.std.specs.Str.{bytes_eq}
 use Rattle.std.specs.Cmp.Lexicographic.{bytes_decides}
 use Rattle.std.specs.declared.alloc.Global.{Global}
 use Rattle.std.specs.declared.string.String.{String}
-use Rattle.std.proofs.lemmas.Bool.{and_parts}
+use Rattle.std.proofs.lemmas.Bool.{and_parts, and_from}
 use Rattle.std.proofs.lemmas.List.{length-set, map-append, take_all, take_more, take_more_set}
 use Rattle.std.proofs.lemmas.List.Quantifiers.{position-Some}
 use Rattle.std.proofs.lemmas.Option.{slice_get-get_or}
@@ -43,11 +43,6 @@ found_text (x ∷ xs) text place e =
 pub not_lost : (used : Names) (text : List ℕ) (place : Option ℕ) → is_entered used text ≡ true → is_some place ≡ is_entered used text → place ≡ None → ⊥
 not_lost used text place h found none = let e : is_some place ≡ false = ap is_some none in absurd cc
 
--- ---- lists
-pub both_true : (a b : Bool) → a ≡ true → b ≡ true → (a && b) ≡ true
-both_true true b p q = q
-both_true false b p q = p
-
 module _ {X : Type 0} (p : X → Bool) where
   pub all_at : (xs : List X) (i : ℕ) (d : X) → i < length xs → list_all p xs ≡ true → p (get_or xs i d) ≡ true
   all_at [] i d lt h = absurd (omega arith)
@@ -57,7 +52,7 @@ module _ {X : Type 0} (p : X → Bool) where
   pub all_with : (xs : List X) (i : ℕ) (x : X) → i < length xs → list_all p (take i xs) ≡ true → p x ≡ true → list_all p (take (i + 1) (set xs i x)) ≡ true
   all_with xs i x lt before here =
       ap (list_all p) (take_more_set xs i x lt) ∙ list_all-append p (take i xs) (x ∷ [])
-      ∙ both_true (list_all p (take i xs)) (p x && true) before (both_true (p x) true here refl)
+      ∙ and_from (list_all p (take i xs)) (p x && true) before (and_from (p x) true here refl)
 
   pub all_whole : (xs : List X) (i : ℕ) → length xs ≤ i → list_all p (take i xs) ≡ true → list_all p xs ≡ true
   all_whole xs i le h = ap (list_all p) (sym (take_all i xs le)) ∙ h
@@ -106,10 +101,10 @@ module _ (p : Ident → Bool) where
       stmt_all p (statements.If s test held otherwise) ≡ true
   if_all s test held None tests helds others =
       ap (stmt_all p) (sym (rolls-If s test held None)) ∙ fold-roll-Stmt Bool (level_all p) (level.If s test held None)
-      ∙ both_true _ _ tests (both_true _ _ (list_all-map (λ b. b) (stmt_all p) held.items ∙ helds) refl)
+      ∙ and_from _ _ tests (and_from _ _ (list_all-map (λ b. b) (stmt_all p) held.items ∙ helds) refl)
   if_all s test held (Some otherwise) tests helds others =
       ap (stmt_all p) (sym (rolls-If s test held (Some otherwise))) ∙ fold-roll-Stmt Bool (level_all p) (level.If s test held (Some otherwise))
-      ∙ both_true _ _ tests (both_true _ _ (list_all-map (λ b. b) (stmt_all p) held.items ∙ helds) (list_all-map (λ b. b) (stmt_all p) otherwise.items ∙ others))
+      ∙ and_from _ _ tests (and_from _ _ (list_all-map (λ b. b) (stmt_all p) held.items ∙ helds) (list_all-map (λ b. b) (stmt_all p) otherwise.items ∙ others))
 
 -- ---- programs
 last_three : (a b c d e f g h : Bool) → (a && (b && (c && (d && (e && (f && (g && h))))))) ≡ true → (f ≡ true) × ((g ≡ true) × (h ≡ true))
