@@ -4,3 +4,10 @@ pub mod Apart
 pub mod ParsedLaws
 pub mod ReaderLaws
 pub mod AcceptLaws
+pub mod Made
+pub mod MadeLaws
+pub mod MadePrograms
+pub mod SpelledNames
+pub mod Strings
+pub mod PlainTokens
+pub mod SaidLaws

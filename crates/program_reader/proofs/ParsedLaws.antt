@@ -16,7 +16,7 @@ use Rattle.vert_grammar.specs.Grammar.{AreShallow, Each, Given, InTwo, IsShallow
 use Rattle.vert_grammar.specs.Signs.{is_fold}
 use Rattle.vert_parse.specs.Parsing.{IsNamed}
 use Rattle.vert_parse.specs.Names.{program_names}
-use Rattle.vert_types.specs.Parsed.{IsParsed, are_shallow, are_totals, is_counted, is_of_version, is_shallow_block, is_shallow_dense, is_shallow_program, is_shallow_sparse, is_shallow_tree}
+use Rattle.vert_types.specs.Parsed.{IsParsed, are_shallow, is_counted, is_of_version, is_shallow_block, is_shallow_dense, is_shallow_program, is_shallow_sparse, is_shallow_tree}
 use Rattle.program_reader.proofs.Apart.{apart}
 use Rattle.program_reader.proofs.NameLaws.{program_gives}
 
@@ -48,7 +48,7 @@ dense_is d k = both _ _ (tree_is d.test k.test) (both _ _ (declarations_are d.le
 sparse_is : (d : SparseBlock) → IsShallowSparse 64 d → is_shallow_sparse d ≡ true
 sparse_is d k = both _ _ (tree_is d.test k.test) (both _ _ (declarations_are d.sends k.sends) (block_is d.body k.body))
 
-shallow_is : (t : ProgramTree) → IsShallow 64 t → is_shallow_program t ≡ true
+pub shallow_is : (t : ProgramTree) → IsShallow 64 t → is_shallow_program t ≡ true
 shallow_is t h =
     both _ _ (declarations_are t.fields h.fields)
     (both _ _ (all_of (λ (d : TotalDeclaration). depth d.value ≤ 64) (λ d. is_shallow_tree d.value) t.totals (λ d. tree_is d.value) h.totals)
@@ -58,7 +58,7 @@ shallow_is t h =
     (both _ _ (block_is t.update h.update) (given_of (λ test. depth test ≤ 64) is_shallow_tree t.stop tree_is h.stop))))))
 
 -- ---- counts
-counted_is : (t : ProgramTree) → IsSmall limits t → is_counted t ≡ true
+pub counted_is : (t : ProgramTree) → IsSmall limits t → is_counted t ≡ true
 counted_is t h =
     both _ _ (le-leb (length t.fields) 16 h.fields)
     (both _ _ (le-leb (length t.slots) 8 h.slots)
@@ -83,7 +83,7 @@ one_of : (one two : Bool) → (one || two) ≡ true → two ≡ false → one �
 one_of true two h e = refl
 one_of false two h e = cc
 
-version_is : (t : ProgramTree) (u : List Placed) → ReadsProgram t u → is_of_version t ≡ true
+pub version_is : (t : ProgramTree) (u : List Placed) → ReadsProgram t u → is_of_version t ≡ true
 version_is t u h =
     let blocks = h.second.second.second in
     let declared = h.second.first in
@@ -98,7 +98,7 @@ fold_is combine.Max h = refl
 fold_is combine.Sum h = refl
 fold_is combine.First h = h
 
-totals_are : (version : ℕ) (ts : List TotalDeclaration) (u : List Placed) → Each (λ d. InTwo version (ReadsTotal d)) ts u → list_all (λ t. is_total_op t.op) ts ≡ true
+pub totals_are : (version : ℕ) (ts : List TotalDeclaration) (u : List Placed) → Each (λ d. InTwo version (ReadsTotal d)) ts u → list_all (λ t. is_total_op t.op) ts ≡ true
 totals_are version [] u h = refl
 totals_are version (t ∷ ts) u h = both (is_total_op t.op) (list_all (λ t. is_total_op t.op) ts) (fold_is t.op h.first.1.0) (totals_are version ts h.back h.second)
 

@@ -30,6 +30,10 @@ SaysNoneRefused text = (a : Refusal) (p : Program) → Refuses text a → Says t
 abbrev pub SaidIsAccepted : List ℕ → Type 0
 SaidIsAccepted text = (p : Program) → Says text p → IsAccepted text
 
+-- Each accepted text is said by a program.
+abbrev pub IsSaid : List ℕ → Type 0
+IsSaid text = IsAccepted text → (p : Program) × Says text p
+
 -- An accepted text is refused by nothing.
 abbrev pub AcceptedIsUnrefused : List ℕ → Type 0
 AcceptedIsUnrefused text = (a : Refusal) → IsAccepted text → Refuses text a → ⊥

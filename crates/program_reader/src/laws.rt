@@ -1,5 +1,5 @@
 ghost use Rattle.std.specs.Prelude.{ℕ, List};
-ghost use Rattle.program_reader.specs.Laws.{AcceptedIsUnrefused, HasOneRefusal, IsDecided, SaidIsAccepted, SaysNoneRefused, SaysOneTree};
+ghost use Rattle.program_reader.specs.Laws.{AcceptedIsUnrefused, HasOneRefusal, IsDecided, IsSaid, SaidIsAccepted, SaysNoneRefused, SaysOneTree};
 
 /// The laws of what texts say, which its clauses say. It does nothing.
 pub fn accepted_once()
@@ -7,6 +7,7 @@ pub fn accepted_once()
     ensures refusal { (text : List ℕ) → HasOneRefusal text }
     ensures never_both { (text : List ℕ) → SaysNoneRefused text }
     ensures said { (text : List ℕ) → SaidIsAccepted text }
+    ensures accepted { (text : List ℕ) → IsSaid text }
     ensures unrefused { (text : List ℕ) → AcceptedIsUnrefused text }
     ensures decided { (text : List ℕ) → IsDecided text }
 {}

@@ -1,3 +1,4 @@
+use Rattle.program_reader.proofs.SaidLaws.{is_said}
 use Rattle.program_reader.proofs.AcceptLaws.{accepted_is_unrefused, has_one_refusal, is_decided, said_is_accepted, says_none_refused, says_one_tree}
 use Rattle.program_reader.proofs.laws.accepted_once.Goals as goal
 
@@ -18,3 +19,6 @@ returns-clause-said c = said_is_accepted
 
 pub returns-clause-unrefused : goal.returns-clause-unrefused
 returns-clause-unrefused c = accepted_is_unrefused
+
+pub returns-clause-accepted : goal.returns-clause-accepted
+returns-clause-accepted c = is_said
