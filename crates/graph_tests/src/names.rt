@@ -57,7 +57,8 @@ verdict 0 1 | Verdict 7 0.0 0>1
 verdict 7 0 1 | none
 dep 0 1 | none";
 
-fn name_told(alloc: Global, name: Option<Name>) -> Result<String, AllocError> {
+/// A name as kind, round, step and half, and from which machine to which.
+pub(crate) fn name_told(alloc: Global, name: Option<Name>) -> Result<String, AllocError> {
     match name {
         Some(
             Name {

@@ -1,20 +1,21 @@
 //! Parts of machines: what they hold, the forms of their messages, and the messages that they take.
 
 use super::bytes::bytes_of;
-use super::names::name_at;
+use super::names::{name_at, name_told};
 use super::tables::table_at;
 use chunk_split::cuts_of;
 use dep_message::{decode, encode};
 use instrument::{Split, split_of};
 use mirror_table::{degrees_ascend, edges_once, parts, shapes_agree};
 use program_reader::read_program;
-use sample_programs::Cells;
+use sample_programs::{BFS, Cells};
 use std::alloc::{AllocError, Global};
 use std::process::Abort;
 use std::rc::Rc;
 use std::test::Fail;
 use symple_face::{Part, planned_by_table};
 use vert_base::{Edge, VertexId};
+use vert_tree::print_program;
 
 /// A program of both modes: an int and a bool as fields, a carried bool and a reduced int as lets, a break,
 /// a bool that is sent, one slot and one total.
@@ -87,10 +88,10 @@ verdict | 100 | 0 | 0 | 0 | 1 | Some(Verdict { dense: true, sparse: true, totals
 verdict | 101 | 0 | 0 | 0 | 1 | Some(Verdict { dense: false, sparse: false, totals: 1 })
 verdict | 102 | 0 | 0 | 0 | 1 | None";
 
-/// Bytes, and what they are at both machines: a message that is written again so, or a fault.
+/// Bytes, and what they are at both machines: a message of this name that is written again so, or a fault.
 static TAKEN: &str = "\
-0201000000000000010100000002 | message
-0201000000000100010100000001 | message
+0201000000000000010100000002 | Dep 1 0.0 0>1
+0201000000000100010100000001 | Dep 1 0.1 0>1
 02010000000000000101000000 | Short
 0701000000000000010100000002 | Kind
 02c8000000000000010100000002 | NotPlanned
@@ -99,18 +100,27 @@ static TAKEN: &str = "\
 070100000000000001010000000200 | Short
 00c8000000000000010100000003 | Kind
 0201000000010000010100000002 | NotPlanned
-0201000000000001000100000002 | message
+0201000000000001000100000002 | Dep 1 0.0 1>0
 0201000000000000000100000002 | NotPlanned
 0501000000010001000100000002 | NotPlanned
 020100000000000001020000000200 | Body
 0500000000000001001800000000000000000000000000000000000000000000000000000000 | Short
-05000000000000010018000000010000000000000001000000000000000000000000000000 | message
+05000000000000010018000000010000000000000001000000000000000000000000000000 | Tally 0 0.0 1>0
 05000000000000010018000000010000000100000001000000000000000000000000000000 | Body
-0601000000000000010100000001 | message
+0601000000000000010100000001 | Verdict 1 0.0 0>1
 0601000000000000010100000002 | Body
-0665000000000000010100000000 | message
+0665000000000000010100000000 | Verdict 101 0.0 0>1
 0665000000000000010100000001 | Body
 04010000000000000100000000 | NotPlanned";
+
+/// The same of breadth-first search, whose loop hands a break on.
+static BFS_TAKEN: &str = "\
+0201000000000000010100000002 | Dep 1 0.0 0>1
+0201000000000100010100000001 | Dep 1 0.1 0>1
+02010000000000000101000000 | Short
+0701000000000000010100000002 | Kind
+02c8000000000000010100000002 | NotPlanned
+0201000000000000010100000003 | Body";
 
 fn split_from(alloc: Global, program: &str) -> Result<Rc<Split>, Fail> {
     match read_program(alloc, program.as_bytes()) {
@@ -238,23 +248,41 @@ fn taken(rt: &impl Abort, alloc: Global, bytes: &[u8], part: &Part) -> Result<St
             assert!(rt; msg.body.len() < 100);
             let again = encode(alloc, &msg).map_err(|_| "no memory")?;
             assert_eq!(rt; again.as_slice(), bytes);
-            Ok(String::from_str(alloc, "message")?)
+            Ok(name_told(alloc, Some(msg.name))?)
         }
         Err(fault) => Ok(format!(in alloc; "{fault:?}")?),
     }
+}
+
+/// The bytes of each line are what it says, at each of the parts.
+fn check_taken(rt: &impl Abort, alloc: Global, parts: &[Part], lines: &str) -> Result<(), Fail> {
+    for line in lines.lines() {
+        let mut cells = Cells::new(line);
+        let bytes = bytes_of(alloc, cells.text())?;
+        let wanted = cells.text();
+        for part in parts {
+            assert_eq!(rt; taken(rt, alloc, &bytes, part)?.as_str(), wanted, "{line}");
+        }
+    }
+    Ok(())
+}
+
+/// The text of a program, printed as it was read.
+fn printed(alloc: Global, program: &str) -> Result<String, Fail> {
+    let typed = read_program(alloc, program.as_bytes()).map_err(|_| "no program")?;
+    Ok(print_program(alloc, &typed.program).map_err(|_| "no memory")?)
 }
 
 #[test]
 fn messages_at_both_ends(rt: HostRuntime) -> Result<(), Fail> {
     let alloc = rt.alloc();
     let parts = parts_of(&rt, alloc, BREAK_ALONE, DIAMOND, 2)?;
-    for line in TAKEN.lines() {
-        let mut cells = Cells::new(line);
-        let bytes = bytes_of(alloc, cells.text())?;
-        let wanted = cells.text();
-        for part in &parts {
-            assert_eq!(rt; taken(&rt, alloc, &bytes, part)?.as_str(), wanted, "{line}");
-        }
+    check_taken(&rt, alloc, &parts, TAKEN)?;
+    let again = printed(alloc, BFS)?;
+    for program in [BFS, again.as_str()] {
+        let parts = parts_of(&rt, alloc, program, DIAMOND, 2)?;
+        check_parts(&rt, alloc, &parts, TWO)?;
+        check_taken(&rt, alloc, &parts, BFS_TAKEN)?;
     }
     Ok(())
 }
