@@ -12,3 +12,13 @@ pub mod Sight
 pub mod Cluster
 pub mod Source
 pub mod Ideal
+pub mod CoreSight
+pub mod CoreTakes
+pub mod CoreDense
+pub mod CoreClose
+pub mod CoreSparse
+pub mod CoreJudge
+pub mod CoreFirst
+pub mod CoreWork
+pub mod Lawful
+pub mod Restarts

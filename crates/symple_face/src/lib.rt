@@ -13,6 +13,7 @@ mod part;
 mod plans;
 mod report;
 mod shape;
+mod site;
 mod start;
 mod words;
 
@@ -29,4 +30,5 @@ pub use outside::{
 };
 pub use part::Part;
 pub use report::Report;
+pub use site::{Restart, Site};
 pub use start::Start;
