@@ -1,2 +1,10 @@
 pub mod Letters
 pub mod Tables
+pub mod Sites
+pub mod Onward
+pub mod Worlds
+pub mod PartsAt
+pub mod GoWorlds
+pub mod TakeWorlds
+pub mod FirstWorlds
+pub mod ReachedWorlds
