@@ -14,6 +14,7 @@ pub mod Source
 pub mod Ideal
 pub mod CoreSight
 pub mod CoreTakes
+pub mod CoreScan
 pub mod CoreDense
 pub mod CoreClose
 pub mod CoreSparse
