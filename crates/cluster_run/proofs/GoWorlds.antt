@@ -42,7 +42,8 @@ use Rattle.symple_face.specs.Plans.{blocks_of, ring_of}
 use Rattle.symple_face.specs.Shapes.{shape_of}
 use Rattle.symple_face.specs.State.{State, action_of, machine, p_of, ruling_read}
 use Rattle.symple_face.specs.Work.{Work}
-use Rattle.cluster_run.proofs.Letters.{AreNew, and_true, all_placed_ascends, all_placed_is, all_placed_length, are_new, has_all_placed, has_letter, name_append, names_of, not_from, once_from_each, test_cases}
+use Rattle.cluster_run.specs.Sends.{AreNew}
+use Rattle.cluster_run.proofs.Letters.{and_true, all_placed_ascends, all_placed_is, all_placed_length, are_new, has_all_placed, has_letter, name_append, names_of, not_from, once_from_each, test_cases}
 use Rattle.cluster_run.proofs.Onward.{IsOnward, begins, ends, onward, stays}
 use Rattle.cluster_run.proofs.PartsAt.{fits_along}
 use Rattle.cluster_run.proofs.Sites.{IsOneOf, same, other, map_set, set_cases, set_length}

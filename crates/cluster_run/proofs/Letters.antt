@@ -15,6 +15,7 @@ use Rattle.skeleton_laws.proofs.NamesInOrder.{has_ordered, has_ordered_cases, na
 use Rattle.skeleton_laws.proofs.LeastLaws.{rising_are_one}
 use Rattle.circulant_plan.specs.Choosing.{names_in_order}
 use Rattle.symple_face.specs.Cluster.{all_placed}
+use Rattle.cluster_run.specs.Sends.{AreNew}
 
 -- two tests that hold together are one
 pub same_test : (a b : Bool) → (a ≡ true → b ≡ true) → (b ≡ true → a ≡ true) → a ≡ b
@@ -68,11 +69,6 @@ has_all_placed x (l ∷ ls) ms =
     has_all_placed x ls (placed l ms)
     ∙ ap (λ b. has_name x (names_of ls) || b) (has_placed x l ms)
     ∙ none_or (same_name x l.name) (has_name x (names_of ls)) (has_letter x ms)
-
--- each of the letters has a name that isn't there yet
-abbrev pub AreNew : List Letter → List Letter → Type 0
-AreNew [] ms = Unit {0}
-AreNew (l ∷ ls) ms = (found l.name ms ≡ None) × AreNew ls (placed l ms)
 
 none_found : (o : Option Letter) → is_some o ≡ false → o ≡ None
 none_found None e = refl

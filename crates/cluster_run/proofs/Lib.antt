@@ -8,3 +8,5 @@ pub mod GoWorlds
 pub mod TakeWorlds
 pub mod FirstWorlds
 pub mod ReachedWorlds
+pub mod Results
+pub mod Moves

@@ -31,7 +31,8 @@ use Rattle.cluster_run.specs.Driven.{IsFirst, IsRestarted}
 use Rattle.cluster_run.specs.Driven as driven
 use Rattle.cluster_run.proofs.FirstWorlds.{first_tied, restarted_tied}
 use Rattle.cluster_run.proofs.GoWorlds as go
-use Rattle.cluster_run.proofs.Letters.{AreNew, and_true, has_letter}
+use Rattle.cluster_run.specs.Sends.{AreNew}
+use Rattle.cluster_run.proofs.Letters.{and_true, has_letter}
 use Rattle.cluster_run.proofs.PartsAt.{parts_few, parts_some}
 use Rattle.cluster_run.proofs.Sites.{map_get_back}
 use Rattle.cluster_run.proofs.TakeWorlds as take
