@@ -112,12 +112,16 @@ ruled_letter judged l rules = ap ruling_read rules.1 ∙ ruling_back judged
 module _ (work : Work) (sound : State → Type 0) (lawful : IsLawful work sound) (split : Split) (parts : List PlainPart) (few : length parts ≤ 64) (one : IsOneRun parts) (w : World) (k : Skeleton) (tied : IsSkeletonOf sound split parts w k) (reached : IsReached (ring_of split (length parts)) (blocks_of split) k) (m : ℕ) (s : State) (here : slice_get w.sites m ≡ Some s) (ready : can_act (Some s) ≡ true) where
   abbrev pub ring : Ring
   ring = ring_of split (length parts)
+
   abbrev pub blocks : Blocks
   blocks = blocks_of split
+
   abbrev pub judged : Ruling
   judged = work.judge s
+
   abbrev pub known : Ruling
   known = ruling_in k.rulings s.at.round
+
   abbrev pub by : Ruling
   by = acting_ruling judged known s.at.spot
 
@@ -255,13 +259,16 @@ module _ (work : Work) (sound : State → Type 0) (lawful : IsLawful work sound)
           ∙ sym (ruling_here k.rulings judged (r + 1))
           ∙ sym (ap (λ spot. ruling_in (rulings_after judged spot k.rulings) (r + 1)) at)
           ∙ ap (ruling_in next.rulings) (sym (ap (λ (t : Standing). t.round) next_is ∙ judge_round ring m by s.at r at))
+
       new_round : is_begin (work.go s).at.spot ≡ true → Knows m (work.go s) → (work.go s).ruling ≡ ruling_in next.rulings (work.go s).at.round
       new_round b (inr told) = absurd (false≢true (sym (drops (verdict_name (work.go s).at.round m) b) ∙ told))
       new_round b (inl first) = let j = zero_begins ring m by s.at.spot first.0 (by_next (λ t. is_begin t.spot ≡ true) b) in judge_rules j.0 j.1
+
       knew : is_begin (work.go s).at.spot ≡ false → (work.go s).at.round ≡ s.at.round → Knows m (work.go s) → Knows m s
       knew b round (inl first) = inl (first.0, let l = first.1 in omega arith)
       knew b round (inr told) =
           inr (subst (λ r. has_letter (verdict_name r m) s.held ≡ true) round (sym (holds_on (verdict_name (work.go s).at.round m) b) ∙ told))
+
       same_round : is_begin (work.go s).at.spot ≡ false → (work.go s).at.round ≡ s.at.round → Knows m (work.go s) → (work.go s).ruling ≡ ruling_in next.rulings (work.go s).at.round
       same_round b round knows =
           let by_it = stays_by ring m by judged s.ruling s.at.spot k.rulings (by_next (λ t. is_over t.spot ≡ false) on) (by_next (λ t. is_begin t.spot ≡ false) b) in

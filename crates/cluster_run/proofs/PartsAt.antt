@@ -48,10 +48,11 @@ pub fits_along : (split : Split) (parts : List PlainPart) (one : IsOneRun parts)
     (shape : BodyShape) × (shape_of split to l.name ≡ Some shape) × (is_fit shape l.body ≡ true)
 fits_along split parts one l from to at_from at_to shape has fits =
     let f = part_at parts one l.name.from from at_from in
-    let t = part_at parts one l.name.to to at_to in
-    (shape,
+    let t = part_at parts one l.name.to to at_to in (
+      shape,
       ap (λ part. shape_of split part l.name) t.0
-      ∙ sym (shapes_agree split one.ends one.draws one.edges l.name f.1 t.1)
-      ∙ sym (ap (λ part. shape_of split part l.name) f.0)
-      ∙ has,
-      fits)
+          ∙ sym (shapes_agree split one.ends one.draws one.edges l.name f.1 t.1)
+          ∙ sym (ap (λ part. shape_of split part l.name) f.0)
+          ∙ has,
+      fits,
+    )

@@ -50,6 +50,7 @@ no_act o none can = absurd (false≢true (ap can_act (sym none) ∙ can))
 module _ (work : Work) (sound : State → Type 0) (lawful : IsLawful work sound) (split : Split) (parts : List PlainPart) (one : IsOneRun parts) where
   abbrev ring : Ring
   ring = ring_of split (length parts)
+
   abbrev blocks : Blocks
   blocks = blocks_of split
 

@@ -16,7 +16,7 @@ use Rattle.circulant_plan.specs.Remaining.{way_left}
 use Rattle.circulant_plan.specs.Remaining as bound
 use Rattle.circulant_plan.specs.Skeleton.{Skeleton, Blocks, can_go, has_name, is_finished, is_over, is_possible, is_ready, rules_rightly, step_of}
 use Rattle.circulant_plan.specs.Standing.{Standing}
-use Rattle.skeleton_laws.proofs.OrderLaws.{events_come_nearer, few_are_under_way, finished_is_still, some_event_moves}
+use Rattle.skeleton_laws.proofs.OrderLaws.{events_come_nearer, few_are_under_way, finished_is_empty, finished_is_still, some_event_moves}
 use Rattle.instrument.specs.declared.split.Split.{Split}
 use Rattle.symple_face.specs.Cluster.{IsOneRun, World, after, all_placed, all_possible, can_act, events_left, finished, possible, step, ways_left}
 use Rattle.symple_face.specs.Cluster as cluster
@@ -88,6 +88,7 @@ ways_alike split (s ∷ ss) each =
 module _ (work : Work) (sound : State → Type 0) (lawful : IsLawful work sound) (split : Split) (parts : List PlainPart) (one : IsOneRun parts) (w : World) (t : IsTied sound split parts w) where
   abbrev ring : Ring
   ring = ring_of split (length parts)
+
   abbrev blocks : Blocks
   blocks = blocks_of split
 
@@ -140,6 +141,16 @@ module _ (work : Work) (sound : State → Type 0) (lawful : IsLawful work sound)
       (subst (λ (q : Standing). could_act ring m (Some q) t.k.taken ≡ true) (sym it.2) st.2)
   moves_by (Take x) can = t.alike.flies x ∙ can
 
+  -- and nothing is under way
+  pub empty : finished w ≡ true → w.under_way ≡ []
+  empty over =
+      none_left w.under_way
+      (t.alike.as_many ∙ ap length (finished_is_empty ring blocks t.k t.reached (sym finished_alike ∙ over)))
+    where
+      none_left : (ms : List Letter) → length ms ≡ 0 → ms ≡ []
+      none_left [] e = refl
+      none_left (m ∷ ms) e = absurd (omega arith)
+
   -- in an unfinished world some event is possible
   pub moves : finished w ≡ false → (e : Event) × (possible w e ≡ true)
   moves on =
@@ -156,6 +167,9 @@ module _ (work : Work) (sound : State → Type 0) (lawful : IsLawful work sound)
   pub reached_still : (e : Event) → finished w ≡ true → possible w e ≡ false
   reached_still e over = still work sound lawful r.split r.parts r.one_run w tied e over
 
+  pub reached_empty : finished w ≡ true → w.under_way ≡ []
+  reached_empty over = empty work sound lawful r.split r.parts r.one_run w tied over
+
   pub reached_moves : finished w ≡ false → (e : Event) × (possible w e ≡ true)
   reached_moves on = moves work sound lawful r.split r.parts r.one_run w tied on
 
@@ -164,10 +178,11 @@ module _ (work : Work) (sound : State → Type 0) (lawful : IsLawful work sound)
 
   -- the receiver of a message under way can take it
   pub reached_takes : (x : Name) (l : Letter) → found x w.under_way ≡ Some l → (s : State) × (slice_get w.sites l.name.to ≡ Some s) × IsTakeable s l
-  reached_takes x l there =
-      (take.s work sound lawful r.split r.parts most r.one_run w tied.k tied.alike tied.reached x l there,
-      take.at_receiver work sound lawful r.split r.parts most r.one_run w tied.k tied.alike tied.reached x l there,
-      take.takeable work sound lawful r.split r.parts most r.one_run w tied.k tied.alike tied.reached x l there)
+  reached_takes x l there = (
+    take.s work sound lawful r.split r.parts most r.one_run w tied.k tied.alike tied.reached x l there,
+    take.at_receiver work sound lawful r.split r.parts most r.one_run w tied.k tied.alike tied.reached x l there,
+    take.takeable work sound lawful r.split r.parts most r.one_run w tied.k tied.alike tied.reached x l there,
+  )
 
   -- what a ready machine sends can be put under way
   pub reached_sends : (m : ℕ) (s : State) → slice_get w.sites m ≡ Some s → can_act (Some s) ≡ true → CanSend (work.sent s) w.under_way

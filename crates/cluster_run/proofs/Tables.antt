@@ -118,7 +118,6 @@ acts_alike ring m judged known other (Scan r s h) same = record { gives = refl; 
 acts_alike ring m judged known other (Close r dense) same = record { gives = refl; next = refl }
 acts_alike ring m judged known other Over same = record { gives = refl; next = refl }
 
-
 -- ---- where machine 0 begins a round, it judged before
 zero_at : (r : ℕ) (b : Bool) → b ≡ true → is_begin (if b then Judge r else Begin (r + 1)) ≡ true → ⊥
 zero_at r true e begins = false≢true begins

@@ -89,6 +89,7 @@ no_letter taken b e = rw e refl
 module _ (work : Work) (sound : State → Type 0) (lawful : IsLawful work sound) (split : Split) (parts : List PlainPart) (few : length parts ≤ 64) (one : IsOneRun parts) (w : World) (k : Skeleton) (tied : IsSkeletonOf sound split parts w k) (reached : IsReached (ring_of split (length parts)) (blocks_of split) k) (x : Name) (l : Letter) (there : found x w.under_way ≡ Some l) where
   abbrev pub ring : Ring
   ring = ring_of split (length parts)
+
   abbrev pub blocks : Blocks
   blocks = blocks_of split
 

@@ -151,6 +151,7 @@ module _ (work : Work) (sound : State → Type 0) (lawful : IsLawful work sound)
       spot_round (Scan r step h) round e = refl
       spot_round (Close r dense) round e = refl
       spot_round Over round e = absurd (false≢true (sym e))
+
       and_truth : (b : Bool) → (b && true) ≡ b
       and_truth true = refl
       and_truth false = refl

@@ -1,3 +1,4 @@
 pub mod Driven
 pub mod Faults
+pub mod Laws
 pub mod Sends
