@@ -1,2 +1,10 @@
 //! Many machines of one kind, and one event at a time.
 #![tactic(auto)]
+
+mod acts;
+mod fault;
+mod laws;
+mod looks;
+
+pub use fault::{EventFault, Missing};
+pub use laws::worlds_are_in_order;
