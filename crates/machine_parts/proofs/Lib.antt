@@ -1,0 +1,3 @@
+pub mod FlatLaws
+pub mod MissingLaws
+pub mod SpanLaws

@@ -1,0 +1,4 @@
+pub mod Entering
+pub mod Flat
+pub mod Neighbours
+pub mod Spans

@@ -1,0 +1,19 @@
+-- What updates tell of own vertices.
+use Rattle.std.specs.Prelude.{ℕ, ℤ, ◌-◌, ◌++◌, List, [], Option, length, map, slice_index_or}
+use Rattle.std.specs.List.{range_with_len}
+use Rattle.slot_merge.specs.declared.partial.Partial.{Partial}
+use Rattle.body_shape.specs.Update.{Sent}
+use Rattle.symple_face.specs.CoreSight.{beside}
+use Rattle.symple_face.specs.CoreTakes.{with_sent}
+
+-- the words of a vertex: those for its slots, then those for the reduced lets
+abbrev pub told_values : Sent → List (Option ℤ)
+told_values sent = sent.values ++ sent.operands
+
+abbrev pub nothing : Sent
+nothing = record { values = []; operands = [] }
+
+-- the partials of the own vertices, which begin at a number, with what is told under a key of each of a list
+abbrev pub with_sents : ℕ → ℕ → List ℕ → List Sent → List (List Partial) → List (List Partial)
+with_sents start key vertices sents all =
+    map (λ v. with_sent key (beside nothing v vertices sents) (slice_index_or all (v - start) [])) (range_with_len start (length all))
