@@ -5,3 +5,17 @@ pub mod Plans
 pub mod Shapes
 pub mod PartViews
 pub mod Planned
+pub mod Ring
+pub mod State
+pub mod Work
+pub mod Sight
+pub mod CoreSight
+pub mod CoreTakes
+pub mod CoreDense
+pub mod CoreClose
+pub mod CoreSparse
+pub mod CoreJudge
+pub mod CoreFirst
+pub mod CoreWork
+pub mod Lawful
+pub mod Restarts
