@@ -1,3 +1,4 @@
 pub mod FlatLaws
 pub mod MissingLaws
 pub mod SpanLaws
+pub mod UpdateLaws

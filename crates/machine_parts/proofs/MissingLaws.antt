@@ -1,6 +1,6 @@
 -- The first message that is needed and not held.
 use Rattle.std.proofs.Common.{◌≡◌, ℕ, zero, suc, ◌+◌, ◌-◌, ◌*◌, ◌<◌, ◌≤◌, Bool, true, false, cond, Option, Some, None, List, [], ◌∷◌, ◌++◌, length, get_or, drop, map, refl, ap, sym, ◌∙◌, arith, ⊎_elim, length-append}
-use Rattle.std.specs.Prelude.{◌==◌, is_some, slice_get}
+use Rattle.std.specs.Prelude.{◌==◌, ◌&&◌, is_some, nat_lt, slice_get}
 use Rattle.std.specs.List.{flat_map, range_with_len}
 use Rattle.std.proofs.lemmas.List.{drop_all, drop_more}
 use Rattle.std.proofs.lemmas.Option.{get_or_from_slice_get, slice_get_within, slice_get-get_or}
@@ -10,8 +10,8 @@ use Rattle.vert_base.specs.Letters.{Letter, found}
 use Rattle.circulant_plan.specs.declared.spot.Ring.{Ring}
 use Rattle.circulant_plan.specs.declared.spot.Spot.{Spot}
 use Rattle.circulant_plan.specs.declared.spot.Spot.TheVariants.{Tell, Judge, Begin, Scan, Close, Over}
-use Rattle.circulant_plan.specs.Names.{push_name, tally_name, update_name, verdict_name}
-use Rattle.circulant_plan.specs.Ring.{order_of}
+use Rattle.circulant_plan.specs.Names.{dep_name, push_name, refresh_name, tally_name, update_name, verdict_name}
+use Rattle.circulant_plan.specs.Ring.{before_machine, chunk_of, order_of}
 use Rattle.circulant_plan.specs.Table.{name_if, needs_of, others_of}
 use Rattle.circulant_plan.proofs.CountLaws.{length-map_others}
 use Rattle.symple_face.specs.State.{first_missing}
@@ -36,7 +36,11 @@ needs_few ring m (Judge r) lt =
     (omega (arith, length-map_others (tally_name r) ring.machines 0 (omega arith))) (omega arith)
 needs_few ring m (Begin r) lt = few_either (m == 0) (2 * ring.machines) [] (verdict_name r m ∷ []) (omega arith) (omega arith)
 needs_few ring m (Scan r s h) lt =
-    omega (arith, length-append {A = Name} _ _, few_if _ _, few_if _ _)
+    let rows : Bool = nat_lt s (ring.machines - 1) in
+    let row : Name = refresh_name r (chunk_of m s ring.machines) m in
+    let state : Bool = ring.carry && nat_lt 0 s in
+    let dep : Name = dep_name r (s - 1) h (before_machine m ring.machines) m in
+    omega (arith, length-append (name_if rows row) (name_if state dep), few_if rows row, few_if state dep)
 needs_few ring m (Close r true) lt =
     omega (arith, two_each (λ s. update_name r s 0 (order_of m s ring.machines) m) (λ s. update_name r s 1 (order_of m s ring.machines) m) 0 (ring.machines - 1))
 needs_few ring m (Close r false) lt = omega (arith, length-map_others (λ k. push_name r k m) ring.machines m lt)

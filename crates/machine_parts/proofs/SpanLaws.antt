@@ -5,12 +5,13 @@ use Rattle.std.specs.List.{All, filter, list_any, prefix_len, range_with_len, sl
 use Rattle.std.specs.List.Sorted.{IsNonDecreasingBy}
 use Rattle.std.proofs.lemmas.Bool.{cases_lt, eq-eqb, eqb-true, ne_eqb, eqb-false}
 use Rattle.std.proofs.lemmas.List.{append-nil, get_or-drop, get_or-take, get_or_default, length-drop, length-take, map_push, take-append-drop, take_all}
-use Rattle.std.proofs.lemmas.List.Elements.{All-from_get_or, All-push, filter-append, recursion_from_All}
+use Rattle.std.proofs.lemmas.List.Elements.{All-from_get_or, All-from_recursion, All-get_or, All-push, filter-append, recursion_from_All}
 use Rattle.std.proofs.lemmas.List.Folds.{list_any-append, list_any_at, list_any_none}
-use Rattle.std.proofs.lemmas.List.Sums.{prefix_len-le-length, prefix_len_passes, prefix_len_stops, prefix_len-drop_yes}
+use Rattle.std.proofs.lemmas.List.Sums.{prefix_len-le-length, prefix_len_is, prefix_len_passes, prefix_len_stops, prefix_len-drop_yes}
 use Rattle.std.proofs.Math.Seq.{take-add}
 use Rattle.vert_base.specs.declared.graph.Edge.{Edge}
-use Rattle.vert_base.specs.Neighbours.{bucket}
+use Rattle.vert_base.specs.Neighbours.{bucket, in_order}
+use Rattle.vert_base.proofs.Orders.{Rises, in_order_below, in_order_rises}
 use Rattle.graph_table.proofs.FilterLaws.{all_range, all_weaker, filter_all, filter_none, filter_same}
 use Rattle.circulant_plan.proofs.SpanLaws.{range_split}
 use Rattle.symple_face.specs.Parts.{ends_met}
@@ -181,13 +182,16 @@ pub record IsSpanning (end : Edge → ℕ) (edges : List Edge) (start : ℕ) (sp
   pub vertices : (n : ℕ) → All (λ e. end e < n) edges → map vertex_of spans ≡ ends_met end n (take start edges)
   pub each : All (IsSpan end edges) spans
 
-pub spanning_none : (end : Edge → ℕ) (edges : List Edge) → IsSpanning end edges 0 []
-spanning_none end edges = record {
+none_yet : (end : Edge → ℕ) (edges : List Edge) → IsSpanning end edges 0 []
+none_yet end edges = record {
   within = omega arith;
   before = λ i j d lt le within. absurd (omega arith);
   vertices = λ n below. sym (filter_none (λ v. false) (range_with_len 0 n) (all_range (λ v. false ≡ false) 0 n (λ v low high. refl)));
   each = λ k d lt. absurd (omega arith);
 }
+
+pub spanning_none : (end : Edge → ℕ) (edges : List Edge) (spans : List Span) → spans ≡ [] → IsSpanning end edges 0 spans
+spanning_none end edges spans none = subst (IsSpanning end edges 0) (sym none) (none_yet end edges)
 
 pub spanning_more : (end : Edge → ℕ) (edges : List Edge) (start stop k : ℕ) (d : Edge) (spans more : List Span) (span : Span) →
     IsNonDecreasingBy end edges → start < length edges → k ≡ end (get_or edges start d) →
@@ -228,3 +232,43 @@ spanning_all end edges start n spans done below so_far = record {
   vertices = so_far.vertices n below ∙ ap (ends_met end n) (take_all start edges done);
   each = so_far.each;
 }
+
+-- the first edges of a list that have an end, where another one follows
+pub run_stops : (end : Edge → ℕ) (v : ℕ) (xs : List Edge) (n x : ℕ) (d : Edge) → n < length xs → x ≡ end (get_or xs n d) → (x ≡ v → ⊥) →
+    ((k : ℕ) (e : Edge) → k < n → end (get_or xs k e) ≡ v) → n ≡ prefix_len (λ e. end e == v) xs
+run_stops end v xs n x d lt is other same =
+    sym (prefix_len_is (λ e. end e == v) xs n d (omega arith)
+    (λ k low. eq-eqb (end (get_or xs k d)) v (same k d low))
+    (λ _. ne_eqb (end (get_or xs n d)) v (λ e. other (is ∙ e))))
+
+-- and where there are no more
+pub run_ends : (end : Edge → ℕ) (v n : ℕ) (xs : List Edge) → length xs ≤ n → ((k : ℕ) (e : Edge) → k < n → end (get_or xs k e) ≡ v) → length xs ≡ prefix_len (λ e. end e == v) xs
+run_ends end v n [] le same = refl
+run_ends end v n (x ∷ xs) le same =
+    sym (prefix_len_is (λ e. end e == v) (x ∷ xs) (length (x ∷ xs)) x (omega arith) (λ k low. eq-eqb (end (get_or (x ∷ xs) k x)) v (same k x (omega arith))) (λ lt. absurd (omega arith)))
+
+-- a run reaches at most to the end, and has the edge at its front
+pub run_fits : (end : Edge → ℕ) (edges rest : List Edge) (start count k : ℕ) (d : Edge) → start < length edges → k ≡ end (get_or edges start d) →
+    rest ≡ drop start edges → count ≡ prefix_len (λ e. end e == k) rest → (start + count ≤ length edges) × (0 < count)
+run_fits end edges rest start count k d inside is here run =
+    let same : Edge → Bool = λ e. end e == k in
+    let at : count ≡ prefix_len (λ e. end e == k) (drop start edges) = run ∙ ap (prefix_len same) here in
+    (
+      omega (arith, at, prefix_len-le-length same (drop start edges), length-drop start edges),
+      omega (arith, at, prefix_len-drop_yes same edges start d inside (eq-eqb _ _ (sym is))),
+    )
+
+rises_at : (end : Edge → ℕ) (xs : List Edge) → Rises end xs → (i j : ℕ) (d : Edge) → i ≤ j → j < length xs → end (get_or xs i d) ≤ end (get_or xs j d)
+rises_at end [] up i j d le lt = absurd (omega arith)
+rises_at end (x ∷ xs) up zero zero d le lt = omega arith
+rises_at end (x ∷ xs) up zero (suc j) d le lt = All-get_or (λ y. end x ≤ end y) xs j d (omega arith) (All-from_recursion (λ y. end x ≤ end y) xs up.0)
+rises_at end (x ∷ xs) up (suc i) zero d le lt = absurd (omega arith)
+rises_at end (x ∷ xs) up (suc i) (suc j) d le lt = rises_at end xs up.1 i j d (omega arith) (omega arith)
+
+-- a list that is in order
+pub ordered : (end : Edge → ℕ) (n : ℕ) (xs ys : List Edge) → ys ≡ in_order end n xs → IsNonDecreasingBy end ys
+ordered end n xs ys is = subst (IsNonDecreasingBy end) (sym is) (rises_at end (in_order end n xs) (in_order_rises end n xs))
+
+-- has only ends below the bound
+pub ordered_below : (end : Edge → ℕ) (n : ℕ) (xs ys : List Edge) → ys ≡ in_order end n xs → All (λ e. end e < n) ys
+ordered_below end n xs ys is = subst (All (λ e. end e < n)) (sym is) (All-from_recursion (λ e. end e < n) (in_order end n xs) (in_order_below end n xs))

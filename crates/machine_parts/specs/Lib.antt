@@ -1,4 +1,6 @@
 pub mod Entering
 pub mod Flat
+pub mod Judging
 pub mod Neighbours
 pub mod Spans
+pub mod Updates

@@ -1,5 +1,5 @@
 // The bodies of messages that need no code: rows of a refresh, counts of a tally, a verdict.
-ghost use Rattle.std.specs.Prelude.{◌≡◌, ◌≤◌, ◌<◌, ◌-◌, length, map, IfOk};
+ghost use Rattle.std.specs.Prelude.{◌≡◌, ◌≤◌, ◌<◌, ◌-◌, ◌^◌, length, map, IfOk};
 ghost use Rattle.std.specs.List.{All};
 ghost use Rattle.vert_eval.specs.Rounds.{row_at};
 ghost use Rattle.body_shape.specs.Refresh.{plain_row, refresh_body};

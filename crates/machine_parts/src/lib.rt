@@ -5,17 +5,22 @@
 mod bodies;
 mod environment;
 mod groups;
+mod judging;
 mod missing;
 mod part_feed;
+mod repeated;
 mod ring_half;
 mod rows;
 mod spans;
+mod updates;
 
 pub use bodies::{refresh_body, tally_body, verdict_body};
 pub use environment::{Setting, enter, new_env, read_row_of};
 pub use groups::Groups;
+pub use judging::rule;
 pub use missing::first_missing;
 pub use part_feed::PartFeed;
 pub use ring_half::RingHalf;
 pub use rows::Rows;
-pub use spans::{Span, spans_of, spans_within};
+pub use spans::{Span, spans_of};
+pub use updates::{SentWords, merge_update};

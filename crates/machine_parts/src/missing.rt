@@ -1,5 +1,5 @@
 // What a machine waits for.
-ghost use Rattle.std.specs.Prelude.{◌≡◌, ◌<◌};
+ghost use Rattle.std.specs.Prelude.{◌≡◌, ◌≤◌, ◌<◌};
 ghost use Rattle.circulant_plan.specs.Spots.{IsSpotOf};
 ghost use Rattle.circulant_plan.specs.Table.{needs_of};
 ghost use Rattle.symple_face.specs.State.{first_missing as missing_of};

@@ -6,6 +6,7 @@ ghost use Rattle.dep_layout.specs.Spelling.{spelled};
 ghost use Rattle.dep_layout.specs.States.{state_of, states_of};
 ghost use Rattle.machine_parts.specs.Flat.{fresh_state, state_at};
 
+use crate::repeated::repeated;
 use dep_layout::{DepState, Mark, Words, by_width, pack, unpack};
 use flat_table::Grid;
 use std::alloc::Global;
@@ -41,10 +42,7 @@ impl RingHalf {
             ≡ record { width = width; states = replicate count (fresh_state width) }) }
     {
         let words = Grid::filled(alloc, width, count, 0i64)?;
-        let mut marks = Vec::with_capacity(alloc, count)?;
-        'marks: for _ in 0..count {
-            marks.push(Mark::Fresh)?;
-        }
+        let marks = repeated(alloc, Mark::Fresh, count)?;
         Ok(RingHalf {
             width,
             marks,
@@ -76,11 +74,20 @@ impl RingHalf {
         by_width!(self.width, spell_half::<_>(alloc, self), else Err(Want))
     }
 
+    /// Of how many vertices there are states.
+    pub fn len(&self) -> usize
+        ensures { result ≡ length self.now.states }
+    {
+        self.marks.len()
+    }
+
     /// How far the loop of the vertex at a place has come.
     #[inline]
     pub fn mark(&self, place: usize) -> Mark
         requires { place < length self.now.states }
-        ensures { result ≡ (state_at self.now.states place).mark }
+        ensures mark { result ≡ (state_at self.now.states place).mark }
+        ensures still { result ≡ Mark.Fresh
+            → (state_at self.now.states place).words ≡ replicate self.now.width (pos 0) }
     {
         self.marks[place]
     }
@@ -143,11 +150,13 @@ fn half_with<const W: usize>(alloc: Global, states: &[DepState<W>]) -> Result<Ri
 
 // The spelling of states of a width.
 fn spell_half<const W: usize>(alloc: Global, half: &RingHalf) -> Result<Vec<u8>, Want>
-    requires { half.now.width ≡ W }
+    requires width { half.now.width ≡ W }
+    requires few { W ≤ 8 }
     ensures { IfOk result (λ body. body.items ≡ spelled half.now.states) }
 {
-    let mut states = Vec::with_capacity(alloc, half.marks.len())?;
-    for place in 0..half.marks.len() {
+    let count = half.len();
+    let mut states = Vec::with_capacity(alloc, count)?;
+    'states: for place in 0..count {
         states.push(dep_state::<W>(half, place))?;
     }
     pack(alloc, &states)

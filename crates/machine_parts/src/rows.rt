@@ -1,8 +1,9 @@
 // Rows of vertices, of equal width.
 ghost use Rattle.std.specs.Prelude.{◌≡◌, ◌≤◌, ◌<◌, ◌^◌, length, replicate, slice_set, IfOk};
 ghost use Rattle.vert_eval.specs.Rounds.{row_at};
-ghost use Rattle.machine_parts.specs.Flat.{rows_with, still_row};
+ghost use Rattle.machine_parts.specs.Flat.{still_row};
 
+use crate::repeated::repeated;
 use arrayvec::ArrayVec;
 use flat_table::Grid;
 use std::alloc::Global;
@@ -37,7 +38,7 @@ impl Rows {
             ≡ record { width = width; rows = replicate count (still_row width) }) }
     {
         let words = Grid::filled(alloc, width, count, 0i64)?;
-        let active = vec![in alloc; false; count]?;
+        let active = repeated(alloc, false, count)?;
         Ok(Rows {
             width,
             words,

@@ -1,10 +1,10 @@
 // Where the edges of each vertex stand in a list of edges in order.
-ghost use Rattle.std.specs.Prelude.{◌≡◌, ◌≤◌, ◌<◌, ◌==◌, ◌&&◌, ℕ, length, nat_le, nat_lt, IfOk};
-ghost use Rattle.std.specs.List.{All, filter, prefix_len};
+ghost use Rattle.std.specs.Prelude.{◌≡◌, ◌≤◌, ◌<◌, ◌==◌, ℕ, length, IfOk};
+ghost use Rattle.std.specs.List.{All, prefix_len};
 ghost use Rattle.std.specs.List.Sorted.{IsNonDecreasingBy};
 ghost use Rattle.vert_base.specs.declared.limits.TheConstants.{EDGES};
 ghost use Rattle.graph_table.specs.Sides.{key_of};
-ghost use Rattle.machine_parts.specs.Spans.{AreSpans, vertex_of};
+ghost use Rattle.machine_parts.specs.Spans.{AreSpans};
 
 use graph_table::{Side, end_of};
 use std::alloc::Global;
@@ -29,7 +29,9 @@ pub fn spans_of(alloc: Global, edges: &[Edge], side: Side) -> Result<Vec<Span>, 
     let mut start = 0;
     'spans: while start < edges.len() {
         let vertex = end_of(side, &edges[start]);
-        let end = start + run_len(&edges[start..], side, vertex);
+        let (_, rest) = edges.split_at(start);
+        let len = run_len(rest, side, vertex);
+        let end = start + len;
         spans.push(Span {
             vertex: VertexId(vertex),
             start: start as u32,
@@ -50,25 +52,4 @@ fn run_len(edges: &[Edge], side: Side, vertex: u32) -> usize
         }
     }
     edges.len()
-}
-
-/// The spans of the vertices from one on and before another one.
-pub fn spans_within(spans: &[Span], start: u32, end: u32) -> &[Span]
-    requires rises { start ≤ end }
-    requires order { IsNonDecreasingBy vertex_of spans.now }
-    ensures { result.now ≡ filter (λ s. nat_le start (vertex_of s) && nat_lt (vertex_of s) end) spans.now }
-{
-    let (below, _) = split_at_vertex(spans, end);
-    let (_, within) = split_at_vertex(below, start);
-    within
-}
-
-// The spans of the vertices below one, and the others.
-fn split_at_vertex(spans: &[Span], vertex: u32) -> (&[Span], &[Span])
-    requires { IsNonDecreasingBy vertex_of spans.now }
-    ensures below { result.0.now ≡ filter (λ s. nat_lt (vertex_of s) vertex) spans.now }
-    ensures others { result.1.now ≡ filter (λ s. nat_le vertex (vertex_of s)) spans.now }
-{
-    let count = spans.partition_point(|span| span.vertex.0 < vertex);
-    spans.split_at(count)
 }

@@ -2,12 +2,10 @@
 ghost use Rattle.std.specs.Prelude.{◌≡◌, ◌≤◌, ◌<◌, ◌+◌, ◌-◌, ◌++◌, [], None, length, map, slice_index_or, slice_set};
 ghost use Rattle.std.specs.List.{All};
 ghost use Rattle.std.specs.List.Sorted.{IsStrictlyIncreasing};
-ghost use Rattle.vert_base.specs.declared.value.Combine.TheVariants.{Sum};
-ghost use Rattle.slot_merge.specs.Partials.{empty_partial, with_word};
 ghost use Rattle.body_shape.specs.Update.{sent_at, sents_read};
 ghost use Rattle.symple_face.specs.CoreTakes.{with_sent};
 ghost use Rattle.machine_parts.specs.Neighbours.{ArePlaced};
-ghost use Rattle.machine_parts.specs.Updates.{told_values, with_sents};
+ghost use Rattle.machine_parts.specs.Updates.{told_values, with_sents, with_told};
 
 use body_shape::{behind_sent, operand_at, value_at};
 use flat_table::Grid;
@@ -70,9 +68,8 @@ fn add_sent(
         } }
 {
     for column in 0..words.slots + words.reduced {
-        if let Some(word) = told(update, words, column) {
-            add_word(partials, place, column, key, word);
-        }
+        let word = told(update, words, column);
+        add_word(partials, place, column, key, word);
     }
 }
 
@@ -92,18 +89,26 @@ fn told(update: &[u8], words: &SentWords, column: usize) -> Option<i64>
     }
 }
 
-// Adds a word to one partial.
+// Adds a word to one partial, where it is there.
 #[inline]
-fn add_word(partials: &mut Grid<Partial>, place: usize, column: usize, key: u32, word: i64)
+fn add_word(
+    partials: &mut Grid<Partial>,
+    place: usize,
+    column: usize,
+    key: u32,
+    word: Option<i64>,
+)
     requires place { place < length partials.old.rows }
     requires column { column < partials.old.width }
     requires row { length (slice_index_or partials.old.rows place []) ≡ partials.old.width }
-    ensures { let row = slice_index_or partials.old.rows place [] in
-        partials.new ≡ record partials.old {
-          rows = slice_set partials.old.rows place
-              (slice_set row column (with_word key word (slice_index_or row column (empty_partial Sum))));
-        } }
+    ensures { partials.new ≡ record partials.old {
+      rows = slice_set partials.old.rows place
+          (with_told key word column (slice_index_or partials.old.rows place []));
+    } }
 {
+    let Some(word) = word else {
+        return;
+    };
     let mut partial = partials.row(place)[column];
     partial.add(key, word);
     partials.put(place, column, partial);
