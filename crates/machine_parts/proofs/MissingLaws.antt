@@ -3,7 +3,7 @@ use Rattle.std.proofs.Common.{◌≡◌, ℕ, zero, suc, ◌+◌, ◌-◌, ◌*�
 use Rattle.std.specs.Prelude.{◌==◌, ◌&&◌, is_some, nat_lt, slice_get}
 use Rattle.std.specs.List.{flat_map, range_with_len}
 use Rattle.std.proofs.lemmas.List.{drop_all, drop_more}
-use Rattle.std.proofs.lemmas.Option.{get_or_from_slice_get, slice_get_within, slice_get-get_or}
+use Rattle.std.proofs.lemmas.Option.{get_or_from_slice_get, slice_get_cases, slice_get_within}
 use Rattle.std.proofs.lemmas.Bool.{cases_eq, cases_lt, eqb-true}
 use Rattle.vert_base.specs.declared.message.Name.{Name}
 use Rattle.vert_base.specs.Letters.{Letter, found}
@@ -56,9 +56,9 @@ module _ (xs : List Name) (held : List Letter) (i : ℕ) (x : Name) (there : sli
   pub missing_later : is_some (found x held) ≡ true → first_missing (drop i xs) held ≡ first_missing (drop (i + 1) xs) held
   missing_later some = ap (λ ys. first_missing ys held) opens ∙ ap (λ b. cond b (first_missing (drop (i + 1) xs) held) (Some x)) some
 
-pub missing_none : (xs : List Name) (held : List Letter) (i : ℕ) (d : Name) → slice_get xs i ≡ None → first_missing (drop i xs) held ≡ None
-missing_none xs held i d none =
+pub missing_none : (xs : List Name) (held : List Letter) (i : ℕ) → slice_get xs i ≡ None → first_missing (drop i xs) held ≡ None
+missing_none xs held i none =
     ⊎_elim
-    (λ (inside : i < length xs). let there : Some (get_or xs i d) ≡ None = sym (slice_get-get_or xs i d inside) ∙ none in cc)
-    (λ (past : length xs ≤ i). ap (λ ys. first_missing ys held) (drop_all i xs past))
-    (cases_lt i (length xs))
+    (λ there. let both : Some there.0 ≡ None = sym there.2 ∙ none in cc)
+    (λ past. ap (λ ys. first_missing ys held) (drop_all i xs past.0))
+    (slice_get_cases xs i).1

@@ -4,8 +4,8 @@ use Rattle.std.specs.Prelude.{◌==◌}
 use Rattle.std.specs.List.{All, AllByRecursion, AllPairs, range_with_len}
 use Rattle.std.specs.List.Sorted.{IsStrictlyIncreasing}
 use Rattle.std.proofs.lemmas.Bool.{cases_eq, eq-eqb, ne_eqb}
-use Rattle.std.proofs.lemmas.List.{drop_more, get_or-append_right, get_or-set_other, get_or-set_same, get_or_append_left, get_or_default, length-set, length-take-le, same_lists, set-get_or, set-set, take_more}
-use Rattle.std.proofs.lemmas.List.Elements.{All-map, All-tail, recursion_from_All}
+use Rattle.std.proofs.lemmas.List.{drop_all, drop_more, get_or-append_right, get_or-map, get_or-set_other, get_or-set_same, get_or_append_left, get_or_default, length-map, length-set, length-take-le, same_lists, set-get_or, set-set, take_more}
+use Rattle.std.proofs.lemmas.List.Elements.{All-map, All-set, All-tail, recursion_from_All}
 use Rattle.std.proofs.lemmas.List.Kept.{AllPairs-from_increasing}
 use Rattle.std.proofs.lemmas.List.FromFn.{get_or-map-range_with_len, length-map-range_with_len}
 use Rattle.slot_merge.specs.declared.partial.Partial.{Partial}
@@ -195,8 +195,8 @@ module _ (key place i : ℕ) (told : List (Option ℤ)) (first now : Rows Partia
       ∙ ap (λ (p : Rows Partial). record p { rows = set p.rows place (with_values key (take (i + 1) told) row) }) so_far
       ∙ (λ j. record first { rows = set-set first.rows place old (with_values key (take (i + 1) told) row) j })
 
--- one vertex more
-pub merge_more : (start key slots reduced i n v d : ℕ) (ids rest behind : List ℕ) (now new all : List (List Partial)) → i < n → n ≡ length ids → v ≡ get_or ids i d →
+-- what is left, over the partials with one vertex more
+merge_more : (start key slots reduced i n v d : ℕ) (ids rest behind : List ℕ) (now new all : List (List Partial)) → i < n → n ≡ length ids → v ≡ get_or ids i d →
     behind ≡ behind_sent slots reduced rest → new ≡ set now (v - start) (with_sent key (sent_at slots reduced rest) (get_or now (v - start) [])) →
     merged start key (drop i ids) (sents_read slots reduced (n - i) rest) now ≡ all →
     merged start key (drop (i + 1) ids) (sents_read slots reduced (n - (i + 1)) behind) new ≡ all
@@ -208,6 +208,50 @@ merge_more start key slots reduced i n v d ids rest behind now new all lt count 
     ∙ sym (ap (λ us. merged start key us (sents_read slots reduced (n - i) rest) now) front
     ∙ ap (λ k. merged start key (v ∷ drop (i + 1) ids) (sents_read slots reduced k rest) now) left)
     ∙ so_far
+
+abbrev number : VertexId → ℕ
+number v = v.0
+
+-- one vertex more
+module _ (start key slots reduced i : ℕ) (list : List VertexId) (d : VertexId) (rest : List ℕ) (now new : Rows Partial)
+    (put :
+    new
+    ≡ record now {
+      rows = set now.rows ((get_or list i d).0 - start) (with_sent key (sent_at slots reduced rest) (get_or now.rows ((get_or list i d).0 - start) []));
+    }) where
+  abbrev row : List Partial
+  row = with_sent key (sent_at slots reduced rest) (get_or now.rows ((get_or list i d).0 - start) [])
+
+  pub merged_width : new.width ≡ now.width
+  merged_width = ap (λ (p : Rows Partial). p.width) put
+
+  pub merged_count : length new.rows ≡ length now.rows
+  merged_count = ap (λ (p : Rows Partial). length p.rows) put ∙ length-set now.rows ((get_or list i d).0 - start) row
+
+  pub merged_each : (width count : ℕ) → ArePlaced start count list → i < length list → length now.rows ≡ count → All (λ ps. length ps ≡ width) now.rows →
+      All (λ ps. length ps ≡ width) new.rows
+  merged_each width count placed lt same each =
+      let place : ℕ = (get_or list i d).0 - start in
+      let here = placed i d lt in
+      let within : (get_or list i d).0 - start < length now.rows = omega (arith, here.1, same) in
+      let wide : length row ≡ width = length-with_values key (told_values (sent_at slots reduced rest)) (get_or now.rows place []) ∙ each place [] within in
+      subst (λ (p : Rows Partial). All (λ ps. length ps ≡ width) p.rows) (sym put) (All-set (λ ps. length ps ≡ width) now.rows place row wide each)
+
+  pub merged_all : (behind : List ℕ) (all : List (List Partial)) → i < length list → behind ≡ behind_sent slots reduced rest →
+      merged start key (drop i (map (λ v. v.0) list)) (sents_read slots reduced (length list - i) rest) now.rows ≡ all →
+      merged start key (drop (i + 1) (map (λ v. v.0) list)) (sents_read slots reduced (length list - (i + 1)) behind) new.rows ≡ all
+  merged_all behind all lt later so_far =
+      merge_more start key slots reduced i (length list) (get_or list i d).0 0 (map number list) rest behind now.rows new.rows all lt (sym (length-map list number))
+      (sym (get_or-map number list i d 0 lt)) later (ap (λ (p : Rows Partial). p.rows) put) so_far
+
+-- when all is told
+pub merged_end : (start key slots reduced i : ℕ) (list : List VertexId) (rest : List ℕ) (sents : List Sent) (first now : List (List Partial)) → length list ≤ i →
+    merged start key (drop i (map (λ v. v.0) list)) (sents_read slots reduced (length list - i) rest) now ≡ merged start key (map (λ v. v.0) list) sents first →
+    StandOnce start (length first) (map (λ v. v.0) list) → now ≡ with_sents start key (map (λ v. v.0) list) sents first
+merged_end start key slots reduced i list rest sents first now past so_far once =
+    sym (ap (λ us. merged start key us (sents_read slots reduced (length list - i) rest) now) (drop_all i (map number list) (omega (arith, length-map list number))))
+    ∙ so_far
+    ∙ merged_is start key (map number list) sents first once
 
 -- the vertices of a list that ascends stand once
 once_from : (start count : ℕ) (vs : List ℕ) → All (λ v. (start ≤ v) × (v - start < count)) vs → AllPairs (λ v u. v < u) vs → StandOnce start count vs

@@ -80,7 +80,8 @@ pub fn new_env(setting: &Setting, totals: &[i64]) -> Env
 #[inline]
 pub fn read_row_of(rows: &Rows, place: usize, env: &mut Env)
     requires { place < length rows.now.rows }
-    ensures { env.new ≡ with_rows (row_at rows.now.rows place) env.old }
+    ensures row { env.new ≡ with_rows (row_at rows.now.rows place) env.old }
+    ensures width { length (row_at rows.now.rows place).words.items ≡ rows.now.width }
 {
     rows.read(place, &mut env.row);
     rows.read(place, &mut env.other_row);

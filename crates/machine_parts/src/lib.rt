@@ -3,6 +3,7 @@
 #![tactic(auto)]
 
 mod bodies;
+mod counting;
 mod environment;
 mod groups;
 mod judging;
@@ -12,9 +13,11 @@ mod repeated;
 mod ring_half;
 mod rows;
 mod spans;
+mod totals;
 mod updates;
 
 pub use bodies::{refresh_body, tally_body, verdict_body};
+pub use counting::{active_rows, edges_ahead};
 pub use environment::{Setting, enter, new_env, read_row_of};
 pub use groups::Groups;
 pub use judging::rule;
@@ -23,4 +26,5 @@ pub use part_feed::PartFeed;
 pub use ring_half::RingHalf;
 pub use rows::Rows;
 pub use spans::{Span, spans_of};
+pub use totals::own_totals;
 pub use updates::{SentWords, merge_update};
