@@ -75,7 +75,13 @@ impl<T: Copy> Grid<T> {
         requires width { length row.now ≡ self.old.width }
         ensures { self.new ≡ record self.old { rows = slice_set self.old.rows place row.now } }
     {
-        copy_row(self.cells.as_mut_slice(), self.width, self.count, place, row);
+        copy_row(
+            self.cells.as_mut_slice(),
+            self.width,
+            self.count,
+            place,
+            row,
+        );
     }
 
     /// Puts one value into each cell.

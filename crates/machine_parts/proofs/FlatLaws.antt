@@ -1,7 +1,7 @@
 -- What two lists make, place by place.
 use Rattle.std.proofs.Common.{◌≡◌, ℕ, zero, suc, ◌+◌, ℤ, pos, ◌<◌, ◌≤◌, Bool, false, List, [], ◌∷◌, length, get_or, set, take, map, replicate, refl, sym, ap, subst, ◌∙◌, arith, ◌++◌}
 use Rattle.std.specs.List.{All}
-use Rattle.std.proofs.lemmas.List.{get_or-map, get_or-replicate, length-map, length-replicate, length-set, map_push, take_more, take_more_set}
+use Rattle.std.proofs.lemmas.List.{get_or-map, length-map, length-replicate, length-set, map_push, take_more, take_more_set}
 use Rattle.std.proofs.lemmas.List.Elements.{All-replicate, All-set}
 use Rattle.vert_base.specs.declared.value.Row.{Row}
 use Rattle.vert_eval.specs.Rounds.{empty_row, row_at}

@@ -252,8 +252,7 @@ pub run_fits : (end : Edge → ℕ) (edges rest : List Edge) (start count k : �
     rest ≡ drop start edges → count ≡ prefix_len (λ e. end e == k) rest → (start + count ≤ length edges) × (0 < count)
 run_fits end edges rest start count k d inside is here run =
     let same : Edge → Bool = λ e. end e == k in
-    let at : count ≡ prefix_len (λ e. end e == k) (drop start edges) = run ∙ ap (prefix_len same) here in
-    (
+    let at : count ≡ prefix_len (λ e. end e == k) (drop start edges) = run ∙ ap (prefix_len same) here in (
       omega (arith, at, prefix_len-le-length same (drop start edges), length-drop start edges),
       omega (arith, at, prefix_len-drop_yes same edges start d inside (eq-eqb _ _ (sym is))),
     )

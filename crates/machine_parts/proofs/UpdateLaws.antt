@@ -1,7 +1,6 @@
 -- What an update tells is added vertex by vertex.
-use Rattle.std.proofs.Common.{◌≡◌, ℕ, zero, suc, ℤ, ◌+◌, ◌-◌, ◌<◌, ◌≤◌, ◌≢◌, Bool, true, false, cond, Option, Some, None, List, [], ◌∷◌, ◌++◌, length, get_or, set, take, drop, map, refl, ap, sym, subst, ◌∙◌, arith, ⊎_elim, length-append}
-use Rattle.std.specs.Prelude.{◌==◌}
-use Rattle.std.specs.List.{All, AllByRecursion, AllPairs, range_with_len}
+use Rattle.std.proofs.Common.{◌≡◌, ℕ, zero, suc, ℤ, ◌+◌, ◌-◌, ◌<◌, ◌≤◌, ◌≢◌, cond, Option, Some, None, List, [], ◌∷◌, ◌++◌, length, get_or, set, take, drop, map, refl, ap, sym, subst, ◌∙◌, arith, ⊎_elim, length-append}
+use Rattle.std.specs.List.{All, AllByRecursion, AllPairs}
 use Rattle.std.specs.List.Sorted.{IsStrictlyIncreasing}
 use Rattle.std.proofs.lemmas.Bool.{cases_eq, eq-eqb, ne_eqb}
 use Rattle.std.proofs.lemmas.List.{drop_all, drop_more, get_or-append_right, get_or-map, get_or-set_other, get_or-set_same, get_or_append_left, get_or_default, length-map, length-set, length-take-le, same_lists, set-get_or, set-set, take_more}
@@ -257,8 +256,7 @@ merged_end start key slots reduced i list rest sents first now past so_far once 
 once_from : (start count : ℕ) (vs : List ℕ) → All (λ v. (start ≤ v) × (v - start < count)) vs → AllPairs (λ v u. v < u) vs → StandOnce start count vs
 once_from start count [] placed up = tt
 once_from start count (v ∷ vs) placed up =
-    let here = placed 0 v (omega arith) in
-    (
+    let here = placed 0 v (omega arith) in (
       here.0,
       here.1,
       recursion_from_All (λ u. u ≢ v) vs (λ k d lt e. let high = up 0 (suc k) d (omega arith) (omega arith) in omega arith),

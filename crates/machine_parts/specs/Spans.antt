@@ -2,7 +2,6 @@
 use Rattle.std.specs.Prelude.{◌≡◌, ◌≤◌, ◌<◌, ℕ, List, length, map, slice_range}
 use Rattle.std.specs.List.{All}
 use Rattle.vert_base.specs.declared.graph.Edge.{Edge}
-use Rattle.vert_base.specs.declared.graph.VertexId.{VertexId}
 use Rattle.vert_base.specs.Neighbours.{bucket, source, target}
 use Rattle.chunk_split.specs.Chunks.{vertices_of}
 use Rattle.symple_face.specs.Parts.{PlainPart, ends_met}

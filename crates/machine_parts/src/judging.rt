@@ -22,7 +22,7 @@ pub fn rule(program: &Program, env: &Env, sums: &Counts, edges: u32) -> Ruling
     ensures { result ≡ (if stops program.now.stop env.now
         then Ruling.Stop
         else ruling_of sums.now.active sums.now.edges edges (env.now.round + 1)
-            program.now.limit program.now.mode) }
+        program.now.limit program.now.mode) }
 {
     if stops(&program.stop, env) {
         return Ruling::Stop;

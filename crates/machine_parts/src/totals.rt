@@ -1,9 +1,9 @@
 // The totals of a machine's own rows.
-ghost use Rattle.std.specs.Prelude.{IsTrue, ◌≡◌, ◌≤◌, ◌+◌, ◌^◌, length, map};
+ghost use Rattle.std.specs.Prelude.{IsTrue, ◌≡◌, ◌≤◌, ◌<◌, ◌+◌, ◌^◌, length, map, pos, slice_index_or};
 ghost use Rattle.std.specs.List.{All};
 ghost use Rattle.vert_tree.specs.Places.{expr_placed};
 ghost use Rattle.slot_merge.specs.Combine.{combined_of, neutral};
-ghost use Rattle.vert_eval.specs.Values.{CanDraw, counts_of};
+ghost use Rattle.vert_eval.specs.Values.{CanDraw, counts_of, value_of};
 ghost use Rattle.machine_parts.specs.Counting.{AreTotalsPlaced, own_total, values_added};
 
 use crate::environment::{enter, read_row_of};
@@ -12,7 +12,7 @@ use arrayvec::ArrayVec;
 use symple_face::Degree;
 use vert_base::{Combine, VertexId};
 use vert_eval::{Env, eval};
-use vert_tree::TotalDecl;
+use vert_tree::{Expr, TotalDecl};
 
 /// The totals over own vertices, which begin at `start`. It goes through the vertices once, and enters each.
 pub fn own_totals(
@@ -70,9 +70,20 @@ fn with_values(totals: &[TotalDecl], env: &Env, held: &[i64]) -> ArrayVec<i64, 4
 {
     let mut words = ArrayVec::new();
     for (i, total) in totals.iter().enumerate() {
-        words.push(combined(total.op, held[i], eval(&total.value, env)));
+        words.push(with_value(total.op, held, i, &total.value, env));
     }
     words
+}
+
+// The word of a total at a place, with its value at one vertex more.
+fn with_value(op: Combine, held: &[i64], place: usize, value: &Expr, env: &Env) -> i64
+    requires place { place < length held.now }
+    requires names { IsTrue (expr_placed (counts_of env.now) value.now) }
+    requires draws { CanDraw env.now }
+    ensures { result ≡ combined_of op (slice_index_or held.now place (pos 0)) (value_of value.now env.now) }
+{
+    let word = held[place];
+    combined(op, word, eval(value, env))
 }
 
 fn combined(op: Combine, held: i64, word: i64) -> i64

@@ -49,13 +49,7 @@ pub fn merge_update(
 }
 
 // Adds what is told of the vertex at the front of an update to the partials at a place.
-fn add_sent(
-    update: &[u8],
-    words: &SentWords,
-    key: u32,
-    place: usize,
-    partials: &mut Grid<Partial>,
-)
+fn add_sent(update: &[u8], words: &SentWords, key: u32, place: usize, partials: &mut Grid<Partial>)
     requires slots { words.now.slots ≤ 8 }
     requires reduced { words.now.reduced ≤ 8 }
     requires width { partials.old.width ≡ words.now.slots + words.now.reduced }
@@ -91,13 +85,7 @@ fn told(update: &[u8], words: &SentWords, column: usize) -> Option<i64>
 
 // Adds a word to one partial, where it is there.
 #[inline]
-fn add_word(
-    partials: &mut Grid<Partial>,
-    place: usize,
-    column: usize,
-    key: u32,
-    word: Option<i64>,
-)
+fn add_word(partials: &mut Grid<Partial>, place: usize, column: usize, key: u32, word: Option<i64>)
     requires place { place < length partials.old.rows }
     requires column { column < partials.old.width }
     requires row { length (slice_index_or partials.old.rows place []) ≡ partials.old.width }

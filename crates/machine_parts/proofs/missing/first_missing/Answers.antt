@@ -1,6 +1,6 @@
 -- A message that is held is passed over.
-use Rattle.std.proofs.Common.{◌≡◌, ◌+◌, ◌<◌, Some, None, true, false, length, sym, ◌∙◌, arith}
-use Rattle.std.specs.Prelude.{is_some, slice_get}
+use Rattle.std.proofs.Common.{◌≡◌, true, false, sym, ◌∙◌, arith}
+use Rattle.std.specs.Prelude.{is_some}
 use Rattle.std.proofs.lemmas.Option.{slice_get_within}
 use Rattle.vert_base.specs.Letters.{found}
 use Rattle.circulant_plan.specs.Table.{needs_of}
@@ -28,8 +28,7 @@ pub needs-preserved : goal.needs-preserved
 needs-preserved c =
     let needs = needs_of c.args.ring.now c.args.m c.args.spot.now in
     let held = c.args.held.now.letters in
-    let some : is_some (found c.in-Some.name c.args.held.now.letters) ≡ true = sym c.has.ensures.has ∙ c.if-not-has.false in
-    (
+    let some : is_some (found c.in-Some.name c.args.held.now.letters) ≡ true = sym c.has.ensures.has ∙ c.if-not-has.false in (
       omega (arith, slice_get_within needs c.needs.place c.in-Some.name (sym c.in-Some.ensures)),
       c.needs.invariant.1 ∙ missing_later needs held c.needs.place c.in-Some.name (sym c.in-Some.ensures) some,
     )

@@ -1,5 +1,5 @@
 -- The words of a vertex whose loop hasn't begun are zeros.
-use Rattle.std.proofs.Common.{pos, replicate, sym, ap, ◌∙◌}
+use Rattle.std.proofs.Common.{pos, replicate, ap, ◌∙◌}
 use Rattle.machine_parts.proofs.ring_half.dep_state.Goals as goal
 
 pub invariant_of-result : goal.invariant_of-result

@@ -1,5 +1,5 @@
 -- One word after another is added.
-use Rattle.std.proofs.Common.{◌≡◌, ◌+◌, ◌<◌, ◌≤◌, length, ap, sym, ◌∙◌, arith}
+use Rattle.std.proofs.Common.{◌+◌, ◌<◌, ◌≤◌, ap, ◌∙◌, arith}
 use Rattle.std.proofs.lemmas.List.{take_all}
 use Rattle.body_shape.specs.Update.{sent_at}
 use Rattle.machine_parts.specs.Updates.{told_values}

@@ -1,7 +1,7 @@
 -- One vertex after another.
 use Rattle.std.proofs.Common.{length, ◌∙◌}
 use Rattle.body_shape.specs.Update.{sents_read}
-use Rattle.machine_parts.proofs.UpdateLaws.{merged, merged_all, merged_count, merged_each, merged_end, merged_width, stand_once}
+use Rattle.machine_parts.proofs.UpdateLaws.{merged_all, merged_count, merged_each, merged_end, merged_width, stand_once}
 use Rattle.machine_parts.proofs.updates.merge_update.Goals as goal
 
 pub loop-vertex-preserved : goal.loop-vertex-preserved

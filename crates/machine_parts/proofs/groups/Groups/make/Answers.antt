@@ -1,5 +1,5 @@
 -- The edges of a part are in order.
-use Rattle.std.proofs.Common.{List, map, sym, subst, ap, ◌∙◌}
+use Rattle.std.proofs.Common.{List, map, subst, ap, ◌∙◌}
 use Rattle.vert_base.specs.declared.graph.Edge.{Edge}
 use Rattle.vert_base.specs.Neighbours.{in_order, source, target}
 use Rattle.chunk_split.specs.Chunks.{vertices_of}

@@ -16,8 +16,7 @@ put_row-requires-clause-place c =
 pub invariant_of-self : goal.invariant_of-self
 invariant_of-self c =
     let r = c.self.inside in
-    let t = c.args.self.now in
-    (
+    let t = c.args.self.now in (
       put_laid t r.width r.marks.items r.words c.self.view_is c.self.invariant.0 c.args.place c.args.mark c.args.words.now c.put_row.new.self c.put_row.ensures c.requires.width,
       put_still t r.width r.marks.items r.words c.self.view_is c.self.invariant.0 c.args.place c.args.mark c.args.words.now c.put_row.new.self c.put_row.ensures c.self.invariant.1 c.requires.still,
     )
