@@ -14,7 +14,8 @@ use Rattle.carry_analysis.specs.declared.classes.Class.{Class}
 use Rattle.instrument.specs.declared.split.Split.{Split}
 use Rattle.instrument.specs.Loops.{loop_split}
 use Rattle.instrument.specs.Segments.{own_words, with_words}
-use Rattle.symple_face.specs.CoreDense.{fresh, ring_at, told_words}
+use Rattle.symple_face.specs.CoreDense.{ring_at}
+use Rattle.symple_face.specs.CoreScan.{fresh, told_words}
 use Rattle.symple_face.specs.CoreSight.{none, own_sight, own_vertices, program_of, targets}
 use Rattle.symple_face.specs.CoreTakes.{empty_partials, own_partials, slot_count}
 use Rattle.symple_face.specs.Ring.{closing}
@@ -34,7 +35,8 @@ closing_words cs own st lets = closing cs own (unwrap_or (told_words st) []) (va
 abbrev pub tail_env : Split → Dense → Env → List Partial → LoopState → Env
 tail_env split dense env ps st =
     with_words
-    (closing_words (loop_split dense).classes.locals.items (own_words dense.lets.items env) st (drop (slot_count split) ps))
+    (closing_words (loop_split dense).classes.locals.items (own_words dense.lets.items env) st
+    (drop (slot_count split) ps))
     env
 
 -- the partials of a vertex with what its tail emits under a key
@@ -47,7 +49,8 @@ tail_at split dense g key ps st v =
 
 -- the row of a vertex after the update, by its partials
 abbrev pub closed_row : Split → Sight → List Partial → ℕ → Row
-closed_row split g ps v = updated (program_of split).update.items (seen_env g v 0 (values_of (take (slot_count split) ps)))
+closed_row split g ps v =
+    updated (program_of split).update.items (seen_env g v 0 (values_of (take (slot_count split) ps)))
 
 -- the partials of an own vertex at the end of the round, where it was a dense one with those of the tail
 abbrev pub with_tail : Option Dense → State → ℕ → ℕ → List Partial

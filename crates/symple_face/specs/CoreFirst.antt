@@ -1,5 +1,5 @@
 -- How a core begins: before the first round, or at the begin of a later one.
-use Rattle.std.specs.Prelude.{◌==◌, false, List, [], ◌∷◌, ℕ, Option, None, Some, if◌then◌else◌, map}
+use Rattle.std.specs.Prelude.{◌==◌, false, List, [], ◌∷◌, ℕ, ℤ, Option, None, Some, if◌then◌else◌, map}
 use Rattle.vert_base.specs.declared.value.Row.{Row}
 use Rattle.vert_base.specs.declared.value.Ruling.TheVariants.{Stop}
 use Rattle.vert_base.specs.Letters.{Letter}
@@ -14,7 +14,7 @@ use Rattle.circulant_plan.specs.Names.{verdict_name}
 use Rattle.circulant_plan.specs.Standing.{first_standing, standing_at}
 use Rattle.instrument.specs.declared.split.Split.{Split}
 use Rattle.body_shape.specs.Verdict.{verdict_body}
-use Rattle.symple_face.specs.CoreDense.{fresh}
+use Rattle.symple_face.specs.CoreScan.{fresh}
 use Rattle.symple_face.specs.CoreSight.{part_sight, program_of, targets_of}
 use Rattle.symple_face.specs.CoreTakes.{empty_partials}
 use Rattle.symple_face.specs.Parts.{PlainPart, chunk_vertices}
@@ -29,7 +29,8 @@ no_sums = record { active = 0; edges = 0; totals = [] }
 abbrev pub first_row_of : PlainPart → Split → ℕ → Row
 first_row_of part split v =
     let env : Env = seen_env (part_sight part 0 [] (λ v. empty_row)) v 0 [] in
-    let row : Row = record { words = record { items = map (λ d. value_of d.value env) (program_of split).fields.items }; active = false } in
+    let fields : List ℤ = map (λ d. value_of d.value env) (program_of split).fields.items in
+    let row : Row = record { words = record { items = fields }; active = false } in
     record row { active = is_set (value_of (program_of split).start (with_row row env)) }
 
 abbrev pub core_first : PlainPart → Split → State
@@ -52,17 +53,22 @@ core_first part split =
     }
 
 -- ---- from a start
+abbrev pub body_at_start : PlainStart → List ℕ
+body_at_start start = verdict_body (record { ruling = start.ruling; totals = start.totals })
+
 -- a machine other than 0 has taken the verdict of the round that begins
 abbrev pub held_at_start : PlainPart → PlainStart → List Letter
 held_at_start part start =
     if part.at.machine == 0
     then []
-    else record { name = verdict_name start.round part.at.machine; body = verdict_body (record { ruling = start.ruling; totals = start.totals }) } ∷ []
+    else record { name = verdict_name start.round part.at.machine; body = body_at_start start } ∷ []
 
 -- and machine 0 has judged it
 abbrev pub judged_at_start : PlainPart → PlainStart → Sums
 judged_at_start part start =
-    if part.at.machine == 0 then record { active = start.active; edges = start.edges; totals = start.totals } else no_sums
+    if part.at.machine == 0
+    then record { active = start.active; edges = start.edges; totals = start.totals }
+    else no_sums
 
 -- the given rows of the own vertices
 abbrev pub rows_at_start : PlainPart → PlainStart → List Row
@@ -82,7 +88,13 @@ abbrev pub ahead_at : State → Spot → Option PlainAhead
 ahead_at s Tell = None
 ahead_at s (Judge r) = None
 ahead_at s (Begin r) =
-    Some (record { round = r; ruling = s.ruling; active = s.judged.active; edges = s.judged.edges; totals = s.judged.totals })
+    Some (record {
+      round = r;
+      ruling = s.ruling;
+      active = s.judged.active;
+      edges = s.judged.edges;
+      totals = s.judged.totals;
+    })
 ahead_at s (Scan r step h) = None
 ahead_at s (Close r dense) = None
 ahead_at s Over = None

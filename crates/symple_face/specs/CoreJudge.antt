@@ -16,21 +16,24 @@ use Rattle.circulant_plan.specs.Table.{others_of}
 use Rattle.instrument.specs.declared.split.Split.{Split}
 use Rattle.body_shape.specs.Tally.{Counted, counted_read}
 use Rattle.symple_face.specs.declared.report.Report.{Report}
-use Rattle.symple_face.specs.CoreSight.{degree_of, held_body, part_sight, program_of, row_in}
+use Rattle.symple_face.specs.CoreSight.{degree_of, held_body, part_sight, program_of, row_in, total_count}
 use Rattle.symple_face.specs.Parts.{PlainPart, chunk_vertices}
-use Rattle.symple_face.specs.Sight.{seen_env}
+use Rattle.symple_face.specs.Sight.{Sight, seen_env}
 use Rattle.symple_face.specs.State.{State, p_of}
 
 -- ---- counts
 -- the edges that leave active vertices of a chunk
 abbrev pub edges_ahead : PlainPart → List Row → ℕ
 edges_ahead part rows =
-    sum (map (λ v. if (row_in part rows v).active then (degree_of part v).outs else 0) (chunk_vertices part.ends part.at.machine))
+    sum
+    (map (λ v. if (row_in part rows v).active then (degree_of part v).outs else 0)
+    (chunk_vertices part.ends part.at.machine))
 
 -- a total of the rows of a chunk after round r
 abbrev pub chunk_total : PlainPart → List Row → ℕ → TotalDecl → ℤ
 chunk_total part rows r t =
-    total_of t.op (map (λ v. value_of t.value (seen_env (part_sight part r [] (row_in part rows)) v 0 [])) (chunk_vertices part.ends part.at.machine))
+    let g : Sight = part_sight part r [] (row_in part rows) in
+    total_of t.op (map (λ v. value_of t.value (seen_env g v 0 [])) (chunk_vertices part.ends part.at.machine))
 
 -- the counts and totals of a chunk after round r, and a machine's reads in it
 abbrev pub counted : PlainPart → Split → List Row → List (List ℕ) → ℕ → Counted
@@ -62,12 +65,13 @@ all_joined ts a (b ∷ bs) = all_joined ts (joined ts a b) bs
 
 -- what a tally of round r from machine k tells
 abbrev pub tally_of : State → ℕ → ℕ → Counted
-tally_of s r k = counted_read (length (program_of s.split).totals.items) (held_body s (tally_name r k))
+tally_of s r k = counted_read (total_count s.split) (held_body s (tally_name r k))
 
 -- the sums over all machines after round r, of the own counts and the tallies taken
 abbrev pub sums_at : State → ℕ → Counted
 sums_at s r =
-    all_joined (program_of s.split).totals.items (counted s.part s.split s.rows s.reads r) (map (tally_of s r) (others_of (p_of s) 0))
+    all_joined (program_of s.split).totals.items (counted s.part s.split s.rows s.reads r)
+    (map (tally_of s r) (others_of (p_of s) 0))
 
 -- ---- the judge
 -- the ruling for round r + 1: stop where the stop test is true for the totals after round r, else by the rule of modes
@@ -92,7 +96,13 @@ core_judge s = judge_at s s.at.spot
 abbrev pub report_after : State → ℕ → Report
 report_after s r =
     if nat_le 1 r
-    then record { round = r; ruling = s.ruling; active = s.judged.active; edges = s.judged.edges; reads = (sums_at s r).reads }
+    then record {
+      round = r;
+      ruling = s.ruling;
+      active = s.judged.active;
+      edges = s.judged.edges;
+      reads = (sums_at s r).reads;
+    }
     else s.report
 
 abbrev pub judge_go : State → ℕ → State

@@ -31,6 +31,12 @@ beside otherwise v [] xs = otherwise
 beside otherwise v (u ∷ us) [] = otherwise
 beside otherwise v (u ∷ us) (x ∷ xs) = if u == v then x else beside otherwise v us xs
 
+abbrev pub field_count : Split → ℕ
+field_count split = length (program_of split).fields.items
+
+abbrev pub total_count : Split → ℕ
+total_count split = length (program_of split).totals.items
+
 -- ---- vertices
 abbrev pub own_start : State → ℕ
 own_start s = start_of s.part.ends (machine s)
@@ -71,14 +77,15 @@ held_body s x = body_of (found x s.held)
 
 -- whether the machine knows the totals of the round of its spot
 abbrev pub known : State → Bool
-known s = if machine s == 0 then nat_le 1 s.at.round else is_some (found (verdict_name s.at.round (machine s)) s.held)
+known s =
+    if machine s == 0 then nat_le 1 s.at.round else is_some (found (verdict_name s.at.round (machine s)) s.held)
 
 -- these totals
 abbrev pub known_totals : State → List ℤ
 known_totals s =
     if machine s == 0
     then s.judged.totals
-    else (judged_read (length (program_of s.split).totals.items) (held_body s (verdict_name s.at.round (machine s)))).totals
+    else (judged_read (total_count s.split) (held_body s (verdict_name s.at.round (machine s)))).totals
 
 -- ---- rows
 -- the row of a vertex of a chunk, by the rows of the chunk
@@ -94,7 +101,8 @@ told_row row = record { words = record { items = row.fields }; active = row.acti
 -- the rows of chunk d that machine d told in round r
 abbrev pub told_rows : State → ℕ → ℕ → List Row
 told_rows s r d =
-    map told_row (rows_read (length (program_of s.split).fields.items) (length (mirrors s d)) (held_body s (refresh_name r d (machine s))))
+    map told_row
+    (rows_read (field_count s.split) (length (mirrors s d)) (held_body s (refresh_name r d (machine s))))
 
 abbrev pub mirror_row : State → ℕ → ℕ → ℕ → Row
 mirror_row s r d v = beside empty_row v (mirrors s d) (told_rows s r d)
@@ -123,7 +131,8 @@ part_sight part r totals row = record {
 -- what a machine sees in round r with the vertices of chunk d: those of another chunk as they were told
 abbrev pub sight_at : State → ℕ → ℕ → Sight
 sight_at s r d =
-    part_sight s.part r (known_totals s) (λ v. if not (d == machine s) && lies_in s.part.ends d v then mirror_row s r d v else own_row s v)
+    part_sight s.part r (known_totals s)
+    (λ v. if not (d == machine s) && lies_in s.part.ends d v then mirror_row s r d v else own_row s v)
 
 -- what it sees with its own vertices alone
 abbrev pub own_sight : State → ℕ → Sight

@@ -27,7 +27,7 @@ use Rattle.symple_face.specs.Shapes.{sends_in}
 use Rattle.symple_face.specs.Sight.{Sight, seen_env}
 use Rattle.symple_face.specs.State.{State, machine, p_of}
 
--- the key of an edge from u, t being the end of the receiver's chunk: it rises in the order in which a loop would read
+-- the key of an edge from u, t being the end of the receiver's chunk: it rises along the neighbours in their order
 abbrev pub key_of : ℕ → ℕ → ℕ → ℕ
 key_of n t u = (u + n - t) % n
 
@@ -35,7 +35,8 @@ key_of n t u = (u + n - t) % n
 -- what a vertex sends, where it is active and the test is true
 abbrev pub sends_at : Option SparseBlock → Env → Option (List ℤ)
 sends_at None env = None
-sends_at (Some sparse) env = if env.row.active && is_set (value_of sparse.when_test env) then Some (sent_by sparse env) else None
+sends_at (Some sparse) env =
+    if env.row.active && is_set (value_of sparse.when_test env) then Some (sent_by sparse env) else None
 
 -- what an own vertex sends in round r
 abbrev pub own_sends : State → ℕ → ℕ → Option (List ℤ)
@@ -95,13 +96,17 @@ own_first Sparse sends = sends ∷ []
 abbrev pub pushes : State → ℕ → List Name
 pushes s r = map (λ k. push_name r k (machine s)) (others_of (p_of s) (machine s))
 
+-- what the push of machine k tells that was kept
+abbrev pub kept_sends : State → ℕ → ℕ → ℕ → Option (List ℤ)
+kept_sends s r k = told_sends s k (held_body s (push_name r k (machine s)))
+
 -- after the own edges come the pushes that were kept; of one that was worked when it was taken no byte is left
 abbrev pub begin_go : State → ℕ → State
 begin_go s r = record s {
   held = emptied (pushes s r) s.held;
   partials =
       all_worked s r
-      (own_first s.ruling (sends_from s r) ++ map (λ k. told_sends s k (held_body s (push_name r k (machine s)))) (others_of (p_of s) (machine s)))
+      (own_first s.ruling (sends_from s r) ++ map (kept_sends s r) (others_of (p_of s) (machine s)))
       s.partials;
 }
 
@@ -109,5 +114,8 @@ begin_go s r = record s {
 abbrev pub take_push : State → Letter → State
 take_push s l =
     if known s
-    then record s { held = noted l s.held; partials = worked s l.name.round (told_sends s l.name.from l.body) s.part.push s.partials }
+    then record s {
+      held = noted l s.held;
+      partials = worked s l.name.round (told_sends s l.name.from l.body) s.part.push s.partials;
+    }
     else record s { held = placed l s.held }

@@ -65,7 +65,8 @@ update_list s k h = those_within (half_in s.part.ends (machine s) h) (slice_inde
 abbrev pub update_of : State → Name → List ℕ → ℕ → Sent
 update_of s x body v =
     let vertices : List ℕ = update_list s x.from x.half in
-    beside (unsent s.split) v vertices (sents_read (slot_count s.split) (length (reduced_in s.split.dense)) (length vertices) body)
+    beside (unsent s.split) v vertices
+    (sents_read (slot_count s.split) (length (reduced_in s.split.dense)) (length vertices) body)
 
 -- each word is added under the key that is the step of the update
 abbrev pub with_update : State → Name → List ℕ → List (List Partial)

@@ -1,10 +1,10 @@
 -- What every kind of machine keeps, in whatever state it is.
-use Rattle.std.specs.Prelude.{◌≡◌, ◌≢◌, ◌<◌, ◌+◌, ◌^◌, ◌&&◌, ◌||◌, not, ℕ, ℤ, Bool, true, false, List, [], Some, is_some, map}
+use Rattle.std.specs.Prelude.{◌≡◌, ◌≢◌, ◌<◌, ◌+◌, ◌^◌, ◌&&◌, ◌||◌, not, ℕ, ℤ, Bool, true, false, List, [], Some, map}
 use Rattle.std.specs.List.{AllByRecursion}
 use Rattle.vert_base.specs.declared.message.Name.{Name}
 use Rattle.vert_base.specs.declared.message.NameKind.TheVariants as kind
 use Rattle.vert_base.specs.declared.value.Ruling.{Ruling}
-use Rattle.vert_base.specs.Letters.{Letter, found}
+use Rattle.vert_base.specs.Letters.{Letter}
 use Rattle.vert_base.specs.Names.{same_name}
 use Rattle.vert_tree.specs.Kinds.{kinds_of}
 use Rattle.word_kinds.specs.Fits.{HaveWeights, IsFitting, IsRow}
@@ -23,7 +23,7 @@ use Rattle.symple_face.specs.declared.action.Action.TheVariants.{Ready}
 use Rattle.symple_face.specs.declared.report.Report.{Report}
 use Rattle.symple_face.specs.Parts.{IsPart, PlainPart}
 use Rattle.symple_face.specs.Plans.{blocks_of, ring_of}
-use Rattle.symple_face.specs.State.{IsTakeable, State, action_of, machine, p_of, ruling_read, shape_at}
+use Rattle.symple_face.specs.State.{IsTakeable, State, action_of, has_taken, machine, p_of, ruling_read, shape_at}
 use Rattle.symple_face.specs.Work.{Work}
 
 -- the ruling by which a machine acts: at a judge the one that it makes, else that of the round
@@ -77,19 +77,21 @@ pub record IsLawful (work : Work) (sound : State → Type 0) : Type 0 where
   pub go_part : (s : State) → (work.go s).part ≡ s.part
   pub go_split : (s : State) → (work.go s).split ≡ s.split
   pub go_at : (s : State) → (work.go s).at ≡ next_standing (ring_of s.split (p_of s)) (machine s) (acting work s) s.at
-  pub go_held : (s : State) (x : Name) → is_some (found x (work.go s).held) ≡ (not (is_begin (work.go s).at.spot) && is_some (found x s.held))
+  pub go_held : (s : State) (x : Name) → has_taken (work.go s) x ≡ (not (is_begin (work.go s).at.spot) && has_taken s x)
   pub go_ruling : (s : State) → (work.go s).ruling ≡ acting work s
   pub go_sound : (s : State) → sound s → action_of s ≡ Ready → sound (work.go s)
-  pub sent_names : (s : State) → map (λ l. l.name) (work.sent s) ≡ gives_of (ring_of s.split (p_of s)) (machine s) s.at.spot (acting work s)
+  pub sent_names : (s : State) →
+      map (λ l. l.name) (work.sent s) ≡ gives_of (ring_of s.split (p_of s)) (machine s) s.at.spot (acting work s)
   pub sent_fit : (s : State) → sound s → action_of s ≡ Ready → AllByRecursion (HasForm s) (work.sent s)
   pub sent_rulings : (s : State) (r : ℕ) → Judges s r → AllByRecursion (Rules (work.judge s)) (work.sent s)
   pub judge_may : (s : State) (r : ℕ) → Judges s r → may_rule (blocks_of s.split) (r + 1) (work.judge s) ≡ true
   pub take_part : (s : State) (l : Letter) → (work.take s l).part ≡ s.part
   pub take_split : (s : State) (l : Letter) → (work.take s l).split ≡ s.split
   pub take_at : (s : State) (l : Letter) → (work.take s l).at ≡ standing_taken l.name.kind (ruling_read l.body) s.at
-  pub take_held : (s : State) (l : Letter) (x : Name) → is_some (found x (work.take s l).held) ≡ (same_name l.name x || is_some (found x s.held))
+  pub take_held : (s : State) (l : Letter) (x : Name) → has_taken (work.take s l) x ≡ (same_name l.name x || has_taken s x)
   pub take_verdict : (s : State) (l : Letter) → l.name.kind ≡ kind.Verdict → (work.take s l).ruling ≡ ruling_read l.body
   pub take_other : (s : State) (l : Letter) → l.name.kind ≢ kind.Verdict → (work.take s l).ruling ≡ s.ruling
   pub take_sound : (s : State) (l : Letter) → sound s → IsTakeable s l → sound (work.take s l)
-  pub row_typed : (s : State) (v : ℕ) → sound s → lies_in s.part.ends (machine s) v ≡ true → IsRow (kinds_of s.split.program.program.fields.items) (work.row s v)
+  pub row_typed : (s : State) (v : ℕ) → sound s → lies_in s.part.ends (machine s) v ≡ true →
+      IsRow (kinds_of s.split.program.program.fields.items) (work.row s v)
   pub report_small : (s : State) → sound s → IsSmall (work.report s)

@@ -11,6 +11,7 @@ pub mod Work
 pub mod Sight
 pub mod CoreSight
 pub mod CoreTakes
+pub mod CoreScan
 pub mod CoreDense
 pub mod CoreClose
 pub mod CoreSparse

@@ -4,7 +4,6 @@ use Rattle.std.specs.Int.{w64}
 use Rattle.std.specs.Int.RustNames.{FitsSigned}
 use Rattle.std.specs.List.{All}
 use Rattle.vert_base.specs.declared.message.Name.{Name}
-use Rattle.vert_base.specs.Letters.{found}
 use Rattle.vert_base.specs.Names.{same_name}
 use Rattle.vert_tree.specs.Kinds.{kinds_of}
 use Rattle.word_kinds.specs.Fits.{IsRow}
@@ -18,7 +17,7 @@ use Rattle.symple_face.specs.Lawful.{CanRun, is_begin}
 use Rattle.symple_face.specs.Parts.{PlainPart}
 use Rattle.symple_face.specs.Planned.{has_block}
 use Rattle.symple_face.specs.Plans.{blocks_of}
-use Rattle.symple_face.specs.State.{State, machine}
+use Rattle.symple_face.specs.State.{State, has_taken, machine}
 use Rattle.symple_face.specs.Work.{PlainAhead, PlainStart, Work}
 
 -- a start with which a machine of this part can begin
@@ -42,7 +41,7 @@ pub record BeginsAt (whole : PlainPart) (program : Split) (start : PlainStart) (
   pub at : s.at ≡ standing_at start.round (Begin start.round)
   pub ruling : s.ruling ≡ start.ruling
   pub held : (x : Name) →
-      is_some (found x s.held) ≡ (not (whole.at.machine == 0) && same_name (verdict_name start.round whole.at.machine) x)
+      has_taken s x ≡ (not (whole.at.machine == 0) && same_name (verdict_name start.round whole.at.machine) x)
   pub rows : s.rows ≡ rows_at_start whole start
   pub judged : s.judged ≡ judged_at_start whole start
 

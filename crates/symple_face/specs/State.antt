@@ -1,5 +1,5 @@
 -- A machine of any kind as plain data, and what it can do next.
-use Rattle.std.specs.Prelude.{◌≡◌, ℕ, ℤ, true, false, List, [], ◌∷◌, Option, None, Some, is_some, if◌then◌else◌}
+use Rattle.std.specs.Prelude.{◌≡◌, ℕ, ℤ, Bool, true, false, List, [], ◌∷◌, Option, None, Some, is_some, if◌then◌else◌}
 use Rattle.vert_base.specs.declared.message.Name.{Name}
 use Rattle.vert_base.specs.declared.value.Row.{Row}
 use Rattle.vert_base.specs.declared.value.Ruling.{Ruling}
@@ -57,6 +57,10 @@ machine s = s.part.at.machine
 abbrev pub p_of : State → ℕ
 p_of s = s.part.at.machines
 
+-- whether a message of this name was taken in the round
+abbrev pub has_taken : State → Name → Bool
+has_taken s x = is_some (found x s.held)
+
 -- what a machine needs at its spot
 abbrev pub needs : State → List Name
 needs s = needs_of (ring_of s.split (p_of s)) (machine s) s.at.spot
@@ -81,7 +85,8 @@ ruling_read body = (judged_read 0 body).ruling
 abbrev pub shape_at : State → Name → Option BodyShape
 shape_at s x = shape_of s.split s.part x
 
--- a message that the machine can take: it is addressed here, wasn't taken, is of the round of the spot, and fits its form
+-- a message that the machine can take: it is addressed here, wasn't taken, is of the round of the spot, and fits its
+-- form
 pub record IsTakeable (s : State) (l : Letter) : Type 0 where
   pub here : l.name.to ≡ machine s
   pub going : is_over s.at.spot ≡ false

@@ -19,14 +19,14 @@ use circulant_plan::Spot;
 use std::alloc::Global;
 use vert_base::{Message, Row, VertexId, Want};
 
-/// One machine of a run. It is told as a state, which is plain data, and by functions of such states; that these
-/// are the functions of a core is `is_core`, which no running program can ask.
+/// One machine of a run. It is told as a state, which is plain data, and by functions of such
+/// states. That these are the functions of a core is `is_core`, which no running program can ask.
 pub trait Site: Drop {
     ghost state: { Self → State };
 
     ghost work: { Work };
 
-    /// What it says of its own state, which keeps what it sends, its rows and its counts within their forms.
+    /// What it says of its own state, so that what it sends, its rows and its counts have their forms.
     ghost sound: { State → Type 0 };
 
     ghost is_core: { Type 0 };
