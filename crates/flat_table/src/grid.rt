@@ -130,7 +130,8 @@ fn copy_row<T: Copy>(cells: &mut [T], width: usize, count: usize, place: usize, 
     requires place { place < count }
     requires cells { length cells.old ≡ width * count }
     requires row { length row.now ≡ width }
-    ensures { rows_of width count cells.new ≡ slice_set (rows_of width count cells.old) place row.now }
+    ensures { rows_of width count cells.new
+        ≡ slice_set (rows_of width count cells.old) place row.now }
 {
     let start = width * place;
     cells[start..start + width].copy_from_slice(row);

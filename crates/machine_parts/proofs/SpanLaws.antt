@@ -23,9 +23,12 @@ abbrev met : (Edge → ℕ) → List Edge → ℕ → Bool
 met end edges v = list_any (λ e. end e == v) edges
 
 -- behind edges with smaller ends, edges with one end add it
-module _ (end : Edge → ℕ) (k : ℕ) (a b : List Edge) (low : All (λ e. end e < k) a) (same : All (λ e. end e ≡ k) b) (some : 0 < length b) where
-  none_in : (P : Edge → Type 0) (xs : List Edge) (v : ℕ) → All P xs → ((e : Edge) → P e → end e ≡ v → ⊥) → met end xs v ≡ false
-  none_in P xs v all other = list_any_none (λ e. end e == v) xs (λ i d lt. ne_eqb (end (get_or xs i d)) v (other (get_or xs i d) (all i d lt)))
+module _ (end : Edge → ℕ) (k : ℕ) (a b : List Edge) (low : All (λ e. end e < k) a) (same : All (λ e. end e ≡ k) b)
+    (some : 0 < length b) where
+  none_in : (P : Edge → Type 0) (xs : List Edge) (v : ℕ) → All P xs → ((e : Edge) → P e → end e ≡ v → ⊥)
+      → met end xs v ≡ false
+  none_in P xs v all other = list_any_none (λ e. end e == v) xs
+      (λ i d lt. ne_eqb (end (get_or xs i d)) v (other (get_or xs i d) (all i d lt)))
 
   met_below : (v : ℕ) → v < k → met end (a ++ b) v ≡ met end a v
   met_below v lt =
@@ -65,11 +68,13 @@ module _ (end : Edge → ℕ) (k : ℕ) (a b : List Edge) (low : All (λ e. end 
       filter_same p q lower (all_range (λ v. p v ≡ q v) 0 k (λ v low high. met_below v (omega arith))) in
       let back : filter p (k ∷ range_with_len (k + 1) m) ≡ k ∷ [] =
       ap (λ c. cond c (k ∷ filter p upper) (filter p upper)) (met_here d)
-      ∙ ap (λ vs. k ∷ vs) (filter_none p upper (all_range (λ v. p v ≡ false) (k + 1) m (λ v low high. met_above v (omega arith)))) in
+      ∙ ap (λ vs. k ∷ vs) (filter_none p upper (all_range (λ v. p v ≡ false) (k + 1) m
+      (λ v low high. met_above v (omega arith)))) in
       let none : filter q (k ∷ range_with_len (k + 1) m) ≡ [] =
       filter_none q (k ∷ upper) (all_range (λ v. q v ≡ false) k (suc m) (λ v low high. first_none v low)) in
       let whole : ends_met end (k + suc m) a ≡ filter q (range_with_len 0 k) =
-      ap (filter q) (range_at m) ∙ filter-append q lower (k ∷ upper) ∙ ap (λ vs. filter q lower ++ vs) none ∙ append-nil (filter q lower) in
+      ap (filter q) (range_at m) ∙ filter-append q lower (k ∷ upper) ∙ ap (λ vs. filter q lower ++ vs) none
+      ∙ append-nil (filter q lower) in
       ap (filter p) (range_at m)
       ∙ filter-append p lower (k ∷ upper)
       ∙ ap (λ vs. vs ++ filter p (k ∷ upper)) front
@@ -83,7 +88,8 @@ module _ (end : Edge → ℕ) (k : ℕ) (a b : List Edge) (low : All (λ e. end 
 
 -- the edges that have the end of the one at a place, from there on
 module _ (end : Edge → ℕ) (edges : List Edge) (order : IsNonDecreasingBy end edges) (start k : ℕ) (d : Edge)
-    (inside : start < length edges) (is : k ≡ end (get_or edges start d)) (before : (i : ℕ) → i < start → end (get_or edges i d) < k) where
+    (inside : start < length edges) (is : k ≡ end (get_or edges start d))
+    (before : (i : ℕ) → i < start → end (get_or edges i d) < k) where
   abbrev same : Edge → Bool
   same e = end e == k
 
@@ -112,30 +118,41 @@ module _ (end : Edge → ℕ) (edges : List Edge) (order : IsNonDecreasingBy end
   run_part =
       All-from_get_or (λ e. end e ≡ k) (take count rest) d
       (λ i lt. let low : i < prefix_len same (drop start edges) = omega (arith, length-take count rest) in
-      subst (λ (e : Edge). end e ≡ k) (sym (get_or-take count rest i d low)) (eqb-true _ _ (prefix_len_passes same rest i d low)))
+      subst (λ (e : Edge). end e ≡ k) (sym (get_or-take count rest i d low))
+      (eqb-true _ _ (prefix_len_passes same rest i d low)))
 
   -- an edge behind the run has a greater end
-  pub above_run : (i : ℕ) → start + prefix_len (λ e. end e == k) (drop start edges) ≤ i → i < length edges → k < end (get_or edges i d)
+  pub above_run : (i : ℕ) → start + prefix_len (λ e. end e == k) (drop start edges) ≤ i → i < length edges
+      → k < end (get_or edges i d)
   above_run i le lt =
       let stop : prefix_len same (drop start edges) < length (drop start edges) = omega (arith, size) in
-      let other : end (get_or (drop start edges) (prefix_len same (drop start edges)) d) ≡ k → ⊥ = eqb-false _ _ (prefix_len_stops same rest d stop) in
-      let at : get_or (drop start edges) (prefix_len same (drop start edges)) d ≡ get_or edges (start + prefix_len same (drop start edges)) d = get_or-drop start edges count d in
-      let up : end (get_or edges start d) ≤ end (get_or edges (start + prefix_len same (drop start edges)) d) = order start (start + count) d (omega arith) (omega arith) in
-      let on : end (get_or edges (start + prefix_len same (drop start edges)) d) ≤ end (get_or edges i d) = order (start + count) i d le lt in
-      let apart : end (get_or edges (start + prefix_len same (drop start edges)) d) ≡ k → ⊥ = λ e. other (ap end at ∙ e) in
+      let other : end (get_or (drop start edges) (prefix_len same (drop start edges)) d) ≡ k → ⊥ =
+      eqb-false _ _ (prefix_len_stops same rest d stop) in
+      let at : get_or (drop start edges) (prefix_len same (drop start edges)) d
+      ≡ get_or edges (start + prefix_len same (drop start edges)) d = get_or-drop start edges count d in
+      let up : end (get_or edges start d) ≤ end (get_or edges (start + prefix_len same (drop start edges)) d) =
+      order start (start + count) d (omega arith) (omega arith) in
+      let on : end (get_or edges (start + prefix_len same (drop start edges)) d) ≤ end (get_or edges i d) =
+      order (start + count) i d le lt in
+      let apart : end (get_or edges (start + prefix_len same (drop start edges)) d) ≡ k → ⊥ =
+      λ e. other (ap end at ∙ e) in
       omega (arith, is)
 
   -- those before it and in it have smaller ones
-  pub below_next : (i j : ℕ) → i < start + prefix_len (λ e. end e == k) (drop start edges) → start + prefix_len (λ e. end e == k) (drop start edges) ≤ j → j < length edges → end (get_or edges i d) < end (get_or edges j d)
+  pub below_next : (i j : ℕ) → i < start + prefix_len (λ e. end e == k) (drop start edges)
+      → start + prefix_len (λ e. end e == k) (drop start edges) ≤ j → j < length edges
+      → end (get_or edges i d) < end (get_or edges j d)
   below_next i j lt le within =
       let high = above_run j le within in
       ⊎_elim
       (λ (low : i < start). let first = before i low in omega arith)
       (λ (from : start ≤ i).
-      let at : get_or (drop start edges) (i - start) d ≡ get_or edges (start + (i - start)) d = get_or-drop start edges (i - start) d in
+      let at : get_or (drop start edges) (i - start) d ≡ get_or edges (start + (i - start)) d =
+      get_or-drop start edges (i - start) d in
       let place : start + (i - start) ≡ i = omega arith in
       let here : end (get_or edges i d) ≡ k =
-      ap (λ z. end (get_or edges z d)) (sym place) ∙ ap end (sym at) ∙ eqb-true _ _ (prefix_len_passes same rest (i - start) d (omega arith)) in
+      ap (λ z. end (get_or edges z d)) (sym place) ∙ ap end (sym at)
+      ∙ eqb-true _ _ (prefix_len_passes same rest (i - start) d (omega arith)) in
       omega arith)
       (cases_lt i start)
 
@@ -143,20 +160,27 @@ module _ (end : Edge → ℕ) (edges : List Edge) (order : IsNonDecreasingBy end
   behind_part =
       All-from_get_or (λ e. k < end e) (drop count rest) d
       (λ i lt.
-      let at : get_or (drop (prefix_len same (drop start edges)) (drop start edges)) i d ≡ get_or edges (start + (prefix_len same (drop start edges) + i)) d =
+      let at : get_or (drop (prefix_len same (drop start edges)) (drop start edges)) i d
+      ≡ get_or edges (start + (prefix_len same (drop start edges) + i)) d =
       get_or-drop count rest i d ∙ get_or-drop start edges (count + i) d in
-      let room : i < length edges - start - prefix_len same (drop start edges) = omega (arith, length-drop count rest, size) in
+      let room : i < length edges - start - prefix_len same (drop start edges) =
+      omega (arith, length-drop count rest, size) in
       subst (λ (e : Edge). k < end e) (sym at) (above_run (start + (count + i)) (omega arith) (omega arith)))
 
   pub run_edges : slice_range edges start (start + prefix_len (λ e. end e == k) (drop start edges)) ≡ bucket end k edges
   run_edges =
       let run = take count rest in
       let behind = drop count rest in
-      let none : (P : Edge → Type 0) (xs : List Edge) → All P xs → ((e : Edge) → P e → end e ≡ k → ⊥) → filter same xs ≡ [] =
-      λ P xs all other. filter_none same xs (all_weaker P (λ e. same e ≡ false) (λ e p. ne_eqb (end e) k (other e p)) xs (recursion_from_All P xs all)) in
-      let mid : filter same (take (prefix_len same (drop start edges)) (drop start edges)) ≡ take (prefix_len same (drop start edges)) (drop start edges) =
-      filter_all same run (all_weaker (λ e. end e ≡ k) (λ e. same e ≡ true) (λ e p. eq-eqb (end e) k p) run (recursion_from_All (λ e. end e ≡ k) run run_part)) in
-      let length' : start + prefix_len same (drop start edges) - start ≡ prefix_len same (drop start edges) = omega arith in
+      let none : (P : Edge → Type 0) (xs : List Edge) → All P xs → ((e : Edge) → P e → end e ≡ k → ⊥)
+      → filter same xs ≡ [] =
+      λ P xs all other. filter_none same xs (all_weaker P (λ e. same e ≡ false) (λ e p. ne_eqb (end e) k (other e p)) xs
+      (recursion_from_All P xs all)) in
+      let mid : filter same (take (prefix_len same (drop start edges)) (drop start edges))
+      ≡ take (prefix_len same (drop start edges)) (drop start edges) =
+      filter_all same run (all_weaker (λ e. end e ≡ k) (λ e. same e ≡ true) (λ e p. eq-eqb (end e) k p) run
+      (recursion_from_All (λ e. end e ≡ k) run run_part)) in
+      let length' : start + prefix_len same (drop start edges) - start ≡ prefix_len same (drop start edges) =
+      omega arith in
       let parts : bucket end k edges ≡ take (prefix_len same (drop start edges)) (drop start edges) =
       ap (filter same) (sym (take-append-drop start edges))
       ∙ filter-append same (take start edges) rest
@@ -168,7 +192,8 @@ module _ (end : Edge → ℕ) (edges : List Edge) (order : IsNonDecreasingBy end
       ∙ mid in
       ap (λ z. take z rest) length' ∙ sym parts
 
-  pub run_met : (n : ℕ) → k < n → ends_met end n (take (start + prefix_len (λ e. end e == k) (drop start edges)) edges) ≡ ends_met end n (take start edges) ++ k ∷ []
+  pub run_met : (n : ℕ) → k < n → ends_met end n (take (start + prefix_len (λ e. end e == k) (drop start edges)) edges)
+      ≡ ends_met end n (take start edges) ++ k ∷ []
   run_met n lt =
       let some : 0 < length (take (prefix_len same (drop start edges)) (drop start edges)) =
       omega (arith, length-take count rest, prefix_len-le-length same rest, run_some) in
@@ -178,7 +203,8 @@ module _ (end : Edge → ℕ) (edges : List Edge) (order : IsNonDecreasingBy end
 -- the spans of the edges before a place, behind which greater ends stand
 pub record IsSpanning (end : Edge → ℕ) (edges : List Edge) (start : ℕ) (spans : List Span) : Type 0 where
   pub within : start ≤ length edges
-  pub before : (i j : ℕ) (d : Edge) → i < start → start ≤ j → j < length edges → end (get_or edges i d) < end (get_or edges j d)
+  pub before : (i j : ℕ) (d : Edge) → i < start → start ≤ j → j < length edges
+      → end (get_or edges i d) < end (get_or edges j d)
   pub vertices : (n : ℕ) → All (λ e. end e < n) edges → map vertex_of spans ≡ ends_met end n (take start edges)
   pub each : All (IsSpan end edges) spans
 
@@ -186,28 +212,38 @@ none_yet : (end : Edge → ℕ) (edges : List Edge) → IsSpanning end edges 0 [
 none_yet end edges = record {
   within = omega arith;
   before = λ i j d lt le within. absurd (omega arith);
-  vertices = λ n below. sym (filter_none (λ v. false) (range_with_len 0 n) (all_range (λ v. false ≡ false) 0 n (λ v low high. refl)));
+  vertices = λ n below. sym (filter_none (λ v. false) (range_with_len 0 n)
+      (all_range (λ v. false ≡ false) 0 n (λ v low high. refl)));
   each = λ k d lt. absurd (omega arith);
 }
 
 pub spanning_none : (end : Edge → ℕ) (edges : List Edge) (spans : List Span) → spans ≡ [] → IsSpanning end edges 0 spans
 spanning_none end edges spans none = subst (IsSpanning end edges 0) (sym none) (none_yet end edges)
 
-pub spanning_more : (end : Edge → ℕ) (edges : List Edge) (start stop k : ℕ) (d : Edge) (spans more : List Span) (span : Span) →
+pub spanning_more : (end : Edge → ℕ) (edges : List Edge) (start stop k : ℕ) (d : Edge) (spans more : List Span)
+    (span : Span) →
     IsNonDecreasingBy end edges → start < length edges → k ≡ end (get_or edges start d) →
     stop ≡ start + prefix_len (λ e. end e == k) (drop start edges) →
     span ≡ record { vertex = record { 0 = k }; start = start; end = stop } → more ≡ spans ++ span ∷ [] →
     IsSpanning end edges start spans → IsSpanning end edges stop more
 spanning_more end edges start stop k d spans more span order inside is at here added so_far =
-    let before : (i : ℕ) → i < start → end (get_or edges i d) < k = λ i lt. let low = so_far.before i start d lt (omega arith) inside in omega arith in
+    let before : (i : ℕ) → i < start → end (get_or edges i d) < k = λ i lt. let low =
+    so_far.before i start d lt (omega arith) inside in omega arith in
     let count : ℕ = prefix_len (λ e. end e == k) (drop start edges) in
-    let within : start + prefix_len (λ e. end e == k) (drop start edges) ≤ length edges = run_within end edges order start k d inside is before in
-    let one : IsSpan end edges (record { vertex = record { 0 = k }; start = start; end = start + prefix_len (λ e. end e == k) (drop start edges) }) = record {
+    let within : start + prefix_len (λ e. end e == k) (drop start edges) ≤ length edges =
+    run_within end edges order start k d inside is before in
+    let one : IsSpan end edges (record {
+      vertex = record { 0 = k };
+      start = start;
+      end =
+          start + prefix_len (λ e. end e == k) (drop start edges);
+    }) = record {
       some = run_some end edges order start k d inside is before;
       within = within;
       stand = run_edges end edges order start k d inside is before;
     } in
-    let last : IsSpan end edges span = subst (IsSpan end edges) (ap (λ z. record { vertex = record { 0 = k }; start = start; end = z }) (sym at) ∙ sym here) one in
+    let last : IsSpan end edges span = subst (IsSpan end edges)
+    (ap (λ z. record { vertex = record { 0 = k }; start = start; end = z }) (sym at) ∙ sym here) one in
     record {
       within = omega arith;
       before = λ i j e lt le inside'.
@@ -234,7 +270,8 @@ spanning_all end edges start n spans done below so_far = record {
 }
 
 -- the first edges of a list that have an end, where another one follows
-pub run_stops : (end : Edge → ℕ) (v : ℕ) (xs : List Edge) (n x : ℕ) (d : Edge) → n < length xs → x ≡ end (get_or xs n d) → (x ≡ v → ⊥) →
+pub run_stops : (end : Edge → ℕ) (v : ℕ) (xs : List Edge) (n x : ℕ) (d : Edge) → n < length xs → x ≡ end (get_or xs n d)
+    → (x ≡ v → ⊥) →
     ((k : ℕ) (e : Edge) → k < n → end (get_or xs k e) ≡ v) → n ≡ prefix_len (λ e. end e == v) xs
 run_stops end v xs n x d lt is other same =
     sym (prefix_len_is (λ e. end e == v) xs n d (omega arith)
@@ -242,13 +279,16 @@ run_stops end v xs n x d lt is other same =
     (λ _. ne_eqb (end (get_or xs n d)) v (λ e. other (is ∙ e))))
 
 -- and where there are no more
-pub run_ends : (end : Edge → ℕ) (v n : ℕ) (xs : List Edge) → length xs ≤ n → ((k : ℕ) (e : Edge) → k < n → end (get_or xs k e) ≡ v) → length xs ≡ prefix_len (λ e. end e == v) xs
+pub run_ends : (end : Edge → ℕ) (v n : ℕ) (xs : List Edge) → length xs ≤ n
+    → ((k : ℕ) (e : Edge) → k < n → end (get_or xs k e) ≡ v) → length xs ≡ prefix_len (λ e. end e == v) xs
 run_ends end v n [] le same = refl
 run_ends end v n (x ∷ xs) le same =
-    sym (prefix_len_is (λ e. end e == v) (x ∷ xs) (length (x ∷ xs)) x (omega arith) (λ k low. eq-eqb (end (get_or (x ∷ xs) k x)) v (same k x (omega arith))) (λ lt. absurd (omega arith)))
+    sym (prefix_len_is (λ e. end e == v) (x ∷ xs) (length (x ∷ xs)) x (omega arith)
+    (λ k low. eq-eqb (end (get_or (x ∷ xs) k x)) v (same k x (omega arith))) (λ lt. absurd (omega arith)))
 
 -- a run reaches at most to the end, and has the edge at its front
-pub run_fits : (end : Edge → ℕ) (edges rest : List Edge) (start count k : ℕ) (d : Edge) → start < length edges → k ≡ end (get_or edges start d) →
+pub run_fits : (end : Edge → ℕ) (edges rest : List Edge) (start count k : ℕ) (d : Edge) → start < length edges
+    → k ≡ end (get_or edges start d) →
     rest ≡ drop start edges → count ≡ prefix_len (λ e. end e == k) rest → (start + count ≤ length edges) × (0 < count)
 run_fits end edges rest start count k d inside is here run =
     let same : Edge → Bool = λ e. end e == k in
@@ -257,17 +297,21 @@ run_fits end edges rest start count k d inside is here run =
       omega (arith, at, prefix_len-drop_yes same edges start d inside (eq-eqb _ _ (sym is))),
     )
 
-rises_at : (end : Edge → ℕ) (xs : List Edge) → Rises end xs → (i j : ℕ) (d : Edge) → i ≤ j → j < length xs → end (get_or xs i d) ≤ end (get_or xs j d)
+rises_at : (end : Edge → ℕ) (xs : List Edge) → Rises end xs → (i j : ℕ) (d : Edge) → i ≤ j → j < length xs
+    → end (get_or xs i d) ≤ end (get_or xs j d)
 rises_at end [] up i j d le lt = absurd (omega arith)
 rises_at end (x ∷ xs) up zero zero d le lt = omega arith
-rises_at end (x ∷ xs) up zero (suc j) d le lt = All-get_or (λ y. end x ≤ end y) xs j d (omega arith) (All-from_recursion (λ y. end x ≤ end y) xs up.0)
+rises_at end (x ∷ xs) up zero (suc j) d le lt = All-get_or (λ y. end x ≤ end y) xs j d (omega arith)
+    (All-from_recursion (λ y. end x ≤ end y) xs up.0)
 rises_at end (x ∷ xs) up (suc i) zero d le lt = absurd (omega arith)
 rises_at end (x ∷ xs) up (suc i) (suc j) d le lt = rises_at end xs up.1 i j d (omega arith) (omega arith)
 
 -- a list that is in order
 pub ordered : (end : Edge → ℕ) (n : ℕ) (xs ys : List Edge) → ys ≡ in_order end n xs → IsNonDecreasingBy end ys
-ordered end n xs ys is = subst (IsNonDecreasingBy end) (sym is) (rises_at end (in_order end n xs) (in_order_rises end n xs))
+ordered end n xs ys is = subst (IsNonDecreasingBy end) (sym is)
+    (rises_at end (in_order end n xs) (in_order_rises end n xs))
 
 -- has only ends below the bound
 pub ordered_below : (end : Edge → ℕ) (n : ℕ) (xs ys : List Edge) → ys ≡ in_order end n xs → All (λ e. end e < n) ys
-ordered_below end n xs ys is = subst (All (λ e. end e < n)) (sym is) (All-from_recursion (λ e. end e < n) (in_order end n xs) (in_order_below end n xs))
+ordered_below end n xs ys is = subst (All (λ e. end e < n)) (sym is)
+    (All-from_recursion (λ e. end e < n) (in_order end n xs) (in_order_below end n xs))

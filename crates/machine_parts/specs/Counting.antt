@@ -19,7 +19,8 @@ edges_at rows degrees place = if (row_at rows place).active then (slice_index_or
 
 -- the environment of the own vertex at a place, by one that has the numbers of the round
 abbrev pub own_env : List Row → List Degree → ℕ → Env → ℕ → Env
-own_env rows degrees start env place = entered (start + place) (slice_index_or degrees place no_degree) 0 (with_rows (row_at rows place) env)
+own_env rows degrees start env place = entered (start + place) (slice_index_or degrees place no_degree) 0
+    (with_rows (row_at rows place) env)
 
 -- a total over the own vertices
 abbrev pub own_total : List Row → List Degree → ℕ → Env → TotalDecl → ℤ

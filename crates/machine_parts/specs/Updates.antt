@@ -15,7 +15,8 @@ told_values sent = sent.values ++ sent.operands
 -- partials with a word for one of them, where it is there
 abbrev pub with_told : ℕ → Option ℤ → ℕ → List Partial → List Partial
 with_told key None column ps = ps
-with_told key (Some word) column ps = slice_set ps column (with_word key word (slice_index_or ps column (empty_partial Sum)))
+with_told key (Some word) column ps = slice_set ps column
+    (with_word key word (slice_index_or ps column (empty_partial Sum)))
 
 abbrev pub nothing : Sent
 nothing = record { values = []; operands = [] }
@@ -23,4 +24,5 @@ nothing = record { values = []; operands = [] }
 -- the partials of the own vertices, which begin at a number, with what is told under a key of each of a list
 abbrev pub with_sents : ℕ → ℕ → List ℕ → List Sent → List (List Partial) → List (List Partial)
 with_sents start key vertices sents all =
-    map (λ v. with_sent key (beside nothing v vertices sents) (slice_index_or all (v - start) [])) (range_with_len start (length all))
+    map (λ v. with_sent key (beside nothing v vertices sents) (slice_index_or all (v - start) []))
+    (range_with_len start (length all))

@@ -12,7 +12,8 @@ use body_shape::{Counts, put_row, put_tally, put_verdict};
 use std::alloc::Global;
 use vert_base::{Ruling, VertexId, Want};
 
-/// The rows of some own vertices, which begin at `start`, as a refresh tells them. Memory is wanted once.
+/// The rows of some own vertices, which begin at `start`, as a refresh tells them. Memory is wanted
+/// once.
 pub fn refresh_body(
     alloc: Global,
     list: &[VertexId],

@@ -87,13 +87,13 @@ pub fn read_row_of(rows: &Rows, place: usize, env: &mut Env)
     rows.read(place, &mut env.other_row);
 }
 
-/// Goes to a vertex whose row the environment has already. What the vertex before has left there is gone, but for the
-/// values of slots.
+/// Goes to a vertex whose row the environment has already. What the vertex before has left there is
+/// gone, but for the values of slots.
 #[inline]
 pub fn enter(env: &mut Env, id: VertexId, degree: &Degree, key: u32)
     ensures entered { env.new ≡ entered id.0 degree.now key env.old }
-    ensures seen { (g : Sight) (values : List (Option ℤ)) → IsReadyFor g id.0 degree.now values env.old
-        → env.new ≡ seen_env g id.0 key values }
+    ensures seen { (g : Sight) (values : List (Option ℤ))
+        → IsReadyFor g id.0 degree.now values env.old → env.new ≡ seen_env g id.0 key values }
 {
     env.id = id;
     env.indeg = degree.ins;

@@ -8,8 +8,8 @@ use std::alloc::Global;
 use symple_face::Part;
 use vert_base::{Edge, VertexId, Want};
 
-/// Where the edges of each target stand in what a machine scans, and those of each source in what it pushes over; and
-/// the source of each edge that it scans, by which reads are lent.
+/// Where the edges of each target stand in what a machine scans, and those of each source in what
+/// it pushes over; and the source of each edge that it scans, by which reads are lent.
 #[derive(Drop)]
 pub struct Groups {
     pub targets: Vec<Span>,

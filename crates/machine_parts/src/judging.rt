@@ -11,8 +11,8 @@ use vert_base::Ruling;
 use vert_eval::{Env, eval, truth};
 use vert_tree::{Expr, Program};
 
-/// The ruling for the round behind that of an environment, which has the totals of all vertices, by the sums over all
-/// machines and the number of all edges.
+/// The ruling for the round behind that of an environment, which has the totals of all vertices, by
+/// the sums over all machines and the number of all edges.
 pub fn rule(program: &Program, env: &Env, sums: &Counts, edges: u32) -> Ruling
     requires names { IsStopPlaced program.now.stop env.now }
     requires draws { CanDraw env.now }

@@ -1,5 +1,6 @@
-//! What a machine does without code: the tables of its part, rows and ring states laid flat, a feed over them, one
-//! environment that is entered at vertex after vertex, and the bodies of its messages.
+//! What a machine does without code: the tables of its part, rows and ring states laid flat, a feed
+//! over them, one environment that is entered at vertex after vertex, and the bodies of its
+//! messages.
 #![tactic(auto)]
 
 mod bodies;

@@ -7,8 +7,9 @@ use crate::rows::Rows;
 use symple_face::{Degree, Feed};
 use vert_base::{Edge, Neighbour, Row};
 
-/// The sources of some edges, which are a machine's own vertices, with their rows. The own vertices begin at `start`,
-/// and each has its place in `rows` and `degrees`; `given` counts the sources that were given.
+/// The sources of some edges, which are a machine's own vertices, with their rows. The own vertices
+/// begin at `start`, and each has its place in `rows` and `degrees`; `given` counts the sources
+/// that were given.
 #[derive(Drop)]
 pub struct PartFeed<'a> {
     pub edges: &'a [Edge],
@@ -20,9 +21,11 @@ pub struct PartFeed<'a> {
 }
 
 impl<'a> Feed for PartFeed<'a> {
-    ghost given = { λ f. map (member_in f.start f.degrees.now f.rows.now.rows) (take f.given f.edges.now) };
+    ghost given = { λ f.
+        map (member_in f.start f.degrees.now f.rows.now.rows) (take f.given f.edges.now) };
 
-    ghost left = { λ f. map (member_in f.start f.degrees.now f.rows.now.rows) (drop f.given f.edges.now) };
+    ghost left = { λ f.
+        map (member_in f.start f.degrees.now f.rows.now.rows) (drop f.given f.edges.now) };
 
     fn next(&mut self, row: &mut Row) -> Option<Neighbour> {
         let edge = self.edges.get(self.given)?;

@@ -27,7 +27,10 @@ impl Model for RingHalf {
 
     ghost Value = { StateTable };
 
-    ghost view = { λ r. record { width = r.width; states = states_with r.marks.items r.words.rows } };
+    ghost view = { λ r. record {
+      width = r.width;
+      states = states_with r.marks.items r.words.rows;
+    } };
 
     ghost invariant = { λ r. AreLaid 8 r.width (length r.marks.items) r.words
         × AreStill r.width (states_with r.marks.items r.words.rows) };
@@ -50,8 +53,8 @@ impl RingHalf {
         })
     }
 
-    /// The states that a body spells, of so many vertices. Word i of a vertex is a `Bool` where bit i of
-    /// `bools` is set.
+    /// The states that a body spells, of so many vertices. Word i of a vertex is a `Bool` where bit
+    /// i of `bools` is set.
     pub fn read(
         alloc: Global,
         width: usize,

@@ -18,7 +18,8 @@ pub struct Span {
     pub end: u32,
 }
 
-/// The spans of all vertices at one end of edges that are in order of it. It goes through the edges once.
+/// The spans of all vertices at one end of edges that are in order of it. It goes through the edges
+/// once.
 pub fn spans_of(alloc: Global, edges: &[Edge], side: Side) -> Result<Vec<Span>, Want>
     requires order { IsNonDecreasingBy (key_of side) edges.now }
     requires few { length edges.now ≤ EDGES }

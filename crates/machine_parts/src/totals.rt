@@ -14,7 +14,8 @@ use vert_base::{Combine, VertexId};
 use vert_eval::{Env, eval};
 use vert_tree::{Expr, TotalDecl};
 
-/// The totals over own vertices, which begin at `start`. It goes through the vertices once, and enters each.
+/// The totals over own vertices, which begin at `start`. It goes through the vertices once, and
+/// enters each.
 pub fn own_totals(
     totals: &[TotalDecl],
     rows: &Rows,
@@ -80,7 +81,8 @@ fn with_value(op: Combine, held: &[i64], place: usize, value: &Expr, env: &Env) 
     requires place { place < length held.now }
     requires names { IsTrue (expr_placed (counts_of env.now) value.now) }
     requires draws { CanDraw env.now }
-    ensures { result ≡ combined_of op (slice_index_or held.now place (pos 0)) (value_of value.now env.now) }
+    ensures { result
+        ≡ combined_of op (slice_index_or held.now place (pos 0)) (value_of value.now env.now) }
 {
     let word = held[place];
     combined(op, word, eval(value, env))

@@ -19,8 +19,8 @@ pub struct SentWords {
     pub reduced: usize,
 }
 
-/// Adds what an update tells of some own vertices to their partials, under a key. The own vertices begin at `start`. It
-/// takes no memory.
+/// Adds what an update tells of some own vertices to their partials, under a key. The own vertices
+/// begin at `start`. It takes no memory.
 pub fn merge_update(
     body: &[u8],
     list: &[VertexId],

@@ -11,13 +11,20 @@ pub returns-then-not-has : goal.returns-then-not-has
 returns-then-not-has c =
     let needs = needs_of c.args.ring.now c.args.m c.args.spot.now in
     let held = c.args.held.now.letters in
-    let none : is_some (found c.in-Some.name c.args.held.now.letters) ≡ false = sym c.has.ensures.has ∙ c.if-not-has.true in
+    let none : is_some (found c.in-Some.name c.args.held.now.letters) ≡ false =
+    sym c.has.ensures.has ∙ c.if-not-has.true in
     sym (c.needs.invariant.1 ∙ missing_here needs held c.needs.place c.in-Some.name (sym c.in-Some.ensures) none)
 
 pub overflow_add-place : goal.overflow_add-place
 overflow_add-place c =
     let needs = needs_of c.args.ring.now c.args.m c.args.spot.now in
-    omega (arith, slice_get_within needs c.needs.place c.in-Some.name (sym c.in-Some.ensures), needs_few c.args.ring.now c.args.m c.args.spot.now c.requires.machine, c.requires.few)
+    omega (
+      arith,
+      slice_get_within needs c.needs.place c.in-Some.name (sym c.in-Some.ensures),
+      needs_few c.args.ring.now
+          c.args.m c.args.spot.now c.requires.machine,
+      c.requires.few,
+    )
 
 pub needs-smaller : goal.needs-smaller
 needs-smaller c =
@@ -28,7 +35,8 @@ pub needs-preserved : goal.needs-preserved
 needs-preserved c =
     let needs = needs_of c.args.ring.now c.args.m c.args.spot.now in
     let held = c.args.held.now.letters in
-    let some : is_some (found c.in-Some.name c.args.held.now.letters) ≡ true = sym c.has.ensures.has ∙ c.if-not-has.false in (
+    let some : is_some (found c.in-Some.name c.args.held.now.letters) ≡ true =
+    sym c.has.ensures.has ∙ c.if-not-has.false in (
       omega (arith, slice_get_within needs c.needs.place c.in-Some.name (sym c.in-Some.ensures)),
       c.needs.invariant.1 ∙ missing_later needs held c.needs.place c.in-Some.name (sym c.in-Some.ensures) some,
     )
@@ -36,4 +44,5 @@ needs-preserved c =
 pub returns : goal.returns
 returns c =
     let needs = needs_of c.args.ring.now c.args.m c.args.spot.now in
-    sym (c.needs.invariant.1 ∙ missing_none needs c.args.held.now.letters c.needs.place (sym c.need.ensures ∙ c.in_default.is))
+    sym (c.needs.invariant.1 ∙ missing_none needs c.args.held.now.letters c.needs.place
+    (sym c.need.ensures ∙ c.in_default.is))

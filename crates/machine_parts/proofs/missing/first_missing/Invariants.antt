@@ -7,7 +7,8 @@ use Rattle.machine_parts.proofs.missing.first_missing.Given as goal
 abbrev pub invariant-needs : goal.invariant-needs
 invariant-needs l =
     (l.place ≤ length (needs_of l.ring l.m l.spot))
-    × (first_missing (needs_of l.ring l.m l.spot) l.held.letters ≡ first_missing (drop l.place (needs_of l.ring l.m l.spot)) l.held.letters)
+    × (first_missing (needs_of l.ring l.m l.spot) l.held.letters
+    ≡ first_missing (drop l.place (needs_of l.ring l.m l.spot)) l.held.letters)
 
 abbrev pub decreases-needs : goal.decreases-needs
 decreases-needs l = length (needs_of l.ring l.m l.spot) - l.place

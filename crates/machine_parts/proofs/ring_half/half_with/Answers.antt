@@ -14,7 +14,9 @@ loop-place-preserved g c =
     let so_far = c.loop-place.invariant in
     record {
       width = ap (λ (t : StateTable). t.width) c.put.ensures ∙ so_far.width;
-      count = ap (λ (t : StateTable). length t.states) c.put.ensures ∙ length-set now.states i (state_of state) ∙ so_far.count;
-      put = put_more state_of c.args.states.now i state state now.states c.put.new.self.states c.loop-place-test.true so_far.count
+      count = ap (λ (t : StateTable). length t.states) c.put.ensures ∙ length-set now.states i (state_of state)
+          ∙ so_far.count;
+      put = put_more state_of c.args.states.now i state state now.states c.put.new.self.states c.loop-place-test.true
+          so_far.count
           c.index-states-place.is so_far.put (ap (λ (t : StateTable). t.states) c.put.ensures);
     }

@@ -10,6 +10,11 @@ use Rattle.machine_parts.proofs.ring_half.read_half.Goals as goal
 pub returns-in-Ok : goal.returns-in-Ok
 returns-in-Ok g c =
     let table : List State → StateTable = λ states. record { width = g.row.W; states = states } in
-    let again = read_again g.row.W c.args.vertices c.args.bools c.args.body.now (states_of c.in-Ok.states.items) c.in-Ok.ensures.found in
-    ok_more c.half_with.result _ (λ half. half ≡ record { width = g.row.W; states = read_of g.row.W c.args.vertices c.args.body.now })
+    let again = read_again g.row.W c.args.vertices c.args.bools c.args.body.now (states_of c.in-Ok.states.items)
+    c.in-Ok.ensures.found in
+    ok_more c.half_with.result _ (λ half. half ≡ record {
+      width = g.row.W;
+      states =
+          read_of g.row.W c.args.vertices c.args.body.now;
+    })
     (λ half same. same ∙ ap table (ap states_of c.deref.ensures.value ∙ sym again)) c.half_with.ensures

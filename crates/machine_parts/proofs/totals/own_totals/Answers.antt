@@ -16,10 +16,13 @@ places-preserved c =
     let env = c.enter.new.env in
     let totals = c.args.totals.now in
     let so_far = c.places.invariant in
-    let within : c.places.place < length c.args.degrees.now = omega (arith, c.places-test.true, c.len-place-end.ensures, c.requires.each) in
-    let here = own_here rows degrees start place first now read env _ so_far.env c.read_row_of.ensures.row c.enter.ensures.entered within in
+    let within : c.places.place < length c.args.degrees.now =
+    omega (arith, c.places-test.true, c.len-place-end.ensures, c.requires.each) in
+    let here = own_here rows degrees start place first now read env _ so_far.env c.read_row_of.ensures.row
+    c.enter.ensures.entered within in
     record {
-      env = settled_here rows degrees start place first now read env _ so_far.env c.read_row_of.ensures.row c.enter.ensures.entered;
+      env = settled_here rows degrees start place first now read env _ so_far.env c.read_row_of.ensures.row
+          c.enter.ensures.entered;
       words = c.with_values-words.ensures ∙ ap (values_added env totals) (c.as_slice.ensures.value ∙ so_far.words)
           ∙ totals_more rows degrees start place first env totals here;
     }

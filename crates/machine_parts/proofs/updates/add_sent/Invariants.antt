@@ -7,4 +7,5 @@ use Rattle.machine_parts.proofs.updates.add_sent.Given as goal
 
 abbrev pub invariant-loop-column : goal.invariant-loop-column
 invariant-loop-column l =
-    l.partials ≡ added l.key l.place (take l.column (told_values (sent_at l.words.slots l.words.reduced l.update))) l.initial.partials
+    l.partials ≡ added l.key l.place (take l.column (told_values (sent_at l.words.slots l.words.reduced l.update)))
+    l.initial.partials

@@ -14,5 +14,6 @@ invariant-loop-vertex l =
       width : l.partials.width ≡ l.initial.partials.width;
       count : length l.partials.rows ≡ length l.initial.partials.rows;
       each : All (λ ps. length ps ≡ l.initial.partials.width) l.partials.rows;
-      all : merged l.start l.key (drop l.vertex-index ids) left l.partials.rows ≡ merged l.start l.key ids sents l.initial.partials.rows;
+      all : merged l.start l.key (drop l.vertex-index ids) left l.partials.rows
+          ≡ merged l.start l.key ids sents l.initial.partials.rows;
     }

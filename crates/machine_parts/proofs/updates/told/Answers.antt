@@ -6,7 +6,8 @@ use Rattle.machine_parts.proofs.updates.told.Goals as goal
 pub returns-then-column-words : goal.returns-then-column-words
 returns-then-column-words c =
     let w = c.args.words.now in
-    c.value_at.ensures w.reduced ∙ sym (told_slot w.slots w.reduced c.args.update.now c.args.column c.if-column-words.true)
+    c.value_at.ensures w.reduced ∙ sym (told_slot w.slots w.reduced c.args.update.now c.args.column
+    c.if-column-words.true)
 
 pub returns-else-column-words : goal.returns-else-column-words
 returns-else-column-words c =

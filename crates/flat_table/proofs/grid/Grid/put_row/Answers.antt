@@ -5,4 +5,10 @@ use Rattle.flat_table.proofs.grid.Grid.put_row.Goals as goal
 
 pub copy_row-requires-clause-place : goal.copy_row-requires-clause-place
 copy_row-requires-clause-place g c =
-    omega (arith, ap (λ v. length v.rows) c.self.view_is, length-rows_of c.self.inside.width c.self.inside.count c.self.inside.cells.items, c.requires.place)
+    omega (
+      arith,
+      ap (λ v. length v.rows) c.self.view_is,
+      length-rows_of c.self.inside.width c.self.inside.count
+          c.self.inside.cells.items,
+      c.requires.place,
+    )
