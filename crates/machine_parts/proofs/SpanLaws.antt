@@ -1,18 +1,21 @@
 -- Edges with one end stand side by side in a list in order of it.
 use Rattle.std.proofs.Common.{◌≡◌, ℕ, zero, suc, ◌+◌, ◌-◌, ◌<◌, ◌≤◌, Bool, true, false, ◌||◌, cond, List, [], ◌∷◌, ◌++◌, length, get_or, take, drop, map, refl, ap, sym, subst, ◌∙◌, arith, ⊎_elim}
-use Rattle.std.specs.Prelude.{◌==◌}
-use Rattle.std.specs.List.{All, filter, list_any, prefix_len, range_with_len, slice_range}
-use Rattle.std.specs.List.Sorted.{IsNonDecreasingBy}
+use Rattle.std.specs.Prelude.{◌==◌, ◌&&◌, nat_le, nat_lt, not}
+use Rattle.std.proofs.lemmas.List.Kept.{IsNonDecreasingBy-filter}
+use Rattle.std.specs.List.{All, AllByRecursion, filter, list_any, prefix_len, range_with_len, slice_range}
+use Rattle.std.specs.List.Sorted.{IsNonDecreasingBy, IsPartitionPoint, IsPartitionedBy}
+use Rattle.std.proofs.lemmas.Bool.Decides.{nat_tests}
 use Rattle.std.proofs.lemmas.Bool.{cases_lt, eq-eqb, eqb-true, ne_eqb, eqb-false}
-use Rattle.std.proofs.lemmas.List.{append-nil, get_or-drop, get_or-take, get_or_default, length-drop, length-take, map_push, take-append-drop, take_all}
-use Rattle.std.proofs.lemmas.List.Elements.{All-from_get_or, All-from_recursion, All-get_or, All-push, filter-append, recursion_from_All}
+use Rattle.std.proofs.lemmas.List.{append-nil, drop-map, get_or-drop, get_or-take, get_or_default, length-drop, length-take, map_push, take-append-drop, take-map, take-take, take_all}
+use Rattle.std.proofs.lemmas.List.Elements.{filter_agree, All-from_get_or, All-from_recursion, All-get_or, All-push, filter-append, recursion_from_All}
 use Rattle.std.proofs.lemmas.List.Folds.{list_any-append, list_any_at, list_any_none}
 use Rattle.std.proofs.lemmas.List.Sums.{prefix_len-le-length, prefix_len_is, prefix_len_passes, prefix_len_stops, prefix_len-drop_yes}
 use Rattle.std.proofs.Math.Seq.{take-add}
 use Rattle.vert_base.specs.declared.graph.Edge.{Edge}
-use Rattle.vert_base.specs.Neighbours.{bucket, in_order}
+use Rattle.vert_base.specs.declared.graph.VertexId.{VertexId}
+use Rattle.vert_base.specs.Neighbours.{bucket, in_order, source, target}
 use Rattle.vert_base.proofs.Orders.{Rises, in_order_below, in_order_rises}
-use Rattle.graph_table.proofs.FilterLaws.{all_range, all_weaker, filter_all, filter_none, filter_same}
+use Rattle.graph_table.proofs.FilterLaws.{all_range, all_weaker, filter_all, filter_filter, filter_none, filter_same}
 use Rattle.circulant_plan.proofs.SpanLaws.{range_split}
 use Rattle.symple_face.specs.Parts.{ends_met}
 use Rattle.machine_parts.specs.Spans.{AreSpans, IsSpan, vertex_of}
@@ -167,13 +170,15 @@ module _ (end : Edge → ℕ) (edges : List Edge) (order : IsNonDecreasingBy end
       omega (arith, length-drop count rest, size) in
       subst (λ (e : Edge). k < end e) (sym at) (above_run (start + (count + i)) (omega arith) (omega arith)))
 
-  pub run_edges : slice_range edges start (start + prefix_len (λ e. end e == k) (drop start edges)) ≡ bucket end k edges
+  pub run_edges : slice_range edges start (start + prefix_len (λ e. end e == k) (drop start edges)) ≡ bucket end k
+      edges
   run_edges =
       let run = take count rest in
       let behind = drop count rest in
       let none : (P : Edge → Type 0) (xs : List Edge) → All P xs → ((e : Edge) → P e → end e ≡ k → ⊥)
       → filter same xs ≡ [] =
-      λ P xs all other. filter_none same xs (all_weaker P (λ e. same e ≡ false) (λ e p. ne_eqb (end e) k (other e p)) xs
+      λ P xs all other. filter_none same xs (all_weaker P (λ e. same e ≡ false) (λ e p. ne_eqb (end e) k (other e
+          p)) xs
       (recursion_from_All P xs all)) in
       let mid : filter same (take (prefix_len same (drop start edges)) (drop start edges))
       ≡ take (prefix_len same (drop start edges)) (drop start edges) =
@@ -192,7 +197,8 @@ module _ (end : Edge → ℕ) (edges : List Edge) (order : IsNonDecreasingBy end
       ∙ mid in
       ap (λ z. take z rest) length' ∙ sym parts
 
-  pub run_met : (n : ℕ) → k < n → ends_met end n (take (start + prefix_len (λ e. end e == k) (drop start edges)) edges)
+  pub run_met : (n : ℕ) → k < n → ends_met end n (take (start + prefix_len (λ e. end e == k) (drop start edges))
+      edges)
       ≡ ends_met end n (take start edges) ++ k ∷ []
   run_met n lt =
       let some : 0 < length (take (prefix_len same (drop start edges)) (drop start edges)) =
@@ -217,7 +223,8 @@ none_yet end edges = record {
   each = λ k d lt. absurd (omega arith);
 }
 
-pub spanning_none : (end : Edge → ℕ) (edges : List Edge) (spans : List Span) → spans ≡ [] → IsSpanning end edges 0 spans
+pub spanning_none : (end : Edge → ℕ) (edges : List Edge) (spans : List Span) → spans ≡ [] → IsSpanning end edges 0
+    spans
 spanning_none end edges spans none = subst (IsSpanning end edges 0) (sym none) (none_yet end edges)
 
 pub spanning_more : (end : Edge → ℕ) (edges : List Edge) (start stop k : ℕ) (d : Edge) (spans more : List Span)
@@ -270,7 +277,8 @@ spanning_all end edges start n spans done below so_far = record {
 }
 
 -- the first edges of a list that have an end, where another one follows
-pub run_stops : (end : Edge → ℕ) (v : ℕ) (xs : List Edge) (n x : ℕ) (d : Edge) → n < length xs → x ≡ end (get_or xs n d)
+pub run_stops : (end : Edge → ℕ) (v : ℕ) (xs : List Edge) (n x : ℕ) (d : Edge) → n < length xs → x ≡ end (get_or xs
+    n d)
     → (x ≡ v → ⊥) →
     ((k : ℕ) (e : Edge) → k < n → end (get_or xs k e) ≡ v) → n ≡ prefix_len (λ e. end e == v) xs
 run_stops end v xs n x d lt is other same =
@@ -315,3 +323,93 @@ ordered end n xs ys is = subst (IsNonDecreasingBy end) (sym is)
 pub ordered_below : (end : Edge → ℕ) (n : ℕ) (xs ys : List Edge) → ys ≡ in_order end n xs → All (λ e. end e < n) ys
 ordered_below end n xs ys is = subst (All (λ e. end e < n)) (sym is)
     (All-from_recursion (λ e. end e < n) (in_order end n xs) (in_order_below end n xs))
+
+-- the sources of the first edges of a vertex
+pub first_sources_are : (edges : List Edge) (span : Span) (sources part : List VertexId) (count : ℕ) → span.start +
+    count ≤ span.end →
+    IsSpan target edges span → map (λ v. v.0) sources ≡ map source edges → part ≡ slice_range sources span.start
+        (span.start + count) →
+    map (λ v. v.0) part ≡ map source (take count (bucket target span.vertex.0 edges))
+first_sources_are edges span sources part count within is same here =
+    let number : VertexId → ℕ = λ v. v.0 in
+    let size : span.start + count - span.start ≡ count = omega arith in
+    let less : count ≤ span.end - span.start = omega arith in
+    ap (map number) (here ∙ ap (λ n. take n (drop span.start sources)) size)
+    ∙ sym (take-map number count (drop span.start sources) ∙ refl)
+    ∙ ap (take count) (sym (drop-map number span.start sources) ∙ ap (drop span.start) same ∙ drop-map source
+        span.start edges)
+    ∙ take-map source count (drop span.start edges)
+    ∙ ap (map source) (sym (take-take count (span.end - span.start) (drop span.start edges) less) ∙ ap (take count)
+        is.stand)
+
+-- where a test holds of the first elements alone, these are those that pass it
+module _ {X : Type 0} (p q : X → Bool) (xs : List X) (i : ℕ) (d : X) (within : i ≤ length xs)
+    (point : IsPartitionPoint (λ y. p y ≡ true) (λ y. p y ≡ false) xs i) (other : (x : X) → q x ≡ not (p x)) where
+  front : AllByRecursion (λ y. p y ≡ true) (take i xs)
+  front =
+      recursion_from_All (λ y. p y ≡ true) (take i xs)
+      (All-from_get_or (λ y. p y ≡ true) (take i xs) d
+      (λ k lt. let low : k < i = omega (arith, length-take i xs) in
+      ap p (get_or-take i xs k d low) ∙ point.0 k d (omega arith) low))
+
+  behind : AllByRecursion (λ y. p y ≡ false) (drop i xs)
+  behind =
+      recursion_from_All (λ y. p y ≡ false) (drop i xs)
+      (All-from_get_or (λ y. p y ≡ false) (drop i xs) d
+      (λ k lt. ap p (get_or-drop i xs k d) ∙ point.1 (i + k) d (omega arith) (omega (arith, length-drop i xs))))
+
+  pub passing_first : take i xs ≡ filter p xs
+  passing_first =
+      sym (ap (filter p) (sym (take-append-drop i xs))
+      ∙ filter-append p (take i xs) (drop i xs)
+      ∙ ap (λ ys. ys ++ filter p (drop i xs)) (filter_all p (take i xs) front)
+      ∙ ap (λ ys. take i xs ++ ys) (filter_none p (drop i xs) behind)
+      ∙ append-nil (take i xs))
+
+  pub failing_last : drop i xs ≡ filter q xs
+  failing_last =
+      sym (ap (filter q) (sym (take-append-drop i xs))
+      ∙ filter-append q (take i xs) (drop i xs)
+      ∙ ap (λ ys. ys ++ filter q (drop i xs)) (filter_none q (take i xs) (all_weaker (λ y. p y ≡ true) (λ y. q y ≡
+          false) (λ y h. other y ∙ ap not h) (take i xs) front))
+      ∙ filter_all q (drop i xs) (all_weaker (λ y. p y ≡ false) (λ y. q y ≡ true) (λ y h. other y ∙ ap not h) (drop
+          i xs) behind))
+
+below_too : (a b v : ℕ) → a ≤ b → nat_lt b v ≡ true → nat_lt a v ≡ true
+below_too a b v le h = grind (arith, nat_tests)
+
+-- the vertices below one stand in front of the others
+pub stand_in_front : (v : ℕ) (spans : List Span) → IsNonDecreasingBy vertex_of spans → IsPartitionedBy (λ s. nat_lt
+    (vertex_of s) v) spans
+stand_in_front v spans up = λ i j d le within h. below_too (vertex_of (get_or spans i d)) (vertex_of (get_or spans
+    j d)) v (up i j d le within) h
+
+pub not_below : (a v : ℕ) → nat_le v a ≡ not (nat_lt a v)
+not_below a v = grind (arith, nat_tests)
+
+abbrev pub no_span : Span
+no_span = record { vertex = record { 0 = 0 }; start = 0; end = 0 }
+
+-- a filter by two bounds, one after the other
+pub within_bounds : (a b : ℕ) (spans below : List Span) → below ≡ filter (λ s. nat_lt (vertex_of s) b) spans →
+    filter (λ s. nat_le a (vertex_of s)) below ≡ filter (λ s. nat_le a (vertex_of s) && nat_lt (vertex_of s) b) spans
+within_bounds a b spans below is =
+    ap (filter (λ s. nat_le a (vertex_of s))) is
+    ∙ filter_filter (λ s. nat_le a (vertex_of s)) (λ s. nat_lt (vertex_of s) b) spans
+    ∙ filter_agree (λ s. nat_lt (vertex_of s) b && nat_le a (vertex_of s)) (λ s. nat_le a (vertex_of s) && nat_lt
+        (vertex_of s) b)
+    (λ s. and_turned (nat_lt (vertex_of s) b) (nat_le a (vertex_of s))) spans
+  where
+    and_turned : (x y : Bool) → (x && y) ≡ (y && x)
+    and_turned true true = refl
+    and_turned true false = refl
+    and_turned false true = refl
+    and_turned false false = refl
+
+-- those below a bound are in order too
+pub below_in_order : (b : ℕ) (spans below : List Span) → below ≡ filter (λ s. nat_lt (vertex_of s) b) spans →
+    IsNonDecreasingBy vertex_of spans →
+    IsNonDecreasingBy vertex_of below
+below_in_order b spans below is up =
+    subst (IsNonDecreasingBy vertex_of) (sym is) (IsNonDecreasingBy-filter vertex_of (λ s. nat_lt (vertex_of s) b)
+        spans up)

@@ -26,6 +26,6 @@ pub use missing::first_missing;
 pub use part_feed::PartFeed;
 pub use ring_half::RingHalf;
 pub use rows::Rows;
-pub use spans::{Span, spans_of};
+pub use spans::{Span, edges_in, first_sources, spans_of, spans_within};
 pub use totals::own_totals;
 pub use updates::{SentWords, merge_update};

@@ -1,10 +1,12 @@
 // Where the edges of each vertex stand in a list of edges in order.
-ghost use Rattle.std.specs.Prelude.{◌≡◌, ◌≤◌, ◌<◌, ◌==◌, ℕ, length, IfOk};
-ghost use Rattle.std.specs.List.{All, prefix_len};
+ghost use Rattle.std.specs.Prelude.{◌≡◌, ◌≤◌, ◌<◌, ◌==◌, ◌&&◌, ◌+◌, ℕ, List, length, map, nat_le, nat_lt, take, IfOk};
+ghost use Rattle.std.specs.List.{All, filter, prefix_len};
 ghost use Rattle.std.specs.List.Sorted.{IsNonDecreasingBy};
 ghost use Rattle.vert_base.specs.declared.limits.TheConstants.{EDGES};
+ghost use Rattle.vert_base.specs.declared.graph.Edge.{Edge};
+ghost use Rattle.vert_base.specs.Neighbours.{bucket, source, target};
 ghost use Rattle.graph_table.specs.Sides.{key_of};
-ghost use Rattle.machine_parts.specs.Spans.{AreSpans};
+ghost use Rattle.machine_parts.specs.Spans.{AreSpans, IsSpan, vertex_of};
 
 use graph_table::{Side, end_of};
 use std::alloc::Global;
@@ -53,4 +55,49 @@ fn run_len(edges: &[Edge], side: Side, vertex: u32) -> usize
         }
     }
     edges.len()
+}
+
+/// The edges of a vertex.
+#[inline]
+pub fn edges_in<'a>(edges: &'a [Edge], span: &Span) -> &'a [Edge]
+    requires rises { span.now.start ≤ span.now.end }
+    requires within { span.now.end ≤ length edges.now }
+    ensures { (end : Edge → ℕ) → IsSpan end edges.now span.now
+        → result.now ≡ bucket end span.now.vertex.0 edges.now }
+{
+    &edges[span.start as usize..span.end as usize]
+}
+
+/// The sources of the first edges of a vertex.
+#[inline]
+pub fn first_sources<'a>(sources: &'a [VertexId], span: &Span, count: u32) -> &'a [VertexId]
+    requires count { span.now.start + count ≤ span.now.end }
+    requires within { span.now.end ≤ length sources.now }
+    ensures { (edges : List Edge) → IsSpan target edges span.now
+        → map (λ v. v.0) sources.now ≡ map source edges
+        → map (λ v. v.0) result.now ≡ map source (take count (bucket target span.now.vertex.0 edges)) }
+{
+    let start = span.start as usize;
+    &sources[start..start + count as usize]
+}
+
+/// The spans of the vertices from one on and before another one. It halves the list twice.
+pub fn spans_within(spans: &[Span], start: u32, end: u32) -> &[Span]
+    requires { IsNonDecreasingBy vertex_of spans.now }
+    ensures { result.now
+        ≡ filter (λ s. nat_le start (vertex_of s) && nat_lt (vertex_of s) end) spans.now }
+{
+    let (below, _) = split_at_vertex(spans, end);
+    let (_, within) = split_at_vertex(below, start);
+    within
+}
+
+// The spans of the vertices below one, and the others.
+fn split_at_vertex(spans: &[Span], vertex: u32) -> (&[Span], &[Span])
+    requires { IsNonDecreasingBy vertex_of spans.now }
+    ensures below { result.0.now ≡ filter (λ s. nat_lt (vertex_of s) vertex) spans.now }
+    ensures others { result.1.now ≡ filter (λ s. nat_le vertex (vertex_of s)) spans.now }
+{
+    let count = spans.partition_point(|span| span.vertex.0 < vertex);
+    spans.split_at(count)
 }
