@@ -2,7 +2,9 @@
 use Rattle.std.proofs.Common.{◌≡◌, ℕ, zero, suc, ◌+◌, ◌*◌, ◌^◌, ◌<◌, ◌≤◌, List, [], ◌∷◌, ◌++◌, length, get_or, set, take, drop, replicate, refl, sym, ap, ◌∙◌, arith}
 use Rattle.std.proofs.Math.Seq.{take-set-lt}
 use Rattle.std.proofs.lemmas.Nat.{mul-le}
-use Rattle.std.proofs.lemmas.List.{drop-drop, drop-set-add, drop-set-lt, length-replicate, replicate-append-replicate, take-set-le, take_at, drop_at}
+use Rattle.std.proofs.lemmas.List.{drop-append-le, drop-drop, drop-set-add, drop-set-lt, drop-take, length-drop, length-replicate, length-take, replicate-append-replicate, take-set-le, take_at, drop_at}
+use Rattle.std.proofs.lemmas.Slice.{take-put_mid_below}
+use borrow.Rule.Slice.PartMut.{put_mid}
 use Rattle.flat_table.specs.Grids.{rows_of}
 
 pub length-rows_of : {T : Type 0} (width count : ℕ) (cells : List T) → length (rows_of width count cells) ≡ count
@@ -44,6 +46,15 @@ put_is width (suc count) (suc place) column value cells within inside =
     ∙ ap (λ rows. take width cells ∷ rows)
     (put_is width count place column value (drop width cells) (omega arith) inside)
 
+-- behind the first cells a part lies that much earlier
+drop_front : {T : Type 0} (n at width : ℕ) (cells row : List T) → n ≤ length cells →
+    drop n (put_mid (n + at) width cells row) ≡ put_mid at width (drop n cells) row
+drop_front n at width cells row room =
+    let short : n ≤ length (take (n + at) cells) = omega (arith, length-take (n + at) cells) in
+    drop-append-le n (take (n + at) cells) (row ++ drop width (drop (n + at) cells)) short
+    ∙ ap (λ front. front ++ (row ++ drop width (drop (n + at) cells))) (drop-take n at cells)
+    ∙ ap (λ rest. take at (drop n cells) ++ (row ++ drop width rest)) (sym (drop-drop at n cells))
+
 -- equal cells make equal rows
 pub filled_is : {T : Type 0} (width count : ℕ) (value : T) →
     rows_of width count (replicate (width * count) value) ≡ replicate count (replicate width value)
@@ -72,3 +83,27 @@ pub cell_small : (width count place : ℕ) → width < 2 ^ 16 → count < 2 ^ 32
 cell_small width count place narrow few within =
     let most : width * count ≤ 2 ^ 16 * 2 ^ 32 = mul-le width count (2 ^ 16) (2 ^ 32) (omega arith) (omega arith) in
     omega (arith, most, cell_within width count place within)
+
+-- a row in the place of another one
+pub put_row_is : {T : Type 0} (width count place : ℕ) (row cells : List T) → place < count → length row ≡ width →
+    length cells ≡ width * count →
+    rows_of width count (put_mid (width * place) width cells row) ≡ set (rows_of width count cells) place row
+put_row_is width zero place row cells within size all = absurd (omega arith)
+put_row_is width (suc count) zero row cells within size all =
+    let first : width * 0 ≡ 0 = omega arith in
+    ap (λ k. rows_of width (suc count) (put_mid k width cells row)) first
+    ∙ ap (λ r. r ∷ rows_of width count (drop width (row ++ drop width cells))) (take_at row (drop width cells) width size)
+    ∙ ap (λ rest. row ∷ rows_of width count rest) (drop_at row (drop width cells) width size)
+put_row_is width (suc count) (suc place) row cells within size all =
+    let at = width * place in
+    let further : width * suc place ≡ width + width * place = omega arith in
+    let room : width ≤ length cells = omega (arith, all) in
+    let rest : length (drop width cells) ≡ width * count = omega (arith, all, length-drop width cells) in
+    let front : take width (put_mid (width + width * place) width cells row) ≡ take width cells =
+    take-put_mid_below (width + at) width cells row width (omega arith) (omega (arith, all, cell_within width (suc count) (suc place) within)) in
+    let behind : drop width (put_mid (width + width * place) width cells row) ≡ put_mid (width * place) width (drop width cells) row =
+    drop_front width at width cells row room in
+    ap (λ k. rows_of width (suc count) (put_mid k width cells row)) further
+    ∙ ap (λ r. r ∷ rows_of width count (drop width (put_mid (width + at) width cells row))) front
+    ∙ ap (λ rest. take width cells ∷ rows_of width count rest) behind
+    ∙ ap (λ rows. take width cells ∷ rows) (put_row_is width count place row (drop width cells) (omega arith) size rest)

@@ -68,6 +68,22 @@ impl<T: Copy> Grid<T> {
         self.cells[cell] = value;
     }
 
+    /// Puts a row into its place.
+    #[inline]
+    pub fn put_row(&mut self, place: usize, row: &[T])
+        requires place { place < length self.old.rows }
+        requires width { length row.now ≡ self.old.width }
+        ensures { self.new ≡ record self.old { rows = slice_set self.old.rows place row.now } }
+    {
+        copy_row(
+            self.cells.as_mut_slice(),
+            self.width,
+            self.count,
+            place,
+            row,
+        );
+    }
+
     /// Puts one value into each cell.
     pub fn clear(&mut self, value: T)
         ensures { self.new ≡ record self.old {
@@ -104,6 +120,21 @@ fn row_in<T>(cells: &[T], width: usize, count: usize, place: usize) -> &[T]
     let (_, rest) = cells.split_at(start);
     let (row, _) = rest.split_at(width);
     row
+}
+
+// Copies a row to its place among so many rows.
+#[inline]
+fn copy_row<T: Copy>(cells: &mut [T], width: usize, count: usize, place: usize, row: &[T])
+    requires width { width < 2 ^ 16 }
+    requires count { count < 2 ^ 32 }
+    requires place { place < count }
+    requires cells { length cells.old ≡ width * count }
+    requires row { length row.now ≡ width }
+    ensures { rows_of width count cells.new
+        ≡ slice_set (rows_of width count cells.old) place row.now }
+{
+    let start = width * place;
+    cells[start..start + width].copy_from_slice(row);
 }
 
 // Puts one value into each cell.

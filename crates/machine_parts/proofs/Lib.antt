@@ -1,0 +1,6 @@
+pub mod CountLaws
+pub mod FlatLaws
+pub mod MissingLaws
+pub mod SpanLaws
+pub mod TotalLaws
+pub mod UpdateLaws

@@ -1,0 +1,7 @@
+pub mod Counting
+pub mod Entering
+pub mod Flat
+pub mod Judging
+pub mod Neighbours
+pub mod Spans
+pub mod Updates
