@@ -22,7 +22,21 @@ use Rattle.round_laws.specs.FoldTakes.{TakesWhatIsKept}
 use Rattle.round_laws.specs.IsIdeal.{HoldsBody, IsIdeal, came_words, dense_words, half_at, is_begin, is_open, is_past, is_worked, keys_below, sends_came, sparse_words, step_came, words_by}
 use Rattle.round_laws.specs.Partials.{partial_ops, sent_words}
 use Rattle.round_laws.specs.SparseClose.{push_buckets}
-use Rattle.round_laws.proofs.Held.{all_placed, apart_by_kind, still_found}
+use Rattle.round_laws.proofs.Held.{all_placed, apart_names, still_found}
+
+-- with a message more that is no verdict, the machine knows what it knew
+module _ (s : State) (l : Letter) (no_verdict : l.name.kind ≡ kind.Verdict → ⊥) where
+  verdict_stays : found (verdict_name s.at.round (machine s)) (placed l s.held) ≡ found (verdict_name s.at.round (machine s)) s.held
+  verdict_stays =
+      still_found l s.held (verdict_name s.at.round (machine s))
+      (apart_names l.name (verdict_name s.at.round (machine s)) (λ e. no_verdict (ap (λ x. x.kind) e)))
+
+  pub known_stays : known (kept s l) ≡ known s
+  known_stays = ap (λ o. if machine s == 0 then nat_le 1 s.at.round else is_some o) verdict_stays
+
+  pub totals_stay : known_totals (kept s l) ≡ known_totals s
+  totals_stay =
+      ap (λ o. if machine s == 0 then s.judged.totals else (judged_read (total_count s.split) (body_of o)).totals) verdict_stays
 
 -- a message that is no update, no push and no verdict
 record IsAside (l : Letter) : Type 0 where
@@ -37,23 +51,12 @@ module _ (src : Source) (m : ℕ) (s : State) (l : Letter) (aside : IsAside l) w
   updates_stay : (step h k to : ℕ) → found (update_name s.at.round step h k to) held ≡ found (update_name s.at.round step h k to) s.held
   updates_stay step h k to =
       still_found l s.held (update_name s.at.round step h k to)
-      (apart_by_kind l.name (update_name s.at.round step h k to) aside.update)
+      (apart_names l.name (update_name s.at.round step h k to) (λ e. aside.update (ap (λ x. x.kind) e)))
 
   pushes_stay : (k to : ℕ) → found (push_name s.at.round k to) held ≡ found (push_name s.at.round k to) s.held
   pushes_stay k to =
-      still_found l s.held (push_name s.at.round k to) (apart_by_kind l.name (push_name s.at.round k to) aside.push)
-
-  verdict_stays : found (verdict_name s.at.round (machine s)) held ≡ found (verdict_name s.at.round (machine s)) s.held
-  verdict_stays =
-      still_found l s.held (verdict_name s.at.round (machine s))
-      (apart_by_kind l.name (verdict_name s.at.round (machine s)) aside.verdict)
-
-  known_stays : known (kept s l) ≡ known s
-  known_stays = ap (λ o. if machine s == 0 then nat_le 1 s.at.round else is_some o) verdict_stays
-
-  totals_stay : known_totals (kept s l) ≡ known_totals s
-  totals_stay =
-      ap (λ o. if machine s == 0 then s.judged.totals else (judged_read (total_count s.split) (body_of o)).totals) verdict_stays
+      still_found l s.held (push_name s.at.round k to)
+      (apart_names l.name (push_name s.at.round k to) (λ e. aside.push (ap (λ x. x.kind) e)))
 
   -- the words that came are the same
   step_stays : (v key : ℕ) → step_came src m s.at held v key ≡ step_came src m s.at s.held v key
@@ -88,8 +91,8 @@ module _ (src : Source) (m : ℕ) (s : State) (l : Letter) (aside : IsAside l) w
     part = is.part;
     split = is.split;
     rows = is.rows;
-    ruling = λ knows. is.ruling (sym known_stays ∙ knows);
-    totals = λ knows. totals_stay ∙ is.totals (sym known_stays ∙ knows);
+    ruling = λ knows. is.ruling (sym (known_stays s l aside.verdict) ∙ knows);
+    totals = λ knows. totals_stay s l aside.verdict ∙ is.totals (sym (known_stays s l aside.verdict) ∙ knows);
     bodies = all_placed (λ x. HoldsBody x.name.kind src s.at x) l s.held body is.bodies;
     many = is.many;
     partials = λ v lies. subst (λ words. AreFilled 0 (partial_ops s.split) words (keys_below src) (own_partials s v))

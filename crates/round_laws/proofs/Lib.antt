@@ -30,6 +30,7 @@ pub mod Chunks
 pub mod DenseClose
 pub mod DenseRound
 pub mod FoldTakes
+pub mod FoldUpdates
 pub mod Held
 pub mod IdealScans
 pub mod Keys

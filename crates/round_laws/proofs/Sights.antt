@@ -46,7 +46,7 @@ degree_known ins outs (u ∷ us) v some =
     (list_any (λ u. u == v) us) refl refl (degree_known ins outs us v) some
 
 -- what stands beside a vertex of a list
-beside_is : {X : Type 0} (d : X) (f : ℕ → X) (us : List ℕ) (v : ℕ) → list_any (λ u. u == v) us ≡ true →
+pub beside_is : {X : Type 0} (d : X) (f : ℕ → X) (us : List ℕ) (v : ℕ) → list_any (λ u. u == v) us ≡ true →
     beside d v us (map f us) ≡ f v
 beside_is d f [] v some = cc
 beside_is d f (u ∷ us) v some =

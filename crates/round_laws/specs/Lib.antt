@@ -2,6 +2,7 @@ pub mod Chunks
 pub mod DenseClose
 pub mod DenseRound
 pub mod FoldTakes
+pub mod FoldUpdates
 pub mod IdealScans
 pub mod IsIdeal
 pub mod Keys

@@ -1,6 +1,7 @@
 ghost use Rattle.round_laws.specs.DenseClose.{ClosesDense};
 ghost use Rattle.round_laws.specs.DenseRound.{RoundByMachines};
 ghost use Rattle.round_laws.specs.FoldTakes.{TakesWhatIsKept};
+ghost use Rattle.round_laws.specs.FoldUpdates.{TakesUpdates};
 ghost use Rattle.round_laws.specs.IdealScans.{FreshScansAreIdeal, ScansAreIdeal};
 ghost use Rattle.round_laws.specs.Lets.{LetsByMachines};
 ghost use Rattle.round_laws.specs.Partials.{FillsSent};
@@ -72,5 +73,6 @@ pub fn machines_see_the_source()
 
 /// The law that a machine that takes an ideal body still holds what the source's run says. It does nothing.
 pub fn takes_are_ideal()
-    ensures { TakesWhatIsKept }
+    ensures kept { TakesWhatIsKept }
+    ensures updates { TakesUpdates }
 {}
