@@ -32,10 +32,12 @@ pub mod DenseRound
 pub mod FoldTakes
 pub mod FoldUpdates
 pub mod Held
+pub mod IdealClose
 pub mod IdealScans
 pub mod Keys
 pub mod Lets
 pub mod Lists
+pub mod Lowered
 pub mod Members
 pub mod Partials
 pub mod Planned
