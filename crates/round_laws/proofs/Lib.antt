@@ -38,6 +38,7 @@ pub mod Keys
 pub mod Lets
 pub mod Lists
 pub mod Lowered
+pub mod MachineScans
 pub mod Members
 pub mod Partials
 pub mod Planned

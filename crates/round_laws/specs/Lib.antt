@@ -8,6 +8,7 @@ pub mod IdealScans
 pub mod IsIdeal
 pub mod Keys
 pub mod Lets
+pub mod MachineScans
 pub mod Members
 pub mod Partials
 pub mod Planned

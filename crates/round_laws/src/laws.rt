@@ -5,6 +5,7 @@ ghost use Rattle.round_laws.specs.FoldUpdates.{TakesUpdates};
 ghost use Rattle.round_laws.specs.IdealClose.{DenseRowsAreIdeal};
 ghost use Rattle.round_laws.specs.IdealScans.{FreshScansAreIdeal, ScansAreIdeal};
 ghost use Rattle.round_laws.specs.Lets.{LetsByMachines};
+ghost use Rattle.round_laws.specs.MachineScans.{MachineScansAreIdeal};
 ghost use Rattle.round_laws.specs.Partials.{FillsSent};
 ghost use Rattle.round_laws.specs.Scans.{ScansAfresh, ScansTheRing};
 ghost use Rattle.round_laws.specs.Seen.{EnvironmentsAreSeen, LoopsAreSeen};
@@ -81,4 +82,9 @@ pub fn takes_are_ideal()
 /// The law that the rows that a close makes of what the source's run says are the source's. It does nothing.
 pub fn closes_are_ideal()
     ensures { DenseRowsAreIdeal }
+{}
+
+/// The law that a machine's scan of a half hands on, sends and reads what the source's run says. It does nothing.
+pub fn machines_scan_ideally()
+    ensures { MachineScansAreIdeal }
 {}
