@@ -7,6 +7,7 @@ use Rattle.std.proofs.lemmas.List.FromFn.{get_or-map-range_with_len}
 use Rattle.std.proofs.Math.Nat.{mod-lt}
 use Rattle.vert_base.specs.declared.graph.Edge.{Edge}
 use Rattle.vert_base.specs.declared.value.Row.{Row}
+use Rattle.vert_base.specs.declared.value.Ruling.{Ruling}
 use Rattle.vert_base.specs.declared.value.Ruling.TheVariants as ruling
 use Rattle.vert_base.specs.Letters.{found}
 use Rattle.vert_tree.specs.declared.program.Dense.{Dense}
@@ -64,6 +65,16 @@ stand_next src round le =
     let more : round + 1 - src.base ≡ suc (round - src.base) = omega arith in
     let back : src.base + (round - src.base) ≡ round = omega arith in
     ap (stand_after src) more ∙ ap (λ k. next_standing src.job k (stand src round)) back
+
+-- the row of a vertex after a round
+pub row_next : (src : Source) (round v : ℕ) (r : Ruling) → src.base ≤ round → (stand src round).ruling ≡ r →
+    v < src.job.graph.vertices →
+    row_after src.job.program r (scene src round) v ≡ row_at (stand src (round + 1)).rows v
+row_next src round v r le is inside =
+    sym (ap (λ st. row_at st.rows v) (stand_next src round le)
+    ∙ ap (λ x. row_at (rows_after src.job.program x (scene src round)) v) is
+    ∙ get_or-map-range_with_len (row_after src.job.program r (scene src round)) 0 src.job.graph.vertices v v empty_row
+    inside (omega arith))
 
 -- a half is 0 or 1
 pub half_low : (src : Source) (c v : ℕ) → half_at src c v ≤ 1
@@ -209,11 +220,8 @@ module _ (src : Source) (d : Dense) (most m round : ℕ) (state : State) (dense 
 
       row_stands : row_after (program_of src.split) ruling.Dense sc v ≡ row_at (stand run (round + 1)).rows v
       row_stands =
-          let inside : v < src.job.graph.vertices = subst (λ n. v < n) (sym sized) (lies_within most ends are m v machine lies) in
-          sym (ap (λ st. row_at st.rows v) (stand_next run round closing.begun)
-          ∙ ap (λ x. row_at (rows_after (program_of src.split) x sc) v) closing.dense
-          ∙ get_or-map-range_with_len (row_after (program_of src.split) ruling.Dense sc) 0 src.job.graph.vertices v v empty_row
-          inside (omega arith))
+          row_next run round v ruling.Dense closing.begun closing.dense
+          (subst (λ n. v < n) (sym sized) (lies_within most ends are m v machine lies))
 
     rows_closed : closed_rows s round true ≡ map (row_at (stand run (round + 1)).rows) (chunk_vertices ends m)
     rows_closed =

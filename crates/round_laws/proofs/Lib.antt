@@ -34,6 +34,8 @@ pub mod FoldUpdates
 pub mod Held
 pub mod IdealClose
 pub mod IdealScans
+pub mod IdealSparse
+pub mod Judging
 pub mod Keys
 pub mod Lets
 pub mod Lists

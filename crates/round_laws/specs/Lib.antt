@@ -6,6 +6,7 @@ pub mod FoldUpdates
 pub mod IdealClose
 pub mod IdealScans
 pub mod IsIdeal
+pub mod Judging
 pub mod Keys
 pub mod Lets
 pub mod MachineScans

@@ -2,8 +2,9 @@ ghost use Rattle.round_laws.specs.DenseClose.{ClosesDense};
 ghost use Rattle.round_laws.specs.DenseRound.{RoundByMachines};
 ghost use Rattle.round_laws.specs.FoldTakes.{TakesWhatIsKept};
 ghost use Rattle.round_laws.specs.FoldUpdates.{TakesUpdates};
-ghost use Rattle.round_laws.specs.IdealClose.{DenseRowsAreIdeal};
+ghost use Rattle.round_laws.specs.IdealClose.{DenseRowsAreIdeal, SparseRowsAreIdeal};
 ghost use Rattle.round_laws.specs.IdealScans.{FreshScansAreIdeal, ScansAreIdeal};
+ghost use Rattle.round_laws.specs.Judging.{CountsAreIdeal, JudgesAsTheSource};
 ghost use Rattle.round_laws.specs.Lets.{LetsByMachines};
 ghost use Rattle.round_laws.specs.MachineScans.{MachineScansAreIdeal};
 ghost use Rattle.round_laws.specs.Partials.{FillsSent};
@@ -81,10 +82,17 @@ pub fn takes_are_ideal()
 
 /// The law that the rows that a close makes of what the source's run says are the source's. It does nothing.
 pub fn closes_are_ideal()
-    ensures { DenseRowsAreIdeal }
+    ensures dense { DenseRowsAreIdeal }
+    ensures sparse { SparseRowsAreIdeal }
 {}
 
 /// The law that a machine's scan of a half hands on, sends and reads what the source's run says. It does nothing.
 pub fn machines_scan_ideally()
     ensures { MachineScansAreIdeal }
+{}
+
+/// The law that a machine's counts and totals of ideal contents are its ideal tally, and that a judge rules as the source. It does nothing.
+pub fn judges_rule_as_the_source()
+    ensures counts { CountsAreIdeal }
+    ensures ruling { JudgesAsTheSource }
 {}
