@@ -35,7 +35,7 @@ use Rattle.symple_face.specs.Source.{Source, scene, stand}
 use Rattle.symple_face.specs.State.{State}
 use Rattle.symple_face.proofs.ChunkLaws.{chunk_within, lies_high, lies_is, lies_low, lies_within}
 use Rattle.round_laws.specs.IdealClose.{ClosesSparseRound, SparseRowsAreIdeal}
-use Rattle.round_laws.specs.IsIdeal.{HoldsBody, IsIdeal, came_words, is_begin, is_worked, keys_below, sends_came, sparse_words, words_by}
+use Rattle.round_laws.specs.IsIdeal.{HoldsBody, IsIdeal, came_words, awaits_begin, is_worked, keys_below, sends_came, sparse_words, words_by}
 use Rattle.round_laws.specs.Partials.{partial_ops}
 use Rattle.round_laws.specs.Sights.{StandsIn}
 use Rattle.round_laws.specs.SparseClose.{push_buckets}
@@ -69,7 +69,7 @@ owner_low (end ∷ ends) u some lt =
         omega (arith, inner)
 
 -- past the begin, a push that was taken was worked
-pushes_worked : (src : Source) (at : Standing) (x : Name) → x.kind ≡ kind.Push → is_begin at.spot ≡ false → (held : List Letter) →
+pushes_worked : (src : Source) (at : Standing) (x : Name) → x.kind ≡ kind.Push → awaits_begin at.spot ≡ false → (held : List Letter) →
     AllByRecursion (λ l. HoldsBody l.name.kind src at l) held → is_some (found x held) ≡ true → is_worked (found x held) ≡ true
 pushes_worked src at x is past [] all some = cc
 pushes_worked src at x is past (y ∷ ys) all some =

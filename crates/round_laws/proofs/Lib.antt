@@ -31,6 +31,7 @@ pub mod DenseClose
 pub mod DenseRound
 pub mod FoldTakes
 pub mod FoldUpdates
+pub mod FoldVerdicts
 pub mod Held
 pub mod IdealClose
 pub mod IdealScans

@@ -3,6 +3,7 @@ pub mod DenseClose
 pub mod DenseRound
 pub mod FoldTakes
 pub mod FoldUpdates
+pub mod FoldVerdicts
 pub mod IdealClose
 pub mod IdealScans
 pub mod IsIdeal

@@ -2,6 +2,7 @@ ghost use Rattle.round_laws.specs.DenseClose.{ClosesDense};
 ghost use Rattle.round_laws.specs.DenseRound.{RoundByMachines};
 ghost use Rattle.round_laws.specs.FoldTakes.{TakesWhatIsKept};
 ghost use Rattle.round_laws.specs.FoldUpdates.{TakesUpdates};
+ghost use Rattle.round_laws.specs.FoldVerdicts.{TakesVerdicts};
 ghost use Rattle.round_laws.specs.IdealClose.{DenseRowsAreIdeal, SparseRowsAreIdeal};
 ghost use Rattle.round_laws.specs.IdealScans.{FreshScansAreIdeal, ScansAreIdeal};
 ghost use Rattle.round_laws.specs.Judging.{CountsAreIdeal, JudgesAsTheSource};
@@ -78,6 +79,7 @@ pub fn machines_see_the_source()
 pub fn takes_are_ideal()
     ensures kept { TakesWhatIsKept }
     ensures updates { TakesUpdates }
+    ensures verdicts { TakesVerdicts }
 {}
 
 /// The law that the rows that a close makes of what the source's run says are the source's. It does nothing.
