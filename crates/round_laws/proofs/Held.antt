@@ -1,6 +1,6 @@
 -- What stays of the messages held where one more is put among them.
 use Rattle.std.proofs.Common.{◌≡◌, Bool, true, false, List, [], ◌∷◌, refl, sym, ap, ◌∙◌, Option, None, Some, ⊎_elim}
-use Rattle.std.specs.Prelude.{◌==◌, if◌then◌else◌, is_some, nat_le}
+use Rattle.std.specs.Prelude.{if◌then◌else◌}
 use Rattle.std.specs.List.{AllByRecursion}
 use Rattle.std.proofs.lemmas.Bool.{cases_Bool}
 use Rattle.vert_base.specs.declared.message.Name.{Name}
@@ -19,10 +19,10 @@ all_placed P l (y ∷ ys) here all = by (is_before y.name l.name) (all_placed P 
     by true rest = (all.0, rest)
     by false rest = (here, all)
 
--- names of different kinds are different
-pub apart_by_kind : (a b : Name) → (a.kind ≡ b.kind → ⊥) → same_name a b ≡ false
-apart_by_kind a b apart =
-    ⊎_elim (λ (same : same_name a b ≡ true). absurd (apart (ap (λ x. x.kind) (names_law a b same))))
+-- different names are told apart
+pub apart_names : (a b : Name) → (a ≡ b → ⊥) → same_name a b ≡ false
+apart_names a b apart =
+    ⊎_elim (λ (same : same_name a b ≡ true). absurd (apart (names_law a b same)))
     (λ (other : same_name a b ≡ false). other) (cases_Bool (same_name a b))
 
 -- under another name stands what stood there

@@ -24,7 +24,7 @@ use Rattle.round_laws.proofs.Ranges.{steps_more}
 use Rattle.round_laws.proofs.Scans.{reduced_are, scans_afresh, scans_the_ring}
 
 -- a run by a program
-abbrev with_program : Source → Program → Source
+abbrev pub with_program : Source → Program → Source
 with_program src program = record src { job = record src.job { program = program } }
 
 module _ (src : Source) (d : Dense) (g : Sight) (round v c step key : ℕ)

@@ -39,7 +39,7 @@ by_place true u v x rest f more is here later some = here ∙ ap f (eqb-true u v
 by_place false u v x rest f more is here later some = later some
 
 -- the degrees of a vertex among those of some vertices
-degree_known : (ins outs : List Edge) (us : List ℕ) (v : ℕ) → list_any (λ u. u == v) us ≡ true →
+pub degree_known : (ins outs : List Edge) (us : List ℕ) (v : ℕ) → list_any (λ u. u == v) us ≡ true →
     degree_among (map (degree_in ins outs) us) v ≡ degree_in ins outs v
 degree_known ins outs [] v some = cc
 degree_known ins outs (u ∷ us) v some =
@@ -47,11 +47,20 @@ degree_known ins outs (u ∷ us) v some =
     (list_any (λ u. u == v) us) refl refl (degree_known ins outs us v) some
 
 -- what stands beside a vertex of a list
-beside_is : {X : Type 0} (d : X) (f : ℕ → X) (us : List ℕ) (v : ℕ) → list_any (λ u. u == v) us ≡ true →
+pub beside_is : {X : Type 0} (d : X) (f : ℕ → X) (us : List ℕ) (v : ℕ) → list_any (λ u. u == v) us ≡ true →
     beside d v us (map f us) ≡ f v
 beside_is d f [] v some = cc
 beside_is d f (u ∷ us) v some =
     by_place (u == v) u v (f u) (beside d v us (map f us)) f (list_any (λ u. u == v) us) refl refl (beside_is d f us v) some
+
+-- the row of an own vertex among those of the chunk
+pub row_of_own : (rows : List Row) (ends : List ℕ) (m v : ℕ) → lies_in ends m v ≡ true →
+    row_at (map (row_at rows) (chunk_vertices ends m)) (v - start_of ends m) ≡ row_at rows v
+row_of_own rows ends m v lies =
+    let a : ℕ = start_of ends m in
+    let low : a ≤ v = lies_low ends m v lies in
+    let high : v < slice_index ends m = lies_high ends m v lies in
+    get_or-map-range_with_len (row_at rows) a (slice_index ends m - a) (v - a) v empty_row (omega arith) (omega arith)
 
 module _ (most m : ℕ) (state : State) (sc : Scene) (are : AreEnds most sc.graph.ends) (stands : StandsIn m state sc) where
   abbrev ends : List ℕ
@@ -78,11 +87,7 @@ module _ (most m : ℕ) (state : State) (sc : Scene) (are : AreEnds most sc.grap
 
   own_row_is : (v : ℕ) → lies_in ends m v ≡ true → own_row s v ≡ row_at sc.rows v
   own_row_is v lies =
-      let a : ℕ = start_of ends m in
-      let low : a ≤ v = lies_low ends m v lies in
-      let high : v < slice_index ends m = lies_high ends m v lies in
-      ap (λ rows. row_at rows (v - a)) stands.rows
-      ∙ get_or-map-range_with_len (row_at sc.rows) a (slice_index ends m - a) (v - a) v empty_row (omega arith) (omega arith)
+      ap (λ rows. row_at rows (v - start_of ends m)) stands.rows ∙ row_of_own sc.rows ends m v lies
 
   vertex_by : (g : Sight) (v : ℕ) → g.row v ≡ row_at sc.rows v → g.ins v ≡ (degree_of part v).ins →
       g.outs v ≡ (degree_of part v).outs → knows ends edges m v ≡ true → SeesVertex g sc v

@@ -1,14 +1,15 @@
 -- The close of a sparse round at a vertex makes the source's row.
-use Rattle.std.proofs.Common.{◌≡◌, ◌≤◌, ◌+◌, ℕ, ℤ, Bool, true, false, List, [], ◌∷◌, ◌++◌, length, map, refl, sym, ap, ◌∙◌, Some, Option}
-use Rattle.std.specs.Prelude.{◌==◌, ◌&&◌, take}
-use Rattle.std.specs.List.{filter, flat_map, range_with_len}
+use Rattle.std.proofs.Common.{◌≡◌, ◌≤◌, ◌<◌, ◌+◌, ℕ, ℤ, Bool, true, false, List, [], ◌∷◌, ◌++◌, length, map, refl, sym, ap, ◌∙◌, Some, Option}
+use Rattle.std.specs.Prelude.{◌==◌, ◌&&◌, nat_le, nat_lt, take}
+use Rattle.std.specs.List.{AllByRecursion, filter, flat_map, range_with_len}
 use Rattle.std.proofs.lemmas.List.{length-map}
 use Rattle.std.proofs.lemmas.List.Concat.{flat_map-append}
 use Rattle.vert_base.specs.declared.graph.Edge.{Edge}
 use Rattle.vert_base.specs.declared.value.Combine.{Combine}
 use Rattle.vert_base.specs.declared.value.Ruling.TheVariants as ruling
-use Rattle.vert_base.specs.Neighbours.{bucket, ins_of, source, turn_of}
-use Rattle.graph_table.proofs.FilterLaws.{all_true, filter_same, flat_map_same}
+use Rattle.vert_base.specs.Neighbours.{bucket, ins_of, source, target, turn_of, turned}
+use Rattle.vert_base.proofs.Orders.{in_order_below}
+use Rattle.graph_table.proofs.FilterLaws.{all_append, all_filter, all_true, all_weaker, filter_same, flat_map_same}
 use Rattle.slot_merge.specs.declared.partial.Partial.{Partial}
 use Rattle.slot_merge.specs.Combine.{Emission, combined, slot_values, words_for}
 use Rattle.slot_merge.specs.Filled.{AreFilled}
@@ -36,6 +37,15 @@ and_true : (b c : Bool) → c ≡ true → (b && c) ≡ b
 and_true true c is = is
 and_true false c is = refl
 
+-- the sources of the members of a vertex are vertices
+pub members_below : (n t v : ℕ) (edges : List Edge) → AllByRecursion (λ e. source e < n) (turned t (ins_of n edges v))
+members_below n t v edges =
+    let low : AllByRecursion (λ e. source e < n) (ins_of n edges v) = in_order_below source n (filter (λ e. target e == v) edges) in
+    all_append (λ e. source e < n) (filter (λ e. nat_le t (source e)) (ins_of n edges v))
+    (filter (λ e. nat_lt (source e) t) (ins_of n edges v))
+    (all_filter (λ e. source e < n) (λ e. nat_le t (source e)) (ins_of n edges v) low)
+    (all_filter (λ e. source e < n) (λ e. nat_lt (source e) t) (ins_of n edges v) low)
+
 pub closes_sparse : ClosesSparse
 closes_sparse split sparse g s v ps is all here low came each filled =
     let slots : List Combine = slot_ops (program_of split) in
@@ -52,7 +62,9 @@ closes_sparse split sparse g s v ps is all here low came each filled =
     λ j. flat_map_same (push_buckets split sparse s v came j) (λ k. words_for j (flat_map emits (bucket key k members))) (range_with_len 0 n)
     (all_true _ (λ k. ap (λ l. words_for j (flat_map emits l))
     (filter_same (λ e. key e == k && came (source e)) (λ e. key e == k) members
-    (all_true _ (λ e. and_true (key e == k) (came (source e)) (each (source e))) members))) (range_with_len 0 n))
+    (all_weaker (λ e. source e < n) (λ e. (key e == k && came (source e)) ≡ (key e == k))
+    (λ e lt. and_true (key e == k) (came (source e)) (each (source e) lt)) members
+    (members_below n t v s.graph.edges)))) (range_with_len 0 n))
     ∙ sym (words_for-joined j (λ k. flat_map emits (bucket key k members)) (range_with_len 0 n))
     ∙ ap (words_for j) (sym (flat_map-flat_map emits (λ k. bucket key k members) (range_with_len 0 n))
     ∙ ap (flat_map emits) (keys_rise n t v s.graph.edges low)) in

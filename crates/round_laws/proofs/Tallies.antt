@@ -101,7 +101,7 @@ rows_are rows =
     ∙ each_place empty_row 0 rows
 
 -- a sum over those that pass a test
-sum-passing : {X : Type 0} (test : X → Bool) (f : X → ℕ) (xs : List X) →
+pub sum-passing : {X : Type 0} (test : X → Bool) (f : X → ℕ) (xs : List X) →
     sum (map f (filter test xs)) ≡ sum (map (λ x. if test x then f x else 0) xs)
 sum-passing test f [] = refl
 sum-passing test f (x ∷ xs) =

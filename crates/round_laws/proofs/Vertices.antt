@@ -66,10 +66,10 @@ at_source lies t end v =
     none false true false = refl
     none false false c = refl
 
-not_below : (a b v : ℕ) → v < a → (nat_le a v && nat_lt v b) ≡ false
+pub not_below : (a b v : ℕ) → v < a → (nat_le a v && nat_lt v b) ≡ false
 not_below a b v low = grind (arith, nat_tests)
 
-not_above : (a b v : ℕ) → b ≤ v → (nat_le a v && nat_lt v b) ≡ false
+pub not_above : (a b v : ℕ) → b ≤ v → (nat_le a v && nat_lt v b) ≡ false
 not_above a b v high = grind (arith, nat_tests)
 
 module _ (most : ℕ) (ends : List ℕ) (are : AreEnds most ends) where

@@ -40,9 +40,14 @@ is_open (Scan r step h) = true
 is_open (Close r dense) = true
 is_open Over = false
 
-abbrev pub is_begin : Spot → Bool
-is_begin (Begin r) = true
-is_begin _ = false
+-- whether the begin of the round is still to come: at it, and where the run is over
+abbrev pub awaits_begin : Spot → Bool
+awaits_begin Tell = false
+awaits_begin (Judge r) = false
+awaits_begin (Begin r) = true
+awaits_begin (Scan r step h) = false
+awaits_begin (Close r dense) = false
+awaits_begin Over = true
 
 -- the round before which the own rows stand: those before the first round at tell, and at a judge those after its round
 abbrev pub rows_round : ℕ → Spot → ℕ
@@ -82,7 +87,7 @@ is_worked (Some l) = length l.body == 0
 abbrev pub sends_came : Source → ℕ → Standing → List Letter → ℕ → Bool
 sends_came src m at held u =
     let k : ℕ = owner_of src.job.graph.ends u in
-    if k == m then not (is_begin at.spot) else is_worked (found (push_name at.round k m) held)
+    if k == m then not (awaits_begin at.spot) else is_worked (found (push_name at.round k m) held)
 
 abbrev pub dense_words : Source → ℕ → Standing → List Letter → ℕ → ℕ → ℕ → List ℤ
 dense_words src m at held v place key =
@@ -114,7 +119,7 @@ abbrev pub HoldsBody : NameKind → Source → Standing → Letter → Type 0
 HoldsBody kind.Refresh src at l = l.body ≡ ideal_body src l.name
 HoldsBody kind.Dep src at l = is_past at (l.name.step + 1) l.name.half ≡ false → l.body ≡ ideal_body src l.name
 HoldsBody kind.Update src at l = l.body ≡ []
-HoldsBody kind.Push src at l = (l.body ≡ []) ⊎ ((l.body ≡ ideal_body src l.name) × (is_begin at.spot ≡ true))
+HoldsBody kind.Push src at l = (l.body ≡ []) ⊎ ((l.body ≡ ideal_body src l.name) × (awaits_begin at.spot ≡ true))
 HoldsBody kind.Tally src at l = l.body ≡ ideal_body src l.name
 HoldsBody kind.Verdict src at l = l.body ≡ ideal_body src l.name
 

@@ -2,10 +2,15 @@ pub mod Chunks
 pub mod DenseClose
 pub mod DenseRound
 pub mod FoldTakes
+pub mod FoldUpdates
+pub mod FoldVerdicts
+pub mod IdealClose
 pub mod IdealScans
 pub mod IsIdeal
+pub mod Judging
 pub mod Keys
 pub mod Lets
+pub mod MachineScans
 pub mod Members
 pub mod Partials
 pub mod Planned

@@ -1,5 +1,5 @@
 -- The close of a sparse round at a vertex.
-use Rattle.std.specs.Prelude.{◌≡◌, ◌≤◌, ◌==◌, ◌&&◌, ℕ, ℤ, Bool, true, List, Some}
+use Rattle.std.specs.Prelude.{◌≡◌, ◌≤◌, ◌<◌, ◌==◌, ◌&&◌, ℕ, ℤ, Bool, true, List, Some}
 use Rattle.std.specs.List.{filter, flat_map}
 use Rattle.vert_base.specs.declared.value.Ruling.TheVariants as ruling
 use Rattle.vert_base.specs.Neighbours.{source, turn_of}
@@ -28,6 +28,6 @@ abbrev pub ClosesSparse : Type 0
 ClosesSparse =
     (split : Split) (sparse : Sparse) (g : Sight) (s : Scene) (v : ℕ) (ps : List Partial) →
     (program_of split).sparse ≡ Some sparse → SeesScene g s → SeesVertex g s v →
-    turn_of s.graph.ends v ≤ s.graph.vertices → (came : ℕ → Bool) → ((u : ℕ) → came u ≡ true) →
+    turn_of s.graph.ends v ≤ s.graph.vertices → (came : ℕ → Bool) → ((u : ℕ) → u < s.graph.vertices → came u ≡ true) →
     AreFilled 0 (partial_ops split) (push_buckets split sparse s v came) s.graph.vertices ps →
     closed_row split g ps v ≡ row_after (program_of split) ruling.Sparse s v

@@ -1,8 +1,13 @@
 ghost use Rattle.round_laws.specs.DenseClose.{ClosesDense};
 ghost use Rattle.round_laws.specs.DenseRound.{RoundByMachines};
 ghost use Rattle.round_laws.specs.FoldTakes.{TakesWhatIsKept};
+ghost use Rattle.round_laws.specs.FoldUpdates.{TakesUpdates};
+ghost use Rattle.round_laws.specs.FoldVerdicts.{TakesVerdicts};
+ghost use Rattle.round_laws.specs.IdealClose.{DenseRowsAreIdeal, SparseRowsAreIdeal};
 ghost use Rattle.round_laws.specs.IdealScans.{FreshScansAreIdeal, ScansAreIdeal};
+ghost use Rattle.round_laws.specs.Judging.{CountsAreIdeal, JudgesAsTheSource};
 ghost use Rattle.round_laws.specs.Lets.{LetsByMachines};
+ghost use Rattle.round_laws.specs.MachineScans.{MachineScansAreIdeal};
 ghost use Rattle.round_laws.specs.Partials.{FillsSent};
 ghost use Rattle.round_laws.specs.Scans.{ScansAfresh, ScansTheRing};
 ghost use Rattle.round_laws.specs.Seen.{EnvironmentsAreSeen, LoopsAreSeen};
@@ -72,5 +77,24 @@ pub fn machines_see_the_source()
 
 /// The law that a machine that takes an ideal body still holds what the source's run says. It does nothing.
 pub fn takes_are_ideal()
-    ensures { TakesWhatIsKept }
+    ensures kept { TakesWhatIsKept }
+    ensures updates { TakesUpdates }
+    ensures verdicts { TakesVerdicts }
+{}
+
+/// The law that the rows that a close makes of what the source's run says are the source's. It does nothing.
+pub fn closes_are_ideal()
+    ensures dense { DenseRowsAreIdeal }
+    ensures sparse { SparseRowsAreIdeal }
+{}
+
+/// The law that a machine's scan of a half hands on, sends and reads what the source's run says. It does nothing.
+pub fn machines_scan_ideally()
+    ensures { MachineScansAreIdeal }
+{}
+
+/// The law that a machine's counts and totals of ideal contents are its ideal tally, and that a judge rules as the source. It does nothing.
+pub fn judges_rule_as_the_source()
+    ensures counts { CountsAreIdeal }
+    ensures ruling { JudgesAsTheSource }
 {}
