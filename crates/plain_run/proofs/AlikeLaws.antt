@@ -1,5 +1,5 @@
 -- Runs over graphs that are alike: of each vertex the same members and degrees.
-use Rattle.std.proofs.Common.{◌≡◌, ℕ, ℤ, pos, false, zero, suc, ◌+◌, ◌-◌, ◌&&◌, List, [], ◌∷◌, map, length, refl, ap, ◌∙◌, Option, Some, None}
+use Rattle.std.proofs.Common.{◌≡◌, ℕ, ℤ, pos, false, zero, suc, ◌+◌, ◌-◌, ◌&&◌, List, [], map, length, refl, ap, ◌∙◌, Option, Some, None}
 use Rattle.std.specs.Prelude.{if◌then◌else◌, sum}
 use Rattle.std.specs.List.{flat_map, range_with_len}
 use Rattle.vert_base.specs.declared.graph.Edge.{Edge}
@@ -11,16 +11,15 @@ use Rattle.vert_base.specs.Neighbours.{source}
 use Rattle.vert_tree.specs.declared.program.Dense.{Dense}
 use Rattle.vert_tree.specs.declared.program.Program.{Program}
 use Rattle.vert_tree.specs.declared.program.Sparse.{Sparse}
-use Rattle.vert_tree.specs.declared.program.TotalDecl.{TotalDecl}
 use Rattle.vert_tree.specs.declared.statement.Stmt.{Stmt}
 use Rattle.mode_switch.specs.Ruling.{ruling_of}
-use Rattle.slot_merge.specs.Combine.{Emission, slot_values, total_of}
+use Rattle.slot_merge.specs.Combine.{slot_values, total_of}
 use Rattle.vert_eval.specs.declared.environment.Env.{Env}
 use Rattle.vert_eval.specs.Words.{is_set}
 use Rattle.vert_eval.specs.Values.{value_of}
 use Rattle.vert_eval.specs.Runs.{after, in_turn, leaves, run}
-use Rattle.vert_eval.specs.Rounds.{Graph, Scene, at_member, dense_at, dense_block, dense_part, emitted_over, env_at, gathered, indegree, loop, member_act, members_of, neighbour_of, no_values, outdegree, reading, reads_of, row_after, row_at, rows_after, sender_at, sent_by, slot_ops, sparse_part, updated, with_lets}
-use Rattle.vert_eval.specs.SourceRun.{Job, Played, Run, Standing, active_edges, active_vertices, by_ruling, first_row, first_rows, next_standing, played_at, resumed_run, rounds_from, ruling_after, scene_before, scene_of, source_run, standing_after, stops, stops_after, then_runs, total_after, totals_after, with_row}
+use Rattle.vert_eval.specs.Rounds.{Graph, Scene, at_member, dense_block, dense_part, emitted_over, env_at, gathered, indegree, loop, members_of, no_values, outdegree, reading, reads_of, row_after, row_at, rows_after, sent_by, slot_ops, sparse_part, updated, with_lets}
+use Rattle.vert_eval.specs.SourceRun.{Job, Standing, active_edges, active_vertices, by_ruling, first_rows, next_standing, played_at, resumed_run, rounds_from, ruling_after, scene_before, scene_of, source_run, standing_after, stops, then_runs, totals_after, with_row}
 
 -- graphs whose loops read the same
 pub record AreAlike (g h : Graph) : Type 0 where

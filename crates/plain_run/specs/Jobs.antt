@@ -1,5 +1,6 @@
 -- What a run works on and what stands between its rounds, in the words of the meaning.
 use Rattle.std.specs.Prelude.{◌≡◌, ℕ, List, length, All}
+use Rattle.edge_reader.specs.EdgeList as edges
 use Rattle.vert_base.specs.declared.graph.Edge.{Edge}
 use Rattle.vert_base.specs.declared.value.Row.{Row}
 use Rattle.vert_tree.specs.declared.program.Program.{Program}
@@ -23,6 +24,10 @@ standing_of s = record {
 -- a job, given what it works on
 abbrev pub plain_job : Program → ℕ → List ℕ → List Edge → ℕ → meaning.Job
 plain_job program vertices ends edges draws = record { program = program; graph = plain_graph vertices ends edges; draws = draws }
+
+-- a job over the edges of a table
+abbrev pub table_job : Program → edges.Graph → List ℕ → ℕ → meaning.Job
+table_job program table ends draws = plain_job program table.vertices ends table.list draws
 
 -- of each vertex a row with a word for each field
 pub record HasRows (j : Job) (rows : List Row) : Type 0 where

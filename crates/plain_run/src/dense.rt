@@ -22,7 +22,8 @@ fn run_lets(lets: &[Decl], env: &mut Env)
     requires names { IsTrue (lets_placed (counts_of env.old) lets.now) }
     requires draws { CanDraw env.old }
     ensures value { env.new ≡ with_lets lets.now env.old }
-    ensures counts { counts_of env.new ≡ record (counts_of env.old) { locals = length env.old.locals.items + length lets.now } }
+    ensures counts { counts_of env.new ≡ record
+        (counts_of env.old) { locals = length env.old.locals.items + length lets.now } }
     ensures same { SameDraws env.old env.new }
 {
     for decl in lets {
@@ -41,7 +42,8 @@ fn visit(scene: &Scene, body: &[Stmt], member: &Edge, env: &mut Env, emits: &mut
     requires partials { length emits.old.slots.items ≡ length env.old.slots.items }
     ensures env { env.new ≡ (member_act (scene_of scene.now) body.now member.now env.old).env }
     ensures flow { result ≡ (member_act (scene_of scene.now) body.now member.now env.old).flow }
-    ensures emits { emits.new.slots.items ≡ with_emissions env.old.key emits.old.slots.items (member_act (scene_of scene.now) body.now member.now env.old).emitted }
+    ensures emits { emits.new.slots.items ≡ with_emissions env.old.key emits.old.slots.items
+        (member_act (scene_of scene.now) body.now member.now env.old).emitted }
     ensures kept { SameFrame env.old env.new }
     ensures partials { length emits.new.slots.items ≡ length emits.old.slots.items }
 {
@@ -114,7 +116,8 @@ fn run_loop(
     requires names { (rights : Rights) × IsTrue (body_placed rights (counts_of env.old) body.now) }
     requires draws { CanDraw env.old }
     requires partials { length emits.old.slots.items ≡ length env.old.slots.items }
-    ensures env { env.new ≡ (loop (scene_of scene.now) body.now (members_in members.now) env.old).env }
+    ensures env { env.new ≡ (loop (scene_of scene.now) body.now
+        (members_in members.now) env.old).env }
     ensures emits { emits.new.slots.items ≡ with_emissions env.old.key emits.old.slots.items
         (loop (scene_of scene.now) body.now (members_in members.now) env.old).emitted }
     ensures within { result ≤ length (members_in members.now) }
@@ -140,7 +143,8 @@ fn run_block(scene: &Scene, dense: &Dense, v: u32, env: &mut Env, emits: &mut Em
     requires draws { CanDraw env.old }
     requires partials { length emits.old.slots.items ≡ length env.old.slots.items }
     ensures emits { emits.new.slots.items
-        ≡ with_emissions env.old.key emits.old.slots.items (dense_block (scene_of scene.now) dense.now (members_at scene.now v) env.old).emitted }
+        ≡ with_emissions env.old.key emits.old.slots.items
+        (dense_block (scene_of scene.now) dense.now (members_at scene.now v) env.old).emitted }
     ensures within { result ≤ length (members_at scene.now v) }
     ensures reads { map source (take result (members_at scene.now v))
         ≡ (dense_block (scene_of scene.now) dense.now (members_at scene.now v) env.old).reads }
@@ -167,7 +171,8 @@ pub(crate) fn run_dense(
     requires draws { CanDraw env.old }
     requires partials { length emits.old.slots.items ≡ length env.old.slots.items }
     ensures emits { emits.new.slots.items
-        ≡ with_emissions env.old.key emits.old.slots.items (dense_at (scene_of scene.now) dense.now (members_at scene.now v) env.old).emitted }
+        ≡ with_emissions env.old.key emits.old.slots.items
+        (dense_at (scene_of scene.now) dense.now (members_at scene.now v) env.old).emitted }
     ensures within { result ≤ length (members_at scene.now v) }
     ensures reads { map source (take result (members_at scene.now v))
         ≡ (dense_at (scene_of scene.now) dense.now (members_at scene.now v) env.old).reads }

@@ -17,7 +17,7 @@ pub(crate) struct Graph<'a> {
     pub cuts: &'a Cuts<MACHINES>,
 }
 
-/// The edges into a vertex in the order in which its loop reads them: the first ones, then the rest.
+/// The edges into a vertex in the order in which its loop reads them: the first, then the rest.
 #[derive(Drop)]
 pub(crate) struct Members<'a> {
     pub first: &'a [Edge],

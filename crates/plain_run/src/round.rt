@@ -20,8 +20,8 @@ use std::alloc::{AllocError, Global};
 use vert_base::{Edge, Row, Ruling, VertexId};
 use vert_eval::Env;
 
-/// What a round gives: the rows after it, how many sources were read, and where they are kept, those
-/// that each vertex read, in order.
+/// What a round gives: the rows after it, how many sources were read, and where they are kept,
+/// those that each vertex read, in order.
 #[derive(Drop)]
 pub(crate) struct Outcome {
     pub rows: Vec<Row>,
@@ -52,7 +52,8 @@ fn blank_desk() -> Desk {
 fn emit_at(scene: &Scene, ruling: Ruling, v: u32, desk: &mut Desk) -> usize
     requires ready { IsReady scene.now }
     requires inside { v < scene.now.graph.now.vertices }
-    requires partials { length desk.old.emits.slots.items ≡ length (program_of scene.now).slots.items }
+    requires partials { length desk.old.emits.slots.items ≡ length
+        (program_of scene.now).slots.items }
     ensures emits { desk.new.emits.slots.items ≡ with_emissions 0 desk.old.emits.slots.items
         (gathered (program_of scene.now) ruling (scene_of scene.now) v).emitted }
     ensures within { result ≤ length (members_at scene.now v) }
@@ -89,7 +90,8 @@ fn emit_at(scene: &Scene, ruling: Ruling, v: u32, desk: &mut Desk) -> usize
 fn gather(scene: &Scene, ruling: Ruling, v: u32, desk: &mut Desk) -> usize
     requires ready { IsReady scene.now }
     requires inside { v < scene.now.graph.now.vertices }
-    ensures values { map (λ p. p.value) desk.new.emits.slots.items ≡ slot_values 0 (slot_ops (program_of scene.now))
+    ensures values { map (λ p. p.value) desk.new.emits.slots.items ≡ slot_values 0
+        (slot_ops (program_of scene.now))
         (gathered (program_of scene.now) ruling (scene_of scene.now) v).emitted }
     ensures within { result ≤ length (members_at scene.now v) }
     ensures reads { map source (take result (members_at scene.now v))
@@ -125,7 +127,8 @@ fn updated_row(scene: &Scene, v: u32, desk: &mut Desk) -> Row
 }
 
 fn push_sources(edges: &[Edge], ids: &mut Vec<VertexId>) -> Result<(), AllocError>
-    ensures { IfOk result (λ _. ids_of ids.new.items ≡ ids_of ids.old.items ++ map source edges.now) }
+    ensures { IfOk result (λ _. ids_of ids.new.items
+        ≡ ids_of ids.old.items ++ map source edges.now) }
 {
     for edge in edges {
         ids.push(edge.from)?;
@@ -136,7 +139,8 @@ fn push_sources(edges: &[Edge], ids: &mut Vec<VertexId>) -> Result<(), AllocErro
 /// The sources of the members that were read, in order.
 fn sources(alloc: Global, members: &Members, read: usize) -> Result<Vec<VertexId>, AllocError>
     requires { read ≤ length (members_in members.now) }
-    ensures { IfOk result (λ ids. ids_of ids.items ≡ map source (take read (members_in members.now))) }
+    ensures { IfOk result (λ ids. ids_of ids.items ≡ map source
+        (take read (members_in members.now))) }
 {
     let mut ids = Vec::with_capacity(alloc, read)?;
     let first = members.first.len();
@@ -176,11 +180,14 @@ pub(crate) fn round(
     kept: bool,
 ) -> Result<Outcome, AllocError>
     requires { IsReady scene.now }
-    ensures rows { IfOk result (λ outcome. outcome.rows.items ≡ rows_after (program_of scene.now) ruling (scene_of scene.now)) }
-    ensures read { IfOk result (λ outcome. outcome.read ≡ read_in (reads_of (program_of scene.now) ruling (scene_of scene.now))) }
+    ensures rows { IfOk result (λ outcome. outcome.rows.items ≡ rows_after
+        (program_of scene.now) ruling (scene_of scene.now)) }
+    ensures read { IfOk result (λ outcome. outcome.read ≡ read_in
+        (reads_of (program_of scene.now) ruling (scene_of scene.now))) }
     ensures reads { IfOk result (λ outcome. id_lists_of outcome.reads
         ≡ kept_reads kept (reads_of (program_of scene.now) ruling (scene_of scene.now))) }
-    ensures wide { IfOk result (λ outcome. AreWide (length (program_of scene.now).fields.items) outcome.rows.items) }
+    ensures wide { IfOk result (λ outcome. AreWide
+        (length (program_of scene.now).fields.items) outcome.rows.items) }
 {
     let vertices = scene.graph.vertices();
     let mut rows = Vec::with_capacity(alloc, vertices as usize)?;

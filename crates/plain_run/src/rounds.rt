@@ -1,10 +1,10 @@
 ghost use Rattle.std.specs.Prelude.{◌≡◌, ◌≤◌, IfOk, length, map};
-ghost use Rattle.std.specs.List.{All};
 ghost use Rattle.vert_base.specs.declared.limits.TheConstants.{ROUNDS, VERTICES};
 ghost use Rattle.chunk_split.specs.Chunks.{vertices_of};
 ghost use Rattle.vert_eval.specs.SourceRun.{next_standing, played_at, resumed_run, source_run};
-ghost use Rattle.plain_run.specs.Jobs.{IsStanding, job_of, plain_job, standing_of};
+ghost use Rattle.plain_run.specs.Jobs.{IsStanding, job_of, standing_of, table_job};
 ghost use Rattle.plain_run.specs.Told.{rounds_told, told_of, told_played};
+ghost use Rattle.plain_run.specs.Views.{AreWide};
 
 use super::graph::Graph;
 use super::job::{Job, Standing, limit_of};
@@ -79,11 +79,13 @@ fn play(alloc: Global, job: &Job, number: u32, standing: &Standing) -> Result<St
 /// The rounds from the first one on.
 fn run_from(alloc: Global, job: &Job, first: Standing) -> Result<PlainRun, AllocError>
     requires { IsStanding job.now first }
-    ensures rows { IfOk result (λ run. run.rows.items ≡ (resumed_run (job_of job.now) 1 (standing_of first)).last.rows) }
+    ensures rows { IfOk result (λ run. run.rows.items ≡
+        (resumed_run (job_of job.now) 1 (standing_of first)).last.rows) }
     ensures rounds { IfOk result (λ run. map told_of run.rounds.items
         ≡ rounds_told job.now.kept (resumed_run (job_of job.now) 1 (standing_of first))) }
     ensures each { IfOk result (λ run. length run.rows.items ≡ job.now.graph.now.vertices) }
-    ensures wide { IfOk result (λ run. All (λ r. length r.words.items ≡ length job.now.program.now.program.fields.items) run.rows.items) }
+    ensures wide { IfOk result (λ run.
+        AreWide (length job.now.program.now.program.fields.items) run.rows.items) }
 {
     let mut standing = first;
     let mut rounds = Vec::new(alloc);
@@ -109,16 +111,19 @@ fn run_from(alloc: Global, job: &Job, first: Standing) -> Result<PlainRun, Alloc
 
 fn run_job(alloc: Global, job: &Job) -> Result<PlainRun, AllocError>
     ensures rows { IfOk result (λ run. run.rows.items ≡ (source_run (job_of job.now)).last.rows) }
-    ensures rounds { IfOk result (λ run. map told_of run.rounds.items ≡ rounds_told job.now.kept (source_run (job_of job.now))) }
+    ensures rounds { IfOk result (λ run. map told_of run.rounds.items ≡ rounds_told job.now.kept
+        (source_run (job_of job.now))) }
     ensures each { IfOk result (λ run. length run.rows.items ≡ job.now.graph.now.vertices) }
-    ensures wide { IfOk result (λ run. All (λ r. length r.words.items ≡ length job.now.program.now.program.fields.items) run.rows.items) }
+    ensures wide { IfOk result (λ run.
+        AreWide (length job.now.program.now.program.fields.items) run.rows.items) }
 {
     let rows = first_rows(alloc, job)?;
     run_from(alloc, job, standing_after(job, 0, rows))
 }
 
-/// The run of a program over the edges of a table by one machine, which holds all vertices and reads
-/// the edges into each in the order that the ends of the chunks give. The only error is want of memory.
+/// The run of a program over the edges of a table by one machine, which holds all vertices and
+/// reads the edges into each in the order that the ends of the chunks give. The only error is want
+/// of memory.
 ///
 /// What each vertex read is kept only where it is asked for.
 pub fn run_plainly(
@@ -131,12 +136,13 @@ pub fn run_plainly(
 ) -> Result<PlainRun, Want>
     requires { vertices_of cuts.now ≡ table.now.vertices }
     ensures rows { IfOk result (λ run. run.rows.items
-        ≡ (source_run (plain_job program.now.program table.now.vertices cuts.now table.now.list draws)).last.rows) }
+        ≡ (source_run (table_job program.now.program table.now cuts.now draws)).last.rows) }
     ensures rounds { IfOk result (λ run. map told_of run.rounds.items ≡ rounds_told kept
-        (source_run (plain_job program.now.program table.now.vertices cuts.now table.now.list draws))) }
+        (source_run (table_job program.now.program table.now cuts.now draws))) }
     ensures each { IfOk result (λ run. length run.rows.items ≡ table.now.vertices) }
     ensures few { IfOk result (λ run. length run.rows.items ≤ VERTICES) }
-    ensures wide { IfOk result (λ run. All (λ r. length r.words.items ≡ length program.now.program.fields.items) run.rows.items) }
+    ensures wide { IfOk result (λ run.
+        AreWide (length program.now.program.fields.items) run.rows.items) }
 {
     let _vertices = table.vertices();
     let graph = Graph { table, cuts };

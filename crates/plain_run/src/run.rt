@@ -18,7 +18,8 @@ pub(crate) fn run_body(body: &[Stmt], env: &mut Env, emits: &mut Emits) -> Flow
     requires partials { length emits.old.slots.items ≡ length env.old.slots.items }
     ensures env { env.new ≡ (run body.now env.old).env }
     ensures flow { result ≡ (run body.now env.old).flow }
-    ensures emits { emits.new.slots.items ≡ with_emissions env.old.key emits.old.slots.items (run body.now env.old).emitted }
+    ensures emits { emits.new.slots.items ≡ with_emissions env.old.key emits.old.slots.items
+        (run body.now env.old).emitted }
     ensures kept { SameFrame env.old env.new }
     ensures partials { length emits.new.slots.items ≡ length emits.old.slots.items }
 {
@@ -38,7 +39,8 @@ fn run_stmt(stmt: &Stmt, env: &mut Env, emits: &mut Emits) -> Flow
     requires partials { length emits.old.slots.items ≡ length env.old.slots.items }
     ensures env { env.new ≡ (act_of stmt.now env.old).env }
     ensures flow { result ≡ (act_of stmt.now env.old).flow }
-    ensures emits { emits.new.slots.items ≡ with_emissions env.old.key emits.old.slots.items (act_of stmt.now env.old).emitted }
+    ensures emits { emits.new.slots.items ≡ with_emissions env.old.key emits.old.slots.items
+        (act_of stmt.now env.old).emitted }
     ensures kept { SameFrame env.old env.new }
     ensures partials { length emits.new.slots.items ≡ length emits.old.slots.items }
 {
@@ -102,7 +104,8 @@ fn note(op: AssignOp, i: u8, touched: u8) -> u8
 
 fn emit(slot: What, word: i64, key: u32, emits: &mut Emits)
     requires { (i : ℕ) × (slot ≡ What.Slot i) × (i < length emits.old.slots.items) }
-    ensures value { emits.new.slots.items ≡ with_emissions key emits.old.slots.items (emission slot word) }
+    ensures value { emits.new.slots.items ≡ with_emissions key emits.old.slots.items
+        (emission slot word) }
     ensures kept { length emits.new.slots.items ≡ length emits.old.slots.items }
 {
     match slot {

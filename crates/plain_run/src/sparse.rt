@@ -19,7 +19,8 @@ use vert_tree::Sparse;
 /// Writes what the sends are at a sender.
 fn put_sends(sparse: &Sparse, sender: &Env, words: &mut ArrayVec<i64, 8>)
     requires few { length sparse.now.sends.items ≤ 8 }
-    requires names { IsTrue (list_all (λ d. expr_placed (counts_of sender.now) d.value) sparse.now.sends.items) }
+    requires names { IsTrue (list_all (λ d. expr_placed
+        (counts_of sender.now) d.value) sparse.now.sends.items) }
     requires draws { CanDraw sender.now }
     ensures { words.new.items ≡ sent_by sparse.now sender.now }
 {
@@ -47,8 +48,10 @@ fn receive(
     requires counts { counts_of sender.now ≡ counts_in scene.now }
     requires draws { CanDraw sender.now }
     requires partials { length emits.old.slots.items ≡ length (program_of scene.now).slots.items }
-    ensures emits { let receiver = sender_at (scene_of scene.now) (slot_ops (program_of scene.now)) v in
-        emits.new.slots.items ≡ with_emissions 0 emits.old.slots.items (received (scene_of scene.now) sparse.now member.now sender.now receiver).emitted }
+    ensures emits { let receiver = sender_at (scene_of scene.now)
+        (slot_ops (program_of scene.now)) v in
+        emits.new.slots.items ≡ with_emissions 0 emits.old.slots.items
+        (received (scene_of scene.now) sparse.now member.now sender.now receiver).emitted }
     ensures partials { length emits.new.slots.items ≡ length emits.old.slots.items }
 {
     enter_bare(scene, v, env);
@@ -73,8 +76,11 @@ fn take_from(
     requires placed { IsTrue (sparse_placed (counts_in scene.now) sparse.now) }
     requires few { length sparse.now.sends.items ≤ 8 }
     requires partials { length emits.old.slots.items ≡ length (program_of scene.now).slots.items }
-    ensures emits { let receiver = sender_at (scene_of scene.now) (slot_ops (program_of scene.now)) v in
-        emits.new.slots.items ≡ with_emissions 0 emits.old.slots.items (emitted_over (scene_of scene.now) (slot_ops (program_of scene.now)) sparse.now receiver member.now) }
+    ensures emits { let receiver = sender_at (scene_of scene.now)
+        (slot_ops (program_of scene.now)) v in
+        emits.new.slots.items ≡ with_emissions 0 emits.old.slots.items
+        (emitted_over (scene_of scene.now)
+        (slot_ops (program_of scene.now)) sparse.now receiver member.now) }
     ensures partials { length emits.new.slots.items ≡ length emits.old.slots.items }
 {
     if !scene.rows[member.from.0 as usize].active {
@@ -102,9 +108,11 @@ fn take_all(
     requires placed { IsTrue (sparse_placed (counts_in scene.now) sparse.now) }
     requires few { length sparse.now.sends.items ≤ 8 }
     requires partials { length emits.old.slots.items ≡ length (program_of scene.now).slots.items }
-    ensures emits { let receiver = sender_at (scene_of scene.now) (slot_ops (program_of scene.now)) v in
+    ensures emits { let receiver = sender_at (scene_of scene.now)
+        (slot_ops (program_of scene.now)) v in
         emits.new.slots.items ≡ with_emissions 0 emits.old.slots.items
-        (flat_map (emitted_over (scene_of scene.now) (slot_ops (program_of scene.now)) sparse.now receiver) members.now) }
+        (flat_map (emitted_over (scene_of scene.now)
+        (slot_ops (program_of scene.now)) sparse.now receiver) members.now) }
     ensures partials { length emits.new.slots.items ≡ length emits.old.slots.items }
 {
     for member in members {
@@ -126,9 +134,11 @@ pub(crate) fn run_sparse(
     requires placed { IsTrue (sparse_placed (counts_in scene.now) sparse.now) }
     requires few { length sparse.now.sends.items ≤ 8 }
     requires partials { length emits.old.slots.items ≡ length (program_of scene.now).slots.items }
-    ensures emits { let receiver = sender_at (scene_of scene.now) (slot_ops (program_of scene.now)) v in
+    ensures emits { let receiver = sender_at (scene_of scene.now)
+        (slot_ops (program_of scene.now)) v in
         emits.new.slots.items ≡ with_emissions 0 emits.old.slots.items
-        (flat_map (emitted_over (scene_of scene.now) (slot_ops (program_of scene.now)) sparse.now receiver) (members_at scene.now v)) }
+        (flat_map (emitted_over (scene_of scene.now)
+        (slot_ops (program_of scene.now)) sparse.now receiver) (members_at scene.now v)) }
     ensures partials { length emits.new.slots.items ≡ length emits.old.slots.items }
 {
     let members = scene.graph.members_of(v);

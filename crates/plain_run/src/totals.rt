@@ -75,7 +75,8 @@ fn total_words(job: &Job, round: u32, rows: &[Row], totals: &[TotalDecl]) -> Arr
     requires room { length totals.now ≤ 4 }
     requires round { round ≤ ROUNDS }
     requires rows { HasRows job.now rows.now }
-    requires names { IsTrue (list_all (λ t. expr_placed (row_counts job.now.program.now.program) t.value) totals.now) }
+    requires names { IsTrue (list_all (λ t. expr_placed
+        (row_counts job.now.program.now.program) t.value) totals.now) }
     ensures { result.items ≡ map (total_after (job_of job.now) round rows.now) totals.now }
 {
     let mut words = ArrayVec::new();
@@ -99,7 +100,8 @@ fn test_after(job: &Job, round: u32, totals: &[i64], test: &Expr) -> bool
     requires round { round ≤ ROUNDS }
     requires totals { length totals.now ≡ length job.now.program.now.program.totals.items }
     requires names { IsTrue (expr_placed (stop_counts job.now.program.now.program) test.now) }
-    ensures { result ≡ is_set (value_of test.now (env_at (scene_of (job_of job.now) round [] totals.now) 0 [])) }
+    ensures { result ≡ is_set (value_of test.now
+        (env_at (scene_of (job_of job.now) round [] totals.now) 0 [])) }
 {
     let scene = Scene {
         program: job.program,

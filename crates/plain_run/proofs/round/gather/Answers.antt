@@ -1,4 +1,4 @@
-use Rattle.std.proofs.Common.{◌≡◌, ◌≤◌, length, map, ap, ◌∙◌}
+use Rattle.std.proofs.Common.{◌≤◌, length, map, ap, ◌∙◌}
 use Rattle.slot_merge.specs.Partials.{empty_partial, with_emissions}
 use Rattle.slot_merge.proofs.SlotLaws.{slot_values_are}
 use Rattle.vert_eval.specs.Rounds.{gathered, slot_ops}

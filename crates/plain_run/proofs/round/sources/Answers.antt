@@ -1,4 +1,4 @@
-use Rattle.std.proofs.Common.{◌≡◌, ◌+◌, ◌-◌, ◌++◌, [], length, map, take, ap, ◌∙◌, arith}
+use Rattle.std.proofs.Common.{◌≡◌, ◌+◌, ◌-◌, ◌++◌, length, map, take, ap, ◌∙◌, arith}
 use Rattle.vert_base.specs.Neighbours.{source}
 use Rattle.plain_run.specs.Lists.{ids_of}
 use Rattle.plain_run.specs.Views.{members_in}

@@ -1,9 +1,7 @@
-use Rattle.std.proofs.Common.{[], map, length, ap, ◌∙◌, arith}
+use Rattle.std.proofs.Common.{map, length, ap, ◌∙◌, arith}
 use Rattle.std.specs.List.{list_all}
 use Rattle.std.proofs.Math.ListN.{length-map}
 use Rattle.vert_tree.specs.Places.{expr_placed}
-use Rattle.vert_eval.specs.Rounds.{env_at}
-use Rattle.vert_eval.specs.SourceRun.{scene_of}
 use Rattle.vert_eval.specs.Values.{counts_of, value_of}
 use Rattle.plain_run.specs.Jobs.{job_of}
 use Rattle.plain_run.proofs.StartLaws.{entered_counts, first_row_is}

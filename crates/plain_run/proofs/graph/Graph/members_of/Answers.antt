@@ -5,7 +5,6 @@ use Rattle.std.proofs.lemmas.List.Elements.{All-filter}
 use Rattle.std.specs.List.Sorted.{IsNonDecreasingBy}
 use Rattle.vert_base.specs.declared.graph.Edge.{Edge}
 use Rattle.vert_base.specs.Neighbours.{AreBelow, ins_of, source, turn_of, turned}
-use Rattle.plain_run.specs.Views.{members_in}
 use Rattle.plain_run.proofs.GraphLaws.{ins_below, ins_rise, turned_count}
 use Rattle.plain_run.proofs.graph.Graph.members_of.Goals as goal
 
