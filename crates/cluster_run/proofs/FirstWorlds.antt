@@ -37,28 +37,37 @@ pub all_at : {X : Type 0} → (P : X → Type 0) (xs : List X) (m : ℕ) (x : X)
 all_at P xs m x all at =
     subst P (get_or_from_slice_get xs m x x at) (All-get_or P xs m x (slice_get_within xs m x at) all)
 
-replicated : {X Y : Type 0} → (f : X → Y) (xs : List X) (y : Y) → ((m : ℕ) (x : X) → slice_get xs m ≡ Some x → f x ≡ y) → map f xs ≡ replicate (length xs) y
+replicated : {X Y : Type 0} → (f : X → Y) (xs : List X) (y : Y) →
+    ((m : ℕ) (x : X) → slice_get xs m ≡ Some x → f x ≡ y) → map f xs ≡ replicate (length xs) y
 replicated f [] y each = refl
-replicated f (x ∷ xs) y each = ap (λ z. z ∷ map f xs) (each 0 x refl) ∙ ap (λ zs. y ∷ zs) (replicated f xs y (λ m z at. each (suc m) z at))
+replicated f (x ∷ xs) y each = ap (λ z. z ∷ map f xs) (each 0 x refl)
+    ∙ ap (λ zs. y ∷ zs) (replicated f xs y (λ m z at. each (suc m) z at))
 
 nothing_found : (ms : List Letter) → ms ≡ [] → (x : Name) (l : Letter) → found x ms ≡ Some l → ⊥
-nothing_found ms e x l at = let none : found x [] ≡ Some l = subst (λ ys. found x ys ≡ Some l) e at in let no : None ≡ Some l = none in cc
+nothing_found ms e x l at = let none : found x [] ≡ Some l = subst (λ ys. found x ys ≡ Some l) e at in
+    let no : None ≡ Some l = none in cc
 
 not_held : (held : List Letter) → held ≡ [] → (x : Name) → has_letter x held ≡ false
 not_held held e x = ap (has_letter x) e
 
-module _ (work : Work) (sound : State → Type 0) (lawful : IsLawful work sound) (split : Split) (parts : List PlainPart) (one : IsOneRun parts) where
+module _ (work : Work) (sound : State → Type 0) (lawful : IsLawful work sound) (split : Split)
+    (parts : List PlainPart) (one : IsOneRun parts) where
   -- the part of a machine has its number
-  numbered : (m : ℕ) (part : PlainPart) → slice_get parts m ≡ Some part → (part.at.machine ≡ m) × (part.at.machines ≡ length parts)
+  numbered : (m : ℕ) (part : PlainPart) → slice_get parts m ≡ Some part → (part.at.machine ≡ m) ×
+      (part.at.machines ≡ length parts)
   numbered m part at =
-      let is = part_at parts one m part at in
-      (ap (λ (q : PlainPart). q.at.machine) is.0, ap (λ (q : PlainPart). q.at.machines) is.0 ∙ sym (parts_count parts one))
+      let is = part_at parts one m part at in (
+        ap (λ (q : PlainPart). q.at.machine) is.0,
+        ap (λ (q : PlainPart). q.at.machines) is.0
+            ∙ sym (parts_count parts one),
+      )
 
   module _ (can_run : All (λ part. CanRun part split) parts) where
     abbrev fresh : World
     fresh = first_world work split parts
 
-    first_made : (m : ℕ) (s : State) → slice_get fresh.sites m ≡ Some s → (part : PlainPart) × (slice_get parts m ≡ Some part) × (work.first part split ≡ s)
+    first_made : (m : ℕ) (s : State) → slice_get fresh.sites m ≡ Some s → (part : PlainPart) ×
+        (slice_get parts m ≡ Some part) × (work.first part split ≡ s)
     first_made m s at = map_get_back (λ part. work.first part split) parts m s at
 
     first_machine : (m : ℕ) (s : State) → slice_get fresh.sites m ≡ Some s → IsMachine sound split parts m s
@@ -74,23 +83,28 @@ module _ (work : Work) (sound : State → Type 0) (lawful : IsLawful work sound)
         })
 
     first_at : (m : ℕ) (s : State) → slice_get fresh.sites m ≡ Some s → s.at ≡ first_standing
-    first_at m s at = let made = first_made m s at in subst (λ (q : State). q.at ≡ first_standing) made.2 (lawful.first_at made.0 split)
+    first_at m s at = let made = first_made m s at in
+        subst (λ (q : State). q.at ≡ first_standing) made.2 (lawful.first_at made.0 split)
 
     first_held : (m : ℕ) (s : State) → slice_get fresh.sites m ≡ Some s → s.held ≡ []
-    first_held m s at = let made = first_made m s at in subst (λ (q : State). q.held ≡ []) made.2 (lawful.first_held made.0 split)
+    first_held m s at = let made = first_made m s at in
+        subst (λ (q : State). q.held ≡ []) made.2 (lawful.first_held made.0 split)
 
     first_count : length fresh.sites ≡ length parts
     first_count = length-map parts (λ part. work.first part split)
 
     first_knows : (m : ℕ) (s : State) → slice_get fresh.sites m ≡ Some s → Knows m s → ⊥
-    first_knows m s at (inl early) = let none = ap (λ (t : Standing). t.round) (first_at m s at) in let late = early.1 in omega arith
-    first_knows m s at (inr told) = false≢true (sym (not_held s.held (first_held m s at) (verdict_name s.at.round m)) ∙ told)
+    first_knows m s at (inl early) = let none = ap (λ (t : Standing). t.round) (first_at m s at) in
+        let late = early.1 in omega arith
+    first_knows m s at (inr told) = false≢true (sym (not_held s.held (first_held m s at) (verdict_name s.at.round m))
+        ∙ told)
 
     pub first_tied : IsSkeletonOf sound split parts fresh (first_skeleton (length parts))
     first_tied = record {
       count = first_count;
       machines = first_machine;
-      standings = replicated (λ (s : State). s.at) fresh.sites first_standing first_at ∙ ap (λ n. replicate n first_standing) first_count;
+      standings = replicated (λ (s : State). s.at) fresh.sites first_standing first_at
+          ∙ ap (λ n. replicate n first_standing) first_count;
       held = λ m s at on x. not_held s.held (first_held m s at) x;
       rulings = λ m s at on knows. absurd (first_knows m s at knows);
       flies = λ x. refl;
@@ -145,7 +159,8 @@ module _ (work : Work) (sound : State → Type 0) (lawful : IsLawful work sound)
     begun_ruling : (m : ℕ) (s : State) → slice_get w.sites m ≡ Some s → s.ruling ≡ ruling_in k.rulings s.at.round
     begun_ruling m s at =
         let it = is.each m s at in
-        it.ruling_is ∙ sym (ruling_here [] ruling round) ∙ ap (ruling_in k.rulings) (sym (ap (λ (t : Standing). t.round) it.at))
+        it.ruling_is ∙ sym (ruling_here [] ruling round)
+        ∙ ap (ruling_in k.rulings) (sym (ap (λ (t : Standing). t.round) it.at))
 
     pub restarted_tied : IsSkeletonOf sound split parts w k
     restarted_tied = record {

@@ -98,8 +98,10 @@ judge_on r Stop = refl
 judge_on r Dense = refl
 judge_on r Sparse = refl
 
-judge_round : (ring : Ring) (m : ℕ) (a : Ruling) (s : Standing) (r : ℕ) → s.spot ≡ Judge r → (next_standing ring m a s).round ≡ r + 1
-judge_round ring m a s r at = ap (λ spot. round_of (round_ruled s.round spot) (next_spot ring m spot a)) at ∙ judge_on r a
+judge_round : (ring : Ring) (m : ℕ) (a : Ruling) (s : Standing) (r : ℕ) → s.spot ≡ Judge r →
+    (next_standing ring m a s).round ≡ r + 1
+judge_round ring m a s r at = ap (λ spot. round_of (round_ruled s.round spot) (next_spot ring m spot a)) at
+    ∙ judge_on r a
 
 pub ruling_back : (a : Ruling) → ruling_with (ruling_byte a) ≡ a
 ruling_back Stop = refl
@@ -109,7 +111,11 @@ ruling_back Sparse = refl
 ruled_letter : (judged : Ruling) (l : Letter) → Rules judged l → ruling_read l.body ≡ judged
 ruled_letter judged l rules = ap ruling_read rules.1 ∙ ruling_back judged
 
-module _ (work : Work) (sound : State → Type 0) (lawful : IsLawful work sound) (split : Split) (parts : List PlainPart) (few : length parts ≤ 64) (one : IsOneRun parts) (w : World) (k : Skeleton) (tied : IsSkeletonOf sound split parts w k) (reached : IsReached (ring_of split (length parts)) (blocks_of split) k) (m : ℕ) (s : State) (here : slice_get w.sites m ≡ Some s) (ready : can_act (Some s) ≡ true) where
+module _ (work : Work) (sound : State → Type 0) (lawful : IsLawful work sound) (split : Split)
+    (parts : List PlainPart) (few : length parts ≤ 64) (one : IsOneRun parts) (w : World) (k : Skeleton)
+    (tied : IsSkeletonOf sound split parts w k)
+    (reached : IsReached (ring_of split (length parts)) (blocks_of split) k) (m : ℕ) (s : State)
+    (here : slice_get w.sites m ≡ Some s) (ready : can_act (Some s) ≡ true) where
   abbrev pub ring : Ring
   ring = ring_of split (length parts)
 
@@ -144,9 +150,12 @@ module _ (work : Work) (sound : State → Type 0) (lawful : IsLawful work sound)
       ⊎_elim
       (λ (first : m ≡ 0). inl (first, omega arith))
       (λ (later : m ≢ 0).
-      let there : Has (needs_of ring m (Begin r)) (verdict_name r m) = subst (λ b. Has (cond b [] (verdict_name r m ∷ [])) (verdict_name r m)) (sym (not_zero m later)) (inl refl) in
-      let needed : Has (needs_of ring m s.at.spot) (verdict_name r m) = subst (λ spot. Has (needs_of ring m spot) (verdict_name r m)) (sym at) there in
-      let held : has_letter (verdict_name r m) s.held ≡ true = ready_holds work sound lawful split parts few w k tied reached m s here ready (verdict_name r m) needed in
+      let there : Has (needs_of ring m (Begin r)) (verdict_name r m) =
+      subst (λ b. Has (cond b [] (verdict_name r m ∷ [])) (verdict_name r m)) (sym (not_zero m later)) (inl refl) in
+      let needed : Has (needs_of ring m s.at.spot) (verdict_name r m) =
+      subst (λ spot. Has (needs_of ring m spot) (verdict_name r m)) (sym at) there in
+      let held : has_letter (verdict_name r m) s.held ≡ true =
+      ready_holds work sound lawful split parts few w k tied reached m s here ready (verdict_name r m) needed in
       inr (subst (λ q. has_letter (verdict_name q m) s.held ≡ true) (sym round) held))
       (cases_eq m 0)
 
@@ -171,11 +180,14 @@ module _ (work : Work) (sound : State → Type 0) (lawful : IsLawful work sound)
 
   pub can_step : is_possible ring blocks judged (Go m) k ≡ true
   can_step =
-      let could = and_parts (not (is_over s.at.spot)) (is_ready ring m s.at k.taken) (ready_goes work sound lawful split parts few w k tied reached m s here ready) in
+      let could = and_parts (not (is_over s.at.spot)) (is_ready ring m s.at k.taken)
+      (ready_goes work sound lawful split parts few w k tied reached m s here ready) in
       let rules : rules_rightly blocks judged s.at.spot ≡ true =
-      rules_by blocks judged s.at.spot (λ r at. subst (λ q. may_rule (blocks_of q) (r + 1) judged ≡ true) is.split_is (lawful.judge_may s r at)) in
+      rules_by blocks judged s.at.spot (λ r at.
+      subst (λ q. may_rule (blocks_of q) (r + 1) judged ≡ true) is.split_is (lawful.judge_may s r at)) in
       subst (λ o. can_go ring blocks judged m o k.taken ≡ true) (sym stands)
-      (and_true (not (is_over s.at.spot)) (is_ready ring m s.at k.taken && rules_rightly blocks judged s.at.spot) could.0
+      (and_true (not (is_over s.at.spot)) (is_ready ring m s.at k.taken && rules_rightly blocks judged s.at.spot)
+      could.0
       (and_true (is_ready ring m s.at k.taken) (rules_rightly blocks judged s.at.spot) could.1 rules))
 
   abbrev pub next : Skeleton
@@ -227,8 +239,10 @@ module _ (work : Work) (sound : State → Type 0) (lawful : IsLawful work sound)
       let to : x.to ≡ m = same_from x.to m for_it.0 in
       let of_it : x.round ≡ round = same_from x.round round for_it.1 in
       let was = each_was_taken ring blocks k x reached taken.0 in
-      let there : slice_get k.standings m ≡ Some was.at = subst (λ j. slice_get k.standings j ≡ Some was.at) to was.stands in
-      let same_at : was.at ≡ s.at = (let q : Some was.at ≡ Some s.at = sym there ∙ stands in (let p : was.at ≡ s.at = cc in p)) in
+      let there : slice_get k.standings m ≡ Some was.at =
+      subst (λ j. slice_get k.standings j ≡ Some was.at) to was.stands in
+      let same_at : was.at ≡ s.at = (let q : Some was.at ≡ Some s.at = sym there ∙ stands in
+      (let p : was.at ≡ s.at = cc in p)) in
       let round_is : was.at.round ≡ s.at.round = ap (λ (t : Standing). t.round) same_at in
       let arrived = was.reached in
       absurd (omega arith))
@@ -240,16 +254,20 @@ module _ (work : Work) (sound : State → Type 0) (lawful : IsLawful work sound)
   next_held on x =
       elim (onward ring m by s.at keeps.round) [
         | ends over ↦ absurd (false≢true (sym on ∙ at_next (λ t. is_over t.spot ≡ true) over))
-        | begins b late ↦ drops x (at_next (λ t. is_begin t.spot ≡ true) b) ∙ sym (none_early x (work.go s).at.round (at_next (λ t. s.at.round < t.round) late))
-        | stays b round ↦ holds_on x (at_next (λ t. is_begin t.spot ≡ false) b) ∙ tied.held m s here going x ∙ ap (λ r. has_name x k.taken && is_for m r x) (sym (at_next (λ t. t.round ≡ s.at.round) round))
+        | begins b late ↦ drops x (at_next (λ t. is_begin t.spot ≡ true) b)
+            ∙ sym (none_early x (work.go s).at.round (at_next (λ t. s.at.round < t.round) late))
+        | stays b round ↦ holds_on x (at_next (λ t. is_begin t.spot ≡ false) b) ∙ tied.held m s here going x
+            ∙ ap (λ r. has_name x k.taken && is_for m r x) (sym (at_next (λ t. t.round ≡ s.at.round) round))
       ]
 
-  next_ruling : is_over (work.go s).at.spot ≡ false → Knows m (work.go s) → (work.go s).ruling ≡ ruling_in next.rulings (work.go s).at.round
+  next_ruling : is_over (work.go s).at.spot ≡ false → Knows m (work.go s) →
+      (work.go s).ruling ≡ ruling_in next.rulings (work.go s).at.round
   next_ruling on knows =
       elim (onward ring m by s.at keeps.round) [
         | ends over ↦ absurd (false≢true (sym on ∙ at_next (λ t. is_over t.spot ≡ true) over))
         | begins b late ↦ new_round (at_next (λ t. is_begin t.spot ≡ true) b) knows
-        | stays b round ↦ same_round (at_next (λ t. is_begin t.spot ≡ false) b) (at_next (λ t. t.round ≡ s.at.round) round) knows
+        | stays b round ↦ same_round (at_next (λ t. is_begin t.spot ≡ false) b)
+            (at_next (λ t. t.round ≡ s.at.round) round) knows
       ]
     where
       judge_rules : (r : ℕ) → s.at.spot ≡ Judge r → (work.go s).ruling ≡ ruling_in next.rulings (work.go s).at.round
@@ -260,18 +278,23 @@ module _ (work : Work) (sound : State → Type 0) (lawful : IsLawful work sound)
           ∙ sym (ap (λ spot. ruling_in (rulings_after judged spot k.rulings) (r + 1)) at)
           ∙ ap (ruling_in next.rulings) (sym (ap (λ (t : Standing). t.round) next_is ∙ judge_round ring m by s.at r at))
 
-      new_round : is_begin (work.go s).at.spot ≡ true → Knows m (work.go s) → (work.go s).ruling ≡ ruling_in next.rulings (work.go s).at.round
+      new_round : is_begin (work.go s).at.spot ≡ true → Knows m (work.go s) →
+          (work.go s).ruling ≡ ruling_in next.rulings (work.go s).at.round
       new_round b (inr told) = absurd (false≢true (sym (drops (verdict_name (work.go s).at.round m) b) ∙ told))
-      new_round b (inl first) = let j = zero_begins ring m by s.at.spot first.0 (by_next (λ t. is_begin t.spot ≡ true) b) in judge_rules j.0 j.1
+      new_round b (inl first) = let j = zero_begins ring m by s.at.spot first.0
+          (by_next (λ t. is_begin t.spot ≡ true) b) in judge_rules j.0 j.1
 
       knew : is_begin (work.go s).at.spot ≡ false → (work.go s).at.round ≡ s.at.round → Knows m (work.go s) → Knows m s
       knew b round (inl first) = inl (first.0, let l = first.1 in omega arith)
       knew b round (inr told) =
-          inr (subst (λ r. has_letter (verdict_name r m) s.held ≡ true) round (sym (holds_on (verdict_name (work.go s).at.round m) b) ∙ told))
+          inr (subst (λ r. has_letter (verdict_name r m) s.held ≡ true) round
+          (sym (holds_on (verdict_name (work.go s).at.round m) b) ∙ told))
 
-      same_round : is_begin (work.go s).at.spot ≡ false → (work.go s).at.round ≡ s.at.round → Knows m (work.go s) → (work.go s).ruling ≡ ruling_in next.rulings (work.go s).at.round
+      same_round : is_begin (work.go s).at.spot ≡ false → (work.go s).at.round ≡ s.at.round → Knows m (work.go s) →
+          (work.go s).ruling ≡ ruling_in next.rulings (work.go s).at.round
       same_round b round knows =
-          let by_it = stays_by ring m by judged s.ruling s.at.spot k.rulings (by_next (λ t. is_over t.spot ≡ false) on) (by_next (λ t. is_begin t.spot ≡ false) b) in
+          let by_it = stays_by ring m by judged s.ruling s.at.spot k.rulings
+          (by_next (λ t. is_over t.spot ≡ false) on) (by_next (λ t. is_begin t.spot ≡ false) b) in
           lawful.go_ruling s ∙ by_it.acting_is ∙ tied.rulings m s here going (knew b round knows)
           ∙ ap (λ made. ruling_in made s.at.round) (sym by_it.rulings_are) ∙ ap (ruling_in next.rulings) (sym round)
 
@@ -279,7 +302,8 @@ module _ (work : Work) (sound : State → Type 0) (lawful : IsLawful work sound)
   gone_machines : (j : ℕ) (t : State) → slice_get gone.sites j ≡ Some t → IsMachine sound split parts j t
   gone_machines j t at =
       elim (set_cases w.sites m (work.go s) j t at) [
-        | same e is_it ↦ subst (λ q. IsMachine sound split parts j q) is_it (subst (λ i. IsMachine sound split parts i (work.go s)) (sym e) next_machine)
+        | same e is_it ↦ subst (λ q. IsMachine sound split parts j q) is_it
+            (subst (λ i. IsMachine sound split parts i (work.go s)) (sym e) next_machine)
         | other ne there ↦ tied.machines j t there
       ]
 
@@ -295,7 +319,8 @@ module _ (work : Work) (sound : State → Type 0) (lawful : IsLawful work sound)
       elim (set_cases w.sites m (work.go s) j t at) [
         | same e is_it ↦
             subst (λ q. has_letter x q.held ≡ (has_name x k.taken && is_for j q.at.round x)) is_it
-            (subst (λ i. has_letter x (work.go s).held ≡ (has_name x k.taken && is_for i (work.go s).at.round x)) (sym e)
+            (subst (λ i. has_letter x (work.go s).held ≡ (has_name x k.taken && is_for i (work.go s).at.round x))
+            (sym e)
             (next_held (subst (λ q. is_over q.at.spot ≡ false) (sym is_it) on) x))
         | other ne there ↦ tied.held j t there on x
       ]
@@ -310,7 +335,8 @@ module _ (work : Work) (sound : State → Type 0) (lawful : IsLawful work sound)
             (subst (λ i. Knows i (work.go s)) e (subst (Knows j) (sym is_it) knows)))
         | other ne there ↦
             tied.rulings j t there on knows
-            ∙ sym (ruled t.at.round (knows_judged work sound lawful split parts few w k tied reached j t there on knows))
+            ∙ sym (ruled t.at.round (knows_judged work sound lawful split parts few w k tied reached j t there on
+            knows))
       ]
 
   gone_flies : (x : Name) → has_letter x gone.under_way ≡ has_name x next.under_way
@@ -338,7 +364,8 @@ module _ (work : Work) (sound : State → Type 0) (lawful : IsLawful work sound)
   sent_new =
       are_new (work.sent s) w.under_way
       (subst Once (sym sent_are) (once_later k.under_way (gives_of ring m s.at.spot by) next_once))
-      (λ x h. tied.flies x ∙ once_apart k.under_way (gives_of ring m s.at.spot by) next_once x (subst (λ xs. Has xs x) sent_are h))
+      (λ x h. tied.flies x ∙ once_apart k.under_way (gives_of ring m s.at.spot by) next_once x
+      (subst (λ xs. Has xs x) sent_are h))
 
   sent_from : (l : Letter) → Has (work.sent s) l → Has (gives_of ring m s.at.spot by) l.name
   sent_from l h = subst (λ xs. Has xs l.name) sent_are (has_its_name (work.sent s) l h)
@@ -367,7 +394,8 @@ module _ (work : Work) (sound : State → Type 0) (lawful : IsLawful work sound)
       tied.verdicts x l old verdict ∙ sym (ruled x.round (each_is_takeable ring blocks k x reached flew).judged))
       (λ (new : Has (work.sent s) l).
       let named : l.name ≡ x = found_name x gone.under_way l e in
-      let judge = (gift_from ring m s.at.spot by l.name (sent_from l new)).1 (ap (λ (y : Name). y.kind) named ∙ verdict) in
+      let judge = (gift_from ring m s.at.spot by l.name (sent_from l new)).1 (ap (λ (y : Name). y.kind) named
+      ∙ verdict) in
       let round : x.round ≡ judge.0 + 1 = sym (ap (λ (y : Name). y.round) named) ∙ judge.2 in
       ruled_letter judged l (all_has (Rules judged) (work.sent s) l (lawful.sent_rulings s judge.0 judge.1) new)
       ∙ sym (ruling_here k.rulings judged (judge.0 + 1))

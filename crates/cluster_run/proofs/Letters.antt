@@ -44,11 +44,14 @@ some_if : (b : Bool) (l : Letter) (rest : Option Letter) → is_some (if b then 
 some_if true l rest = refl
 some_if false l rest = refl
 
-pub has_placed : (x : Name) (l : Letter) (ms : List Letter) → has_letter x (placed l ms) ≡ (same_name x l.name || has_letter x ms)
+pub has_placed : (x : Name) (l : Letter) (ms : List Letter) →
+    has_letter x (placed l ms) ≡ (same_name x l.name || has_letter x ms)
 has_placed x l ms =
-    ap is_some (placed_law l ms x) ∙ some_if (same_name l.name x) l (found x ms) ∙ ap (λ b. b || has_letter x ms) (same_swap l.name x)
+    ap is_some (placed_law l ms x) ∙ some_if (same_name l.name x) l (found x ms)
+    ∙ ap (λ b. b || has_letter x ms) (same_swap l.name x)
 
-pub has_cons : (x : Name) (m : Letter) (ms : List Letter) → has_letter x (m ∷ ms) ≡ (same_name x m.name || has_letter x ms)
+pub has_cons : (x : Name) (m : Letter) (ms : List Letter) →
+    has_letter x (m ∷ ms) ≡ (same_name x m.name || has_letter x ms)
 has_cons x m ms = some_if (same_name m.name x) m (found x ms) ∙ ap (λ b. b || has_letter x ms) (same_swap m.name x)
 
 -- a name is found where the list of names has it
@@ -63,7 +66,8 @@ none_or false true c = refl
 none_or false false c = refl
 
 -- ---- many letters put among others
-pub has_all_placed : (x : Name) (ls ms : List Letter) → has_letter x (all_placed ls ms) ≡ (has_name x (names_of ls) || has_letter x ms)
+pub has_all_placed : (x : Name) (ls ms : List Letter) →
+    has_letter x (all_placed ls ms) ≡ (has_name x (names_of ls) || has_letter x ms)
 has_all_placed x [] ms = refl
 has_all_placed x (l ∷ ls) ms =
     has_all_placed x ls (placed l ms)
@@ -81,14 +85,17 @@ pub or_false : (a b : Bool) → a ≡ false → b ≡ false → (a || b) ≡ fal
 or_false a b e f = subst (λ c. (c || b) ≡ false) (sym e) f
 
 pub not_same_names : (x y : Name) → (x ≡ y → ⊥) → same_name x y ≡ false
-not_same_names x y differ = ⊎_elim (λ (e : same_name x y ≡ true). absurd (differ (names_law x y e))) (λ (e : same_name x y ≡ false). e) (test_cases (same_name x y))
+not_same_names x y differ = ⊎_elim (λ (e : same_name x y ≡ true). absurd (differ (names_law x y e)))
+    (λ (e : same_name x y ≡ false). e) (test_cases (same_name x y))
 
-pub are_new : (ls ms : List Letter) → Once (names_of ls) → ((x : Name) → Has (names_of ls) x → has_letter x ms ≡ false) → AreNew ls ms
+pub are_new : (ls ms : List Letter) → Once (names_of ls) →
+    ((x : Name) → Has (names_of ls) x → has_letter x ms ≡ false) → AreNew ls ms
 are_new [] ms once apart = tt
 are_new (l ∷ ls) ms once apart = (
   not_found l.name ms (apart l.name (inl refl)),
   are_new ls (placed l ms) once.1
-      (λ x h. has_placed x l ms ∙ or_false (same_name x l.name) (has_letter x ms) (not_same_names x l.name (λ e. once.0 (subst (λ y. Has (names_of ls) y) e h))) (apart x (inr h))),
+      (λ x h. has_placed x l ms ∙ or_false (same_name x l.name) (has_letter x ms)
+      (not_same_names x l.name (λ e. once.0 (subst (λ y. Has (names_of ls) y) e h))) (apart x (inr h))),
 )
 
 pub all_placed_ascends : (ls ms : List Letter) → Ascends ms → AreNew ls ms → Ascends (all_placed ls ms)
@@ -99,12 +106,14 @@ pub all_placed_length : (ls ms : List Letter) → length (all_placed ls ms) ≡ 
 all_placed_length [] ms = omega arith
 all_placed_length (l ∷ ls) ms = let rest = all_placed_length ls (placed l ms) in let one = longer l ms in omega arith
 
-placed_is_step : (l : Letter) (o : Option Letter) (y : Letter) (b : Bool) → (if b then Some l else o) ≡ Some y → (o ≡ Some y) ⊎ (l ≡ y)
+placed_is_step : (l : Letter) (o : Option Letter) (y : Letter) (b : Bool) → (if b then Some l else o) ≡ Some y →
+    (o ≡ Some y) ⊎ (l ≡ y)
 placed_is_step l o y true e = inr (let same : l ≡ y = cc in same)
 placed_is_step l o y false e = inl e
 
 -- what is found there was there, or was put there
-pub all_placed_is : (x : Name) (ls ms : List Letter) (y : Letter) → found x (all_placed ls ms) ≡ Some y → (found x ms ≡ Some y) ⊎ Has ls y
+pub all_placed_is : (x : Name) (ls ms : List Letter) (y : Letter) → found x (all_placed ls ms) ≡ Some y →
+    (found x ms ≡ Some y) ⊎ Has ls y
 all_placed_is x [] ms y e = inl e
 all_placed_is x (l ∷ ls) ms y e =
     ⊎_elim
@@ -119,15 +128,18 @@ left_if : (b : Bool) (o : Option Letter) → is_some (if b then None else o) ≡
 left_if true o = refl
 left_if false o = refl
 
-pub has_without : (x y : Name) (ms : List Letter) → Ascends ms → has_letter y (without x ms) ≡ (not (same_name x y) && has_letter y ms)
+pub has_without : (x y : Name) (ms : List Letter) → Ascends ms →
+    has_letter y (without x ms) ≡ (not (same_name x y) && has_letter y ms)
 has_without x y ms rise = ap is_some (taken_law x ms y rise) ∙ left_if (same_name x y) (found y ms)
 
-shorter_step : (x : Name) (m : Letter) (ms : List Letter) (y : Letter) (b : Bool) → (if b then Some m else found x ms) ≡ Some y → (found x ms ≡ Some y → length (without x ms) + 1 ≡ length ms) →
+shorter_step : (x : Name) (m : Letter) (ms : List Letter) (y : Letter) (b : Bool) →
+    (if b then Some m else found x ms) ≡ Some y → (found x ms ≡ Some y → length (without x ms) + 1 ≡ length ms) →
     length (if b then ms else m ∷ without x ms) + 1 ≡ suc (length ms)
 shorter_step x m ms y true e more = omega arith
 shorter_step x m ms y false e more = let rest = more e in omega arith
 
-pub length_without : (x : Name) (ms : List Letter) (y : Letter) → found x ms ≡ Some y → length (without x ms) + 1 ≡ length ms
+pub length_without : (x : Name) (ms : List Letter) (y : Letter) → found x ms ≡ Some y →
+    length (without x ms) + 1 ≡ length ms
 length_without x [] y e = cc
 length_without x (m ∷ ms) y e = shorter_step x m ms y (same_name m.name x) e (length_without x ms y)
 
@@ -135,7 +147,8 @@ left_is_step : (y : Letter) (o : Option Letter) (b : Bool) → (if b then None e
 left_is_step y o true e = cc
 left_is_step y o false e = e
 
-pub without_is : (x z : Name) (ms : List Letter) (y : Letter) → Ascends ms → found z (without x ms) ≡ Some y → found z ms ≡ Some y
+pub without_is : (x z : Name) (ms : List Letter) (y : Letter) → Ascends ms → found z (without x ms) ≡ Some y →
+    found z ms ≡ Some y
 without_is x z ms y rise e = left_is_step y (found z ms) (same_name x z) (sym (taken_law x ms z rise) ∙ e)
 
 pub and_true : (a b : Bool) → a ≡ true → b ≡ true → (a && b) ≡ true
@@ -203,4 +216,5 @@ or_along false b c = refl
 
 pub name_append : (x : Name) (xs ys : List Name) → has_name x (xs ++ ys) ≡ (has_name x xs || has_name x ys)
 name_append x [] ys = refl
-name_append x (y ∷ xs) ys = ap (λ b. same_name x y || b) (name_append x xs ys) ∙ or_along (same_name x y) (has_name x xs) (has_name x ys)
+name_append x (y ∷ xs) ys = ap (λ b. same_name x y || b) (name_append x xs ys)
+    ∙ or_along (same_name x y) (has_name x xs) (has_name x ys)

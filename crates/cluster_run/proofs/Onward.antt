@@ -33,16 +33,19 @@ from_begin round r Stop e = ends refl
 from_begin round r Dense e = stays refl (sym e)
 from_begin round r Sparse e = stays refl (sym e)
 
-from_scan : (round r s h : ℕ) (a b : Bool) → round ≡ r → by_spot round (Scan r s h) (if a then Scan r s 1 else if b then Scan r (s + 1) 0 else Close r true)
+from_scan : (round r s h : ℕ) (a b : Bool) → round ≡ r →
+    by_spot round (Scan r s h) (if a then Scan r s 1 else if b then Scan r (s + 1) 0 else Close r true)
 from_scan round r s h true b e = stays refl (sym e)
 from_scan round r s h false true e = stays refl (sym e)
 from_scan round r s h false false e = stays refl (sym e)
 
-from_close : (round r : ℕ) (dense b : Bool) → round ≡ r → by_spot round (Close r dense) (if b then Judge r else Begin (r + 1))
+from_close : (round r : ℕ) (dense b : Bool) → round ≡ r →
+    by_spot round (Close r dense) (if b then Judge r else Begin (r + 1))
 from_close round r dense true e = stays refl (sym e)
 from_close round r dense false e = begins refl (omega arith)
 
-onward_by : (ring : Ring) (m : ℕ) (a : Ruling) (spot : Spot) (round : ℕ) → round ≡ round_of round spot → by_spot round spot (next_spot ring m spot a)
+onward_by : (ring : Ring) (m : ℕ) (a : Ruling) (spot : Spot) (round : ℕ) → round ≡ round_of round spot →
+    by_spot round spot (next_spot ring m spot a)
 onward_by ring m a Tell round e = from_tell round (m == 0) e
 onward_by ring m a (Judge r) round e = from_judge round r a e
 onward_by ring m a (Begin r) round e = from_begin round r a e
@@ -50,5 +53,6 @@ onward_by ring m a (Scan r s h) round e = from_scan round r s h (h == 0) (nat_lt
 onward_by ring m a (Close r dense) round e = from_close round r dense (m == 0) e
 onward_by ring m a Over round e = ends refl
 
-pub onward : (ring : Ring) (m : ℕ) (a : Ruling) (s : Standing) → s.round ≡ round_of s.round s.spot → IsOnward s (next_standing ring m a s)
+pub onward : (ring : Ring) (m : ℕ) (a : Ruling) (s : Standing) → s.round ≡ round_of s.round s.spot →
+    IsOnward s (next_standing ring m a s)
 onward ring m a s e = onward_by ring m a s.spot s.round e

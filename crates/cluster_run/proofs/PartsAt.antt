@@ -18,13 +18,16 @@ use Rattle.cluster_run.proofs.Sites.{map_get_back}
 range_at : (a n m x : ℕ) → slice_get (range_with_len a n) m ≡ Some x → (x ≡ a + m) × (m < n)
 range_at a zero m x e = cc
 range_at a (suc n) zero x e = (let same : a ≡ x = cc in omega arith, omega arith)
-range_at a (suc n) (suc m) x e = let rest = range_at (a + 1) n m x e in let at = rest.0 in let lt = rest.1 in (omega arith, omega arith)
+range_at a (suc n) (suc m) x e = let rest = range_at (a + 1) n m x e in let at = rest.0 in
+    let lt = rest.1 in (omega arith, omega arith)
 
 -- a part of one run is that of its place
-pub part_at : (parts : List PlainPart) (one : IsOneRun parts) (m : ℕ) (part : PlainPart) → slice_get parts m ≡ Some part →
+pub part_at : (parts : List PlainPart) (one : IsOneRun parts) (m : ℕ) (part : PlainPart) →
+    slice_get parts m ≡ Some part →
     (part ≡ part_of one.ends one.draws one.edges m) × (m < length one.ends)
 part_at parts one m part at =
-    let found = map_get_back (part_of one.ends one.draws one.edges) (range_with_len 0 (length one.ends)) m part (subst (λ ps. slice_get ps m ≡ Some part) one.parts_are at) in
+    let found = map_get_back (part_of one.ends one.draws one.edges) (range_with_len 0 (length one.ends)) m part
+    (subst (λ ps. slice_get ps m ≡ Some part) one.parts_are at) in
     let place = range_at 0 (length one.ends) m found.0 found.1 in
     let same : found.0 ≡ m = (let e = place.0 in omega arith) in
     (sym found.2 ∙ ap (part_of one.ends one.draws one.edges) same, place.1)

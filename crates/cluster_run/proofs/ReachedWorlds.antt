@@ -47,7 +47,8 @@ pub record IsTied (sound : State → Type 0) (split : Split) (parts : List Plain
 no_act : {X : Type 0} → (o : Option State) → o ≡ None → can_act o ≡ true → X
 no_act o none can = absurd (false≢true (ap can_act (sym none) ∙ can))
 
-module _ (work : Work) (sound : State → Type 0) (lawful : IsLawful work sound) (split : Split) (parts : List PlainPart) (one : IsOneRun parts) where
+module _ (work : Work) (sound : State → Type 0) (lawful : IsLawful work sound) (split : Split)
+    (parts : List PlainPart) (one : IsOneRun parts) where
   abbrev ring : Ring
   ring = ring_of split (length parts)
 
@@ -57,7 +58,8 @@ module _ (work : Work) (sound : State → Type 0) (lawful : IsLawful work sound)
   few : length parts ≤ 64
   few = parts_few parts one
 
-  pub first_ties : (w : World) → All (λ part. CanRun part split) parts → IsFirst work sound split parts w → IsTied sound split parts w
+  pub first_ties : (w : World) → All (λ part. CanRun part split) parts → IsFirst work sound split parts w →
+      IsTied sound split parts w
   first_ties w can_run (driven.anew is) =
       subst (IsTied sound split parts) (sym is) (record {
         k = first_skeleton (length parts);
@@ -86,7 +88,8 @@ module _ (work : Work) (sound : State → Type 0) (lawful : IsLawful work sound)
     alike = restarted_tied work sound lawful split parts one round ruling w is;
   }
 
-  go_ties : (w : World) (m : ℕ) (o : Option State) → IsTied sound split parts w → slice_get w.sites m ≡ o → can_act o ≡ true →
+  go_ties : (w : World) (m : ℕ) (o : Option State) → IsTied sound split parts w → slice_get w.sites m ≡ o →
+      can_act o ≡ true →
       IsTied sound split parts (cluster.go_at work w m o)
   go_ties w m None t at can = t
   go_ties w m (Some s) t at can = record {
@@ -95,31 +98,37 @@ module _ (work : Work) (sound : State → Type 0) (lawful : IsLawful work sound)
     alike = go.gone_tied work sound lawful split parts few one w t.k t.alike t.reached m s at can;
   }
 
-  take_ties : (w : World) (x : Name) (l : Letter) → IsTied sound split parts w → found x w.under_way ≡ Some l → IsTied sound split parts (step work w (Take x))
+  take_ties : (w : World) (x : Name) (l : Letter) → IsTied sound split parts w → found x w.under_way ≡ Some l →
+      IsTied sound split parts (step work w (Take x))
   take_ties w x l t at = record {
     k = take.next work sound lawful split parts few one w t.k t.alike t.reached x l at;
     reached = take.next_reached work sound lawful split parts few one w t.k t.alike t.reached x l at;
     alike =
-        subst (λ v. IsSkeletonOf sound split parts v (take.next work sound lawful split parts few one w t.k t.alike t.reached x l at))
+        subst (λ v. IsSkeletonOf sound split parts v
+        (take.next work sound lawful split parts few one w t.k t.alike t.reached x l at))
         (sym (take.gone_is work sound lawful split parts few one w t.k t.alike t.reached x l at))
         (take.gone_tied work sound lawful split parts few one w t.k t.alike t.reached x l at);
   }
 
-  found_ties : (w : World) (x : Name) (o : Option Letter) → IsTied sound split parts w → found x w.under_way ≡ o → is_some o ≡ true → IsTied sound split parts (step work w (Take x))
+  found_ties : (w : World) (x : Name) (o : Option Letter) → IsTied sound split parts w → found x w.under_way ≡ o →
+      is_some o ≡ true → IsTied sound split parts (step work w (Take x))
   found_ties w x None t at can = absurd (false≢true can)
   found_ties w x (Some l) t at can = take_ties w x l t at
 
-  pub step_ties : (w : World) (e : Event) → IsTied sound split parts w → possible w e ≡ true → IsTied sound split parts (step work w e)
+  pub step_ties : (w : World) (e : Event) → IsTied sound split parts w → possible w e ≡ true →
+      IsTied sound split parts (step work w e)
   step_ties w (Go m) t can = go_ties w m (slice_get w.sites m) t refl can
   step_ties w (Take x) t can = found_ties w x (found x w.under_way) t refl can
 
-  pub after_ties : (w : World) (es : List Event) → IsTied sound split parts w → all_possible work w es ≡ true → IsTied sound split parts (after work w es)
+  pub after_ties : (w : World) (es : List Event) → IsTied sound split parts w → all_possible work w es ≡ true →
+      IsTied sound split parts (after work w es)
   after_ties w [] t can = t
   after_ties w (e ∷ es) t can =
       let c = and_parts (possible w e) (all_possible work (step work w e) es) can in
       after_ties (step work w e) es (step_ties w e t c.0) c.1
 
-pub reached_ties : (work : Work) (sound : State → Type 0) (lawful : IsLawful work sound) (w : World) (r : driven.IsReached work sound w) → IsTied sound r.split r.parts w
+pub reached_ties : (work : Work) (sound : State → Type 0) (lawful : IsLawful work sound) (w : World)
+    (r : driven.IsReached work sound w) → IsTied sound r.split r.parts w
 reached_ties work sound lawful w r =
     subst (IsTied sound r.split r.parts) (sym r.here)
     (after_ties work sound lawful r.split r.parts r.one_run r.first r.events

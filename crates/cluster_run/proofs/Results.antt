@@ -36,7 +36,8 @@ use Rattle.cluster_run.proofs.TakeWorlds as take
 use Rattle.cluster_run.proofs.Worlds.{IsMachine, IsSkeletonOf, goes_ready, ready_goes, it_stands}
 
 -- ---- lists of events with one more
-after_more : (work : Work) (w : World) (es : List Event) (e : Event) → after work w (es ++ e ∷ []) ≡ step work (after work w es) e
+after_more : (work : Work) (w : World) (es : List Event) (e : Event) →
+    after work w (es ++ e ∷ []) ≡ step work (after work w es) e
 after_more work w [] e = refl
 after_more work w (d ∷ es) e = after_more work (step work w d) es e
 
@@ -45,10 +46,12 @@ more_possible : (work : Work) (w : World) (es : List Event) (e : Event) → all_
 more_possible work w [] e all can = and_true (possible w e) true can refl
 more_possible work w (d ∷ es) e all can =
     let c = and_parts (possible w d) (all_possible work (step work w d) es) all in
-    and_true (possible w d) (all_possible work (step work w d) (es ++ e ∷ [])) c.0 (more_possible work (step work w d) es e c.1 can)
+    and_true (possible w d) (all_possible work (step work w d) (es ++ e ∷ [])) c.0
+    (more_possible work (step work w d) es e c.1 can)
 
 -- a possible event leaves a reached world
-pub steps_on : (work : Work) (sound : State → Type 0) (w : World) (e : Event) → IsReached work sound w → possible w e ≡ true → IsReached work sound (step work w e)
+pub steps_on : (work : Work) (sound : State → Type 0) (w : World) (e : Event) → IsReached work sound w →
+    possible w e ≡ true → IsReached work sound (step work w e)
 steps_on work sound w e r can = record {
   split = r.split;
   parts = r.parts;
@@ -69,7 +72,8 @@ some_site : (o : Option State) → can_act o ≡ true → (s : State) × (o ≡ 
 some_site None e = absurd (false≢true e)
 some_site (Some s) e = (s, refl)
 
-some_standing : (ring : Ring) (blocks : Blocks) (m : ℕ) (o : Option Standing) (taken : List Name) → can_go ring blocks Stop m o taken ≡ true →
+some_standing : (ring : Ring) (blocks : Blocks) (m : ℕ) (o : Option Standing) (taken : List Name) →
+    can_go ring blocks Stop m o taken ≡ true →
     (t : Standing) × (o ≡ Some t) × (could_act ring m (Some t) taken ≡ true)
 some_standing ring blocks m None taken e = absurd (false≢true e)
 some_standing ring blocks m (Some t) taken e =
@@ -85,7 +89,8 @@ ways_alike split (s ∷ ss) each =
     ap (λ q. way_left (blocks_of q) s.at + ways_left ss) (each 0 s refl)
     ∙ ap (λ n. way_left (blocks_of split) s.at + n) (ways_alike split ss (λ m t at. each (suc m) t at))
 
-module _ (work : Work) (sound : State → Type 0) (lawful : IsLawful work sound) (split : Split) (parts : List PlainPart) (one : IsOneRun parts) (w : World) (t : IsTied sound split parts w) where
+module _ (work : Work) (sound : State → Type 0) (lawful : IsLawful work sound) (split : Split)
+    (parts : List PlainPart) (one : IsOneRun parts) (w : World) (t : IsTied sound split parts w) where
   abbrev ring : Ring
   ring = ring_of split (length parts)
 
@@ -106,14 +111,16 @@ module _ (work : Work) (sound : State → Type 0) (lawful : IsLawful work sound)
       ∙ ap (λ ss. 66 * bound.ways_left blocks ss + length w.under_way) t.alike.standings
       ∙ ap (λ n. 66 * bound.ways_left blocks t.k.standings + n) t.alike.as_many
 
-  go_near : (m : ℕ) (s : State) → slice_get w.sites m ≡ Some s → can_act (Some s) ≡ true → (v : IsTied sound split parts (cluster.go_at work w m (Some s))) →
+  go_near : (m : ℕ) (s : State) → slice_get w.sites m ≡ Some s → can_act (Some s) ≡ true →
+      (v : IsTied sound split parts (cluster.go_at work w m (Some s))) →
       v.k ≡ step_of ring (work.judge s) (Go m) t.k → bound.events_left blocks v.k < bound.events_left blocks t.k
   go_near m s at ready v is =
       subst (λ q. bound.events_left blocks q < bound.events_left blocks t.k) (sym is)
       (events_come_nearer ring blocks t.k (work.judge s) (Go m) t.reached
       (go.can_step work sound lawful split parts few one w t.k t.alike t.reached m s at ready))
 
-  abbrev go_tied : (m : ℕ) (s : State) → slice_get w.sites m ≡ Some s → can_act (Some s) ≡ true → IsTied sound split parts (cluster.go_at work w m (Some s))
+  abbrev go_tied : (m : ℕ) (s : State) → slice_get w.sites m ≡ Some s → can_act (Some s) ≡ true →
+      IsTied sound split parts (cluster.go_at work w m (Some s))
   go_tied m s at ready = record {
     k = go.next work sound lawful split parts few one w t.k t.alike t.reached m s at ready;
     reached = go.next_reached work sound lawful split parts few one w t.k t.alike t.reached m s at ready;
@@ -126,16 +133,20 @@ module _ (work : Work) (sound : State → Type 0) (lawful : IsLawful work sound)
       ⊎_elim
       (λ (can : possible w (Go m) ≡ true).
       let it = some_site (slice_get w.sites m) can in
-      let goes = go.can_step work sound lawful split parts few one w t.k t.alike t.reached m it.0 it.1 (subst (λ o. can_act o ≡ true) it.1 can) in
-      absurd (false≢true (sym (finished_is_still ring blocks t.k t.reached (sym finished_alike ∙ over) (work.judge it.0) (Go m)) ∙ goes)))
+      let goes = go.can_step work sound lawful split parts few one w t.k t.alike t.reached m it.0 it.1
+      (subst (λ o. can_act o ≡ true) it.1 can) in
+      absurd (false≢true (sym (finished_is_still ring blocks t.k t.reached (sym finished_alike ∙ over)
+      (work.judge it.0) (Go m)) ∙ goes)))
       (λ (no : possible w (Go m) ≡ false). no)
       (test_cases (possible w (Go m)))
-  still (Take x) over = t.alike.flies x ∙ finished_is_still ring blocks t.k t.reached (sym finished_alike ∙ over) Stop (Take x)
+  still (Take x) over = t.alike.flies x ∙ finished_is_still ring blocks t.k t.reached (sym finished_alike ∙ over) Stop
+      (Take x)
 
   moves_by : (e : Event) → is_possible ring blocks Stop e t.k ≡ true → possible w e ≡ true
   moves_by (Go m) can =
       let st = some_standing ring blocks m (slice_get t.k.standings m) t.k.taken can in
-      let it = map_get_back (λ (s : State). s.at) w.sites m st.0 (subst (λ ss. slice_get ss m ≡ Some st.0) (sym t.alike.standings) st.1) in
+      let it = map_get_back (λ (s : State). s.at) w.sites m st.0
+      (subst (λ ss. slice_get ss m ≡ Some st.0) (sym t.alike.standings) st.1) in
       ap can_act it.1
       ∙ goes_ready work sound lawful split parts few w t.k t.alike t.reached m it.0 it.1
       (subst (λ (q : Standing). could_act ring m (Some q) t.k.taken ≡ true) (sym it.2) st.2)
@@ -157,7 +168,8 @@ module _ (work : Work) (sound : State → Type 0) (lawful : IsLawful work sound)
       let some = some_event_moves ring blocks t.k t.reached (sym finished_alike ∙ on) in
       (some.0, moves_by some.0 (some.1 Stop refl))
 
-module _ (work : Work) (sound : State → Type 0) (lawful : IsLawful work sound) (w : World) (r : IsReached work sound w) where
+module _ (work : Work) (sound : State → Type 0) (lawful : IsLawful work sound) (w : World)
+    (r : IsReached work sound w) where
   tied : IsTied sound r.split r.parts w
   tied = reached_ties work sound lawful w r
 
@@ -177,7 +189,8 @@ module _ (work : Work) (sound : State → Type 0) (lawful : IsLawful work sound)
   reached_few = let count = tied.alike.count in let m = most in omega arith
 
   -- the receiver of a message under way can take it
-  pub reached_takes : (x : Name) (l : Letter) → found x w.under_way ≡ Some l → (s : State) × (slice_get w.sites l.name.to ≡ Some s) × IsTakeable s l
+  pub reached_takes : (x : Name) (l : Letter) → found x w.under_way ≡ Some l → (s : State) ×
+      (slice_get w.sites l.name.to ≡ Some s) × IsTakeable s l
   reached_takes x l there = (
     take.s work sound lawful r.split r.parts most r.one_run w tied.k tied.alike tied.reached x l there,
     take.at_receiver work sound lawful r.split r.parts most r.one_run w tied.k tied.alike tied.reached x l there,
@@ -185,11 +198,13 @@ module _ (work : Work) (sound : State → Type 0) (lawful : IsLawful work sound)
   )
 
   -- what a ready machine sends can be put under way
-  pub reached_sends : (m : ℕ) (s : State) → slice_get w.sites m ≡ Some s → can_act (Some s) ≡ true → CanSend (work.sent s) w.under_way
+  pub reached_sends : (m : ℕ) (s : State) → slice_get w.sites m ≡ Some s → can_act (Some s) ≡ true →
+      CanSend (work.sent s) w.under_way
   reached_sends m s at ready =
       let v = go_tied work sound lawful r.split r.parts r.one_run w tied m s at ready in
       record {
-        new = go.sent_new work sound lawful r.split r.parts most r.one_run w tied.k tied.alike tied.reached m s at ready;
+        new = go.sent_new work sound lawful r.split r.parts most r.one_run w tied.k tied.alike tied.reached m s at
+            ready;
         room =
             let rare = (few_are_under_way (ring_of r.split (length r.parts)) (blocks_of r.split) v.k v.reached).few in
             let same = v.alike.as_many in
@@ -197,32 +212,43 @@ module _ (work : Work) (sound : State → Type 0) (lawful : IsLawful work sound)
             omega arith;
       }
 
-  go_nearer : (m : ℕ) (s : State) → slice_get w.sites m ≡ Some s → can_act (Some s) ≡ true → events_left (cluster.go_at work w m (Some s)) < events_left w
+  go_nearer : (m : ℕ) (s : State) → slice_get w.sites m ≡ Some s → can_act (Some s) ≡ true →
+      events_left (cluster.go_at work w m (Some s)) < events_left w
   go_nearer m s at ready =
       let v = go_tied work sound lawful r.split r.parts r.one_run w tied m s at ready in
-      let near = go_near work sound lawful r.split r.parts r.one_run w tied m s at ready v (sym (go.step_is work sound lawful r.split r.parts most r.one_run w tied.k tied.alike tied.reached m s at ready)) in
+      let near = go_near work sound lawful r.split r.parts r.one_run w tied m s at ready v
+      (sym (go.step_is work sound lawful r.split r.parts most r.one_run w tied.k tied.alike tied.reached m s at
+      ready)) in
       let before = left_alike work sound lawful r.split r.parts r.one_run w tied in
       let behind = left_alike work sound lawful r.split r.parts r.one_run (cluster.go_at work w m (Some s)) v in
       omega arith
 
-  take_nearer : (x : Name) (l : Letter) → found x w.under_way ≡ Some l → events_left (step work w (Take x)) < events_left w
+  take_nearer : (x : Name) (l : Letter) → found x w.under_way ≡ Some l →
+      events_left (step work w (Take x)) < events_left w
   take_nearer x l there =
-      let gone : World = take.gone work sound lawful r.split r.parts most r.one_run w tied.k tied.alike tied.reached x l there in
+      let gone : World = take.gone work sound lawful r.split r.parts most r.one_run w tied.k tied.alike tied.reached x
+      l there in
       let v : IsTied sound r.split r.parts gone = record {
         k = take.next work sound lawful r.split r.parts most r.one_run w tied.k tied.alike tied.reached x l there;
-        reached = take.next_reached work sound lawful r.split r.parts most r.one_run w tied.k tied.alike tied.reached x l there;
-        alike = take.gone_tied work sound lawful r.split r.parts most r.one_run w tied.k tied.alike tied.reached x l there;
+        reached = take.next_reached work sound lawful r.split r.parts most r.one_run w tied.k tied.alike tied.reached
+            x l there;
+        alike = take.gone_tied work sound lawful r.split r.parts most r.one_run w tied.k tied.alike tied.reached x l
+            there;
       } in
       let flies : has_name x tied.k.under_way ≡ true = sym (tied.alike.flies x) ∙ ap is_some there in
-      let near = events_come_nearer (ring_of r.split (length r.parts)) (blocks_of r.split) tied.k Stop (Take x) tied.reached flies in
+      let near = events_come_nearer (ring_of r.split (length r.parts)) (blocks_of r.split) tied.k Stop (Take x)
+      tied.reached flies in
       let before = left_alike work sound lawful r.split r.parts r.one_run w tied in
       let behind = left_alike work sound lawful r.split r.parts r.one_run gone v in
-      subst (λ v. events_left v < events_left w) (sym (take.gone_is work sound lawful r.split r.parts most r.one_run w tied.k tied.alike tied.reached x l there))
+      subst (λ v. events_left v < events_left w)
+      (sym (take.gone_is work sound lawful r.split r.parts most r.one_run w tied.k tied.alike tied.reached x l
+      there))
       (omega arith)
 
   -- each possible event lessens what is left
   pub reached_nearer : (e : Event) → possible w e ≡ true → events_left (step work w e) < events_left w
   reached_nearer (Go m) can =
       let it = some_site (slice_get w.sites m) can in
-      subst (λ o. events_left (cluster.go_at work w m o) < events_left w) (sym it.1) (go_nearer m it.0 it.1 (subst (λ o. can_act o ≡ true) it.1 can))
+      subst (λ o. events_left (cluster.go_at work w m o) < events_left w) (sym it.1)
+      (go_nearer m it.0 it.1 (subst (λ o. can_act o ≡ true) it.1 can))
   reached_nearer (Take x) can = let l = some_found (found x w.under_way) can in take_nearer x l.0 l.1

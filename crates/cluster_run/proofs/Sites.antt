@@ -21,17 +21,20 @@ set_length [] m y = refl
 set_length (x ∷ xs) zero y = refl
 set_length (x ∷ xs) (suc m) y = ap suc (set_length xs m y)
 
-pub map_set : {X Y : Type 0} → (f : X → Y) (xs : List X) (m : ℕ) (y : X) → map f (slice_set xs m y) ≡ slice_set (map f xs) m (f y)
+pub map_set : {X Y : Type 0} → (f : X → Y) (xs : List X) (m : ℕ) (y : X) →
+    map f (slice_set xs m y) ≡ slice_set (map f xs) m (f y)
 map_set f [] m y = refl
 map_set f (x ∷ xs) zero y = refl
 map_set f (x ∷ xs) (suc m) y = ap (λ zs. f x ∷ zs) (map_set f xs m y)
 
-pub map_get : {X Y : Type 0} → (f : X → Y) (xs : List X) (m : ℕ) (x : X) → slice_get xs m ≡ Some x → slice_get (map f xs) m ≡ Some (f x)
+pub map_get : {X Y : Type 0} → (f : X → Y) (xs : List X) (m : ℕ) (x : X) → slice_get xs m ≡ Some x →
+    slice_get (map f xs) m ≡ Some (f x)
 map_get f [] m x e = cc
 map_get f (y ∷ xs) zero x e = let same : y ≡ x = cc in ap (λ z. Some (f z)) same
 map_get f (y ∷ xs) (suc m) x e = map_get f xs m x e
 
-pub map_get_back : {X Y : Type 0} → (f : X → Y) (xs : List X) (m : ℕ) (y : Y) → slice_get (map f xs) m ≡ Some y → (x : X) × (slice_get xs m ≡ Some x) × (f x ≡ y)
+pub map_get_back : {X Y : Type 0} → (f : X → Y) (xs : List X) (m : ℕ) (y : Y) → slice_get (map f xs) m ≡ Some y →
+    (x : X) × (slice_get xs m ≡ Some x) × (f x ≡ y)
 map_get_back f [] m y e = cc
 map_get_back f (x ∷ xs) zero y e = (x, refl, (let same : f x ≡ y = cc in same))
 map_get_back f (x ∷ xs) (suc m) y e = map_get_back f xs m y e
@@ -44,12 +47,14 @@ pub data IsOneOf {X : Type 0} (xs : List X) (m : ℕ) (y : X) (j : ℕ) (x : X) 
   same : j ≡ m → y ≡ x → IsOneOf xs m y j x
   other : j ≢ m → slice_get xs j ≡ Some x → IsOneOf xs m y j x
 
-pub set_cases : {X : Type 0} → (xs : List X) (m : ℕ) (y : X) (j : ℕ) (x : X) → slice_get (slice_set xs m y) j ≡ Some x → IsOneOf xs m y j x
+pub set_cases : {X : Type 0} → (xs : List X) (m : ℕ) (y : X) (j : ℕ) (x : X) → slice_get (slice_set xs m y) j ≡ Some x
+    → IsOneOf xs m y j x
 set_cases xs m y j x e =
     ⊎_elim
     (λ (at : j ≡ m).
     let within = slice_get_within (slice_set xs m y) j x e in
     let size = set_length xs m y in
-    same at (get_one (slice_get (slice_set xs m y) j) y x (subst (λ i. slice_get (slice_set xs m y) i ≡ Some y) (sym at) (set_here xs m y (omega arith))) e))
+    same at (get_one (slice_get (slice_set xs m y) j) y x
+    (subst (λ i. slice_get (slice_set xs m y) i ≡ Some y) (sym at) (set_here xs m y (omega arith))) e))
     (λ (ne : j ≢ m). other ne (sym (set_other xs m j y ne) ∙ e))
     (cases_eq j m)

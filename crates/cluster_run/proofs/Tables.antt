@@ -56,9 +56,14 @@ named : (f : ℕ → Name) (ns : List ℕ) (m : ℕ) (spot : Spot) (x : Name) �
     Has (map f ns) x → IsFrom m spot x
 named f ns m spot x each h = let c = has_map_cases f ns x h in subst (IsFrom m spot) c.2 (each c.0)
 
-tally_from : (m r : ℕ) (spot : Spot) (x : Name) (b : Bool) → Has (if b then [] else tally_name r m ∷ []) x → IsFrom m spot x
+tally_from : (m r : ℕ) (spot : Spot) (x : Name) (b : Bool) → Has (if b then [] else tally_name r m ∷ []) x →
+    IsFrom m spot x
 tally_from m r spot x true h = absurd h
-tally_from m r spot x false (inl e) = subst (IsFrom m spot) e (refl, λ same. absurd (let no : Tally ≡ Verdict = same in grind arith))
+tally_from m r spot x false (inl e) = subst (IsFrom m spot) e (
+  refl,
+  λ same.
+      absurd (let no : Tally ≡ Verdict = same in grind arith),
+)
 tally_from m r spot x false (inr h) = absurd h
 
 judge_from : (ring : Ring) (m r : ℕ) (x : Name) (b : Bool) → (m == 0) ≡ b →
@@ -75,23 +80,32 @@ judge_from ring m r x false e h = absurd h
 begin_from : (p m r : ℕ) (ruling : Ruling) (x : Name) → Has (begin_gives p m r ruling) x → IsFrom m (Begin r) x
 begin_from p m r Stop x h = absurd h
 begin_from p m r Dense x h =
-    named (refresh_name r m) (others_of p m) m (Begin r) x (λ k. (refl, λ same. absurd (let no : Refresh ≡ Verdict = same in grind arith))) h
+    named (refresh_name r m) (others_of p m) m (Begin r) x (λ k.
+    (refl, λ same. absurd (let no : Refresh ≡ Verdict = same in grind arith))) h
 begin_from p m r Sparse x h =
-    named (push_name r m) (others_of p m) m (Begin r) x (λ k. (refl, λ same. absurd (let no : Push ≡ Verdict = same in grind arith))) h
+    named (push_name r m) (others_of p m) m (Begin r) x (λ k.
+    (refl, λ same. absurd (let no : Push ≡ Verdict = same in grind arith))) h
 
-dep_from : (m r s h : ℕ) (to : ℕ) (x : Name) (carry : Bool) → Has (name_if carry (dep_name r s h m to)) x → IsFrom m (Scan r s h) x
+dep_from : (m r s h : ℕ) (to : ℕ) (x : Name) (carry : Bool) → Has (name_if carry (dep_name r s h m to)) x →
+    IsFrom m (Scan r s h) x
 dep_from m r s h to x carry has =
     let c = has_name_if_cases carry (dep_name r s h m to) x has in
     subst (IsFrom m (Scan r s h)) c.1 (refl, λ same. absurd (let no : Dep ≡ Verdict = same in grind arith))
 
 scan_from : (ring : Ring) (m r s h : ℕ) (x : Name) (b : Bool) →
-    Has (if b then update_name r s h m (chunk_of m s ring.machines) ∷ name_if ring.carry (dep_name r s h m (after_machine m ring.machines)) else []) x → IsFrom m (Scan r s h) x
-scan_from ring m r s h x true (inl e) = subst (IsFrom m (Scan r s h)) e (refl, λ same. absurd (let no : Update ≡ Verdict = same in grind arith))
+    Has (if b then update_name r s h m (chunk_of m s ring.machines)
+    ∷ name_if ring.carry (dep_name r s h m (after_machine m ring.machines)) else []) x → IsFrom m (Scan r s h) x
+scan_from ring m r s h x true (inl e) = subst (IsFrom m (Scan r s h)) e (
+  refl,
+  λ same.
+      absurd (let no : Update ≡ Verdict = same in grind arith),
+)
 scan_from ring m r s h x true (inr has) = dep_from m r s h (after_machine m ring.machines) x ring.carry has
 scan_from ring m r s h x false has = absurd has
 
 -- what a machine sends is from it, and a verdict comes from a judge
-pub gift_from : (ring : Ring) (m : ℕ) (spot : Spot) (ruling : Ruling) (x : Name) → Has (gives_of ring m spot ruling) x → IsFrom m spot x
+pub gift_from : (ring : Ring) (m : ℕ) (spot : Spot) (ruling : Ruling) (x : Name) → Has (gives_of ring m spot ruling) x
+    → IsFrom m spot x
 gift_from ring m Tell ruling x h = tally_from m 0 Tell x (m == 0) h
 gift_from ring m (Judge r) ruling x h = judge_from ring m r x (m == 0) refl h
 gift_from ring m (Begin r) ruling x h = begin_from ring.machines m r ruling x h
@@ -132,7 +146,8 @@ begins_no_begin r Stop begins = false≢true begins
 begins_no_begin r Dense begins = false≢true begins
 begins_no_begin r Sparse begins = false≢true begins
 
-scans_no_begin : (r s : ℕ) (a b : Bool) → is_begin (if a then Scan r s 1 else if b then Scan r (s + 1) 0 else Close r true) ≡ true → ⊥
+scans_no_begin : (r s : ℕ) (a b : Bool) → is_begin (if a then Scan r s 1 else if b then Scan r (s + 1) 0
+    else Close r true) ≡ true → ⊥
 scans_no_begin r s true b begins = false≢true begins
 scans_no_begin r s false true begins = false≢true begins
 scans_no_begin r s false false begins = false≢true begins
@@ -142,7 +157,8 @@ pub zero_begins : (ring : Ring) (m : ℕ) (a : Ruling) (spot : Spot) → m ≡ 0
 zero_begins ring m a Tell first begins = absurd (zero_tells (m == 0) (is_zero m first) begins)
 zero_begins ring m a (Judge r) first begins = (r, refl)
 zero_begins ring m a (Begin r) first begins = absurd (begins_no_begin r a begins)
-zero_begins ring m a (Scan r s h) first begins = absurd (scans_no_begin r s (h == 0) (nat_lt s (ring.machines - 1)) begins)
+zero_begins ring m a (Scan r s h) first begins = absurd
+    (scans_no_begin r s (h == 0) (nat_lt s (ring.machines - 1)) begins)
 zero_begins ring m a (Close r dense) first begins = absurd (zero_at r (m == 0) (is_zero m first) begins)
 zero_begins ring m a Over first begins = absurd (false≢true begins)
 
@@ -157,7 +173,8 @@ judge_leaves r Dense over begins = false≢true (sym begins)
 judge_leaves r Sparse over begins = false≢true (sym begins)
 
 pub stays_by : (ring : Ring) (m : ℕ) (a judged known : Ruling) (spot : Spot) (made : List (ℕ × Ruling)) →
-    is_over (next_spot ring m spot a) ≡ false → is_begin (next_spot ring m spot a) ≡ false → StaysBy judged known spot made
+    is_over (next_spot ring m spot a) ≡ false → is_begin (next_spot ring m spot a) ≡ false →
+    StaysBy judged known spot made
 stays_by ring m a judged known Tell made over begins = record { acting_is = refl; rulings_are = refl }
 stays_by ring m a judged known (Judge r) made over begins = absurd (judge_leaves r a over begins)
 stays_by ring m a judged known (Begin r) made over begins = record { acting_is = refl; rulings_are = refl }

@@ -46,7 +46,8 @@ taken_round Verdict Dense s = refl
 taken_round Verdict Sparse s = refl
 
 -- a taken ruling counts for a verdict alone
-taken_alike : (kind : NameKind) (a b : Ruling) (s : Standing) → (kind ≡ Verdict → a ≡ b) → standing_taken kind a s ≡ standing_taken kind b s
+taken_alike : (kind : NameKind) (a b : Ruling) (s : Standing) → (kind ≡ Verdict → a ≡ b) →
+    standing_taken kind a s ≡ standing_taken kind b s
 taken_alike Refresh a b s agree = refl
 taken_alike Dep a b s agree = refl
 taken_alike Update a b s agree = refl
@@ -67,7 +68,9 @@ for_other : (taken b : Bool) (x y : Name) (j round : ℕ) → same_name y x ≡ 
     ((b || taken) && is_for j round y) ≡ (taken && is_for j round y)
 for_other taken true x y j round e differ =
     let named : y ≡ x = names_law y x e in
-    let not_it : (y.to == j) ≡ false = ⊎_elim (λ (is : (y.to == j) ≡ true). absurd (differ (sym (ap (λ (z : Name). z.to) named) ∙ same_from y.to j is))) (λ (is : (y.to == j) ≡ false). is) (test_cases (y.to == j)) in
+    let not_it : (y.to == j) ≡ false = ⊎_elim (λ (is : (y.to == j) ≡ true).
+    absurd (differ (sym (ap (λ (z : Name). z.to) named) ∙ same_from y.to j is))) (λ (is : (y.to == j) ≡ false).
+    is) (test_cases (y.to == j)) in
     rw not_it (none taken)
   where
     none : (a : Bool) → false ≡ (a && false)
@@ -86,7 +89,11 @@ for_it taken false x y m round e to at = refl
 no_letter : (taken : Bool) (b : Bool) → taken ≡ false → (taken && b) ≡ false
 no_letter taken b e = rw e refl
 
-module _ (work : Work) (sound : State → Type 0) (lawful : IsLawful work sound) (split : Split) (parts : List PlainPart) (few : length parts ≤ 64) (one : IsOneRun parts) (w : World) (k : Skeleton) (tied : IsSkeletonOf sound split parts w k) (reached : IsReached (ring_of split (length parts)) (blocks_of split) k) (x : Name) (l : Letter) (there : found x w.under_way ≡ Some l) where
+module _ (work : Work) (sound : State → Type 0) (lawful : IsLawful work sound) (split : Split)
+    (parts : List PlainPart) (few : length parts ≤ 64) (one : IsOneRun parts) (w : World) (k : Skeleton)
+    (tied : IsSkeletonOf sound split parts w k)
+    (reached : IsReached (ring_of split (length parts)) (blocks_of split) k) (x : Name) (l : Letter)
+    (there : found x w.under_way ≡ Some l) where
   abbrev pub ring : Ring
   ring = ring_of split (length parts)
 
@@ -103,7 +110,8 @@ module _ (work : Work) (sound : State → Type 0) (lawful : IsLawful work sound)
   named = found_name x w.under_way l there
 
   pub receiver : (s : State) × (slice_get w.sites x.to ≡ Some s) × (s.at ≡ can.at)
-  receiver = map_get_back (λ (t : State). t.at) w.sites x.to can.at (subst (λ ss. slice_get ss x.to ≡ Some can.at) (sym tied.standings) can.stands)
+  receiver = map_get_back (λ (t : State). t.at) w.sites x.to can.at
+      (subst (λ ss. slice_get ss x.to ≡ Some can.at) (sym tied.standings) can.stands)
 
   abbrev pub s : State
   s = receiver.0
@@ -130,7 +138,9 @@ module _ (work : Work) (sound : State → Type 0) (lawful : IsLawful work sound)
       record {
         here = ap (λ (y : Name). y.to) named ∙ sym is.number;
         going = going;
-        new = subst (λ y. found y s.held ≡ None) (sym named) (not_found x s.held (tied.held x.to s here going x ∙ no_letter (has_name x k.taken) (is_for x.to s.at.round x) can.new));
+        new = subst (λ y. found y s.held ≡ None) (sym named)
+            (not_found x s.held (tied.held x.to s here going x
+            ∙ no_letter (has_name x k.taken) (is_for x.to s.at.round x) can.new));
         round = ap (λ (y : Name). y.round) named ∙ sym round;
         shape = form.0;
         has = ap (λ q. shape_of q s.part l.name) is.split_is ∙ form.1;
@@ -176,7 +186,8 @@ module _ (work : Work) (sound : State → Type 0) (lawful : IsLawful work sound)
       ∙ ap (λ z. same_name z y || has_letter y s.held) named
       ∙ ap (λ b. b || has_letter y s.held) (same_swap x y)
 
-  next_held : (y : Name) → has_letter y (work.take s l).held ≡ (has_name y next.taken && is_for x.to (work.take s l).at.round y)
+  next_held : (y : Name) → has_letter y (work.take s l).held
+      ≡ (has_name y next.taken && is_for x.to (work.take s l).at.round y)
   next_held y =
       holds y
       ∙ ap (λ b. same_name y x || b) (tied.held x.to s here going y)
@@ -189,21 +200,25 @@ module _ (work : Work) (sound : State → Type 0) (lawful : IsLawful work sound)
       (λ (verdict : l.name.kind ≡ Verdict).
       lawful.take_verdict s l verdict ∙ known verdict ∙ ap (ruling_in k.rulings) (sym (next_round ∙ round)))
       (λ (not_one : l.name.kind ≢ Verdict).
-      lawful.take_other s l not_one ∙ tied.rulings x.to s here going (knew not_one knows) ∙ ap (ruling_in k.rulings) (sym next_round))
+      lawful.take_other s l not_one ∙ tied.rulings x.to s here going (knew not_one knows)
+      ∙ ap (ruling_in k.rulings) (sym next_round))
       (verdict_cases l.name.kind)
     where
       knew : l.name.kind ≢ Verdict → Knows x.to (work.take s l) → Knows x.to s
       knew not_one (inl first) = inl (first.0, let late = first.1 in let r = next_round in omega arith)
       knew not_one (inr told) =
           let v : Name = verdict_name s.at.round x.to in
-          let told_here : has_letter v (work.take s l).held ≡ true = subst (λ r. has_letter (verdict_name r x.to) (work.take s l).held ≡ true) next_round told in
-          let other_name : same_name v x ≡ false = not_same_names v x (λ e. not_one (ap (λ (y : Name). y.kind) named ∙ sym (ap (λ (y : Name). y.kind) e))) in
+          let told_here : has_letter v (work.take s l).held ≡ true =
+          subst (λ r. has_letter (verdict_name r x.to) (work.take s l).held ≡ true) next_round told in
+          let other_name : same_name v x ≡ false =
+          not_same_names v x (λ e. not_one (ap (λ (y : Name). y.kind) named ∙ sym (ap (λ (y : Name). y.kind) e))) in
           inr (sym (holds v ∙ ap (λ b. b || has_letter v s.held) other_name) ∙ told_here)
 
   gone_machines : (j : ℕ) (t : State) → slice_get gone.sites j ≡ Some t → IsMachine sound split parts j t
   gone_machines j t at =
       elim (set_cases w.sites x.to (work.take s l) j t at) [
-        | same e is_it ↦ subst (λ q. IsMachine sound split parts j q) is_it (subst (λ i. IsMachine sound split parts i (work.take s l)) (sym e) next_machine)
+        | same e is_it ↦ subst (λ q. IsMachine sound split parts j q) is_it
+            (subst (λ i. IsMachine sound split parts i (work.take s l)) (sym e) next_machine)
         | other ne at_j ↦ tied.machines j t at_j
       ]
 
@@ -220,9 +235,11 @@ module _ (work : Work) (sound : State → Type 0) (lawful : IsLawful work sound)
       elim (set_cases w.sites x.to (work.take s l) j t at) [
         | same e is_it ↦
             subst (λ q. has_letter y q.held ≡ (has_name y next.taken && is_for j q.at.round y)) is_it
-            (subst (λ i. has_letter y (work.take s l).held ≡ (has_name y next.taken && is_for i (work.take s l).at.round y)) (sym e) (next_held y))
+            (subst (λ i. has_letter y (work.take s l).held
+            ≡ (has_name y next.taken && is_for i (work.take s l).at.round y)) (sym e) (next_held y))
         | other ne at_j ↦
-            tied.held j t at_j on y ∙ sym (for_other (has_name y k.taken) (same_name y x) x y j t.at.round refl (λ e. ne (sym e)))
+            tied.held j t at_j on y ∙ sym (for_other (has_name y k.taken) (same_name y x) x y j t.at.round refl (λ e.
+            ne (sym e)))
       ]
 
   gone_rulings : (j : ℕ) (t : State) → slice_get gone.sites j ≡ Some t → is_over t.at.spot ≡ false → Knows j t →
@@ -250,7 +267,8 @@ module _ (work : Work) (sound : State → Type 0) (lawful : IsLawful work sound)
     standings = gone_standings;
     held = gone_held;
     rulings = gone_rulings;
-    flies = λ y. has_without x y w.under_way tied.ascends ∙ ap (λ b. not (same_name x y) && b) (tied.flies y) ∙ sym (name_but_for x y k.under_way);
+    flies = λ y. has_without x y w.under_way tied.ascends ∙ ap (λ b. not (same_name x y) && b) (tied.flies y)
+        ∙ sym (name_but_for x y k.under_way);
     as_many = gone_count;
     ascends = without_ascends x w.under_way tied.ascends;
     fit = λ y l e part to. tied.fit y l (without_is x y w.under_way l tied.ascends e) part to;
@@ -262,4 +280,7 @@ module _ (work : Work) (sound : State → Type 0) (lawful : IsLawful work sound)
   gone_is =
       ap (cluster.take_found work w) there
       ∙ ap (cluster.take_at work w l) at_receiver
-      ∙ ap (λ (y : Name). (let v : World = record { sites = slice_set w.sites y.to (work.take s l); under_way = without y w.under_way } in v)) named
+      ∙ ap (λ (y : Name). (let v : World = record {
+        sites = slice_set w.sites y.to (work.take s l);
+        under_way = without y w.under_way;
+      } in v)) named

@@ -25,7 +25,8 @@ pub record Driven : Type 0 where
   pub ended : Bool
 
 -- machine m stands where a round begins that was ruled, and of messages it has taken the round's verdict alone
-pub record BeginsRound (sound : State → Type 0) (split : Split) (parts : List PlainPart) (round : ℕ) (ruling : Ruling) (m : ℕ) (s : State) : Type 0 where
+pub record BeginsRound (sound : State → Type 0) (split : Split) (parts : List PlainPart) (round : ℕ) (ruling : Ruling)
+    (m : ℕ) (s : State) : Type 0 where
   pub part : slice_get parts m ≡ Some s.part
   pub split_is : s.split ≡ split
   pub at : s.at ≡ standing_at round (Begin round)
@@ -34,7 +35,8 @@ pub record BeginsRound (sound : State → Type 0) (split : Split) (parts : List 
   pub is_sound : sound s
 
 -- every machine begins a round, and nothing is under way
-pub record IsRestarted (sound : State → Type 0) (split : Split) (parts : List PlainPart) (round : ℕ) (ruling : Ruling) (w : World) : Type 0 where
+pub record IsRestarted (sound : State → Type 0) (split : Split) (parts : List PlainPart) (round : ℕ) (ruling : Ruling)
+    (w : World) : Type 0 where
   pub late : 1 ≤ round
   pub mode : ruling ≢ Stop
   pub may : may_rule (blocks_of split) round ruling ≡ true
@@ -43,9 +45,11 @@ pub record IsRestarted (sound : State → Type 0) (split : Split) (parts : List 
   pub each : (m : ℕ) (s : State) → slice_get w.sites m ≡ Some s → BeginsRound sound split parts round ruling m s
 
 -- the two kinds of first worlds
-pub data IsFirst (work : Work) (sound : State → Type 0) (split : Split) (parts : List PlainPart) (w : World) : Type 0 where
-  anew : w ≡ first_world work split parts → IsFirst work sound split parts w
-  again : (round : ℕ) (ruling : Ruling) → IsRestarted sound split parts round ruling w → IsFirst work sound split parts w
+pub data IsFirst (work : Work) (sound : State → Type 0) (split : Split) (parts : List PlainPart) (w : World) : Type 0
+  where
+    anew : w ≡ first_world work split parts → IsFirst work sound split parts w
+    again : (round : ℕ) (ruling : Ruling) → IsRestarted sound split parts round ruling w →
+        IsFirst work sound split parts w
 
 -- a world that possible events leave from a first one
 pub record IsReached (work : Work) (sound : State → Type 0) (w : World) : Type 0 where

@@ -44,8 +44,10 @@ pub(crate) fn go_site<S: Site>(
 ) -> Result<(), Want>
     requires within { machine < length sites.old.items }
     requires none { out.old.items ≡ [] }
-    requires ready { (s : State) → slice_get (map S.state sites.old.items) machine ≡ Some s → action_of s ≡ Ready }
-    requires room { (s : State) → slice_get (map S.state sites.old.items) machine ≡ Some s → CanSend (S.work.sent s) flight.old }
+    requires ready { (s : State) → slice_get (map S.state sites.old.items) machine ≡ Some s →
+        action_of s ≡ Ready }
+    requires room { (s : State) → slice_get (map S.state sites.old.items) machine ≡ Some s →
+        CanSend (S.work.sent s) flight.old }
     ensures sites { OnOk result ((s : State) → slice_get (map S.state sites.old.items) machine ≡ Some s
         → map S.state sites.new.items ≡ slice_set (map S.state sites.old.items) machine (S.work.go s)) }
     ensures flight { OnOk result ((s : State) → slice_get (map S.state sites.old.items) machine ≡ Some s

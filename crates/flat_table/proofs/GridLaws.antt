@@ -92,7 +92,8 @@ put_row_is width zero place row cells within size all = absurd (omega arith)
 put_row_is width (suc count) zero row cells within size all =
     let first : width * 0 ≡ 0 = omega arith in
     ap (λ k. rows_of width (suc count) (put_mid k width cells row)) first
-    ∙ ap (λ r. r ∷ rows_of width count (drop width (row ++ drop width cells))) (take_at row (drop width cells) width size)
+    ∙ ap (λ r. r ∷ rows_of width count (drop width (row ++ drop width cells)))
+    (take_at row (drop width cells) width size)
     ∙ ap (λ rest. row ∷ rows_of width count rest) (drop_at row (drop width cells) width size)
 put_row_is width (suc count) (suc place) row cells within size all =
     let at = width * place in
@@ -100,8 +101,10 @@ put_row_is width (suc count) (suc place) row cells within size all =
     let room : width ≤ length cells = omega (arith, all) in
     let rest : length (drop width cells) ≡ width * count = omega (arith, all, length-drop width cells) in
     let front : take width (put_mid (width + width * place) width cells row) ≡ take width cells =
-    take-put_mid_below (width + at) width cells row width (omega arith) (omega (arith, all, cell_within width (suc count) (suc place) within)) in
-    let behind : drop width (put_mid (width + width * place) width cells row) ≡ put_mid (width * place) width (drop width cells) row =
+    take-put_mid_below (width + at) width cells row width (omega arith)
+    (omega (arith, all, cell_within width (suc count) (suc place) within)) in
+    let behind : drop width (put_mid (width + width * place) width cells row)
+    ≡ put_mid (width * place) width (drop width cells) row =
     drop_front width at width cells row room in
     ap (λ k. rows_of width (suc count) (put_mid k width cells row)) further
     ∙ ap (λ r. r ∷ rows_of width count (drop width (put_mid (width + at) width cells row))) front

@@ -59,7 +59,8 @@ ring_line (Some carry) = codes "ring " ++ (decimal carry.words ++ codes "\n")
 
 abbrev pub slot_line : List (String Global) → Option SlotDecl → List ℕ
 slot_line names None = []
-slot_line names (Some d) = codes "update " ++ (text_of names d.name.name ++ (codes " " ++ (combine_text d.op ++ codes ";\n")))
+slot_line names (Some d) = codes "update "
+    ++ (text_of names d.name.name ++ (codes " " ++ (combine_text d.op ++ codes ";\n")))
 
 -- the lines of the slots at these places
 abbrev pub slot_lines : List (String Global) → List SlotDecl → List ℕ → List ℕ
@@ -79,7 +80,8 @@ shown_block keyword names body = keyword ++ (printed_block (view_block names bod
 
 abbrev pub give_block : List (String Global) → List Decl → List Class → List SlotDecl → List ℕ → List ℕ
 give_block names lets cs slots emitted =
-    codes "give {\n" ++ (let_lines Forward names lets cs ++ (let_lines Update names lets cs ++ (slot_lines names slots emitted ++ codes "}\n")))
+    codes "give {\n" ++ (let_lines Forward names lets cs
+    ++ (let_lines Update names lets cs ++ (slot_lines names slots emitted ++ codes "}\n")))
 
 -- ---- the whole
 
@@ -90,7 +92,8 @@ shown_loop names slots d split =
     ++ (ring_line split.carry
     ++ (begin_block names d.lets.items cs
     ++ (shown_block (codes "segment {\n") names d.body.items
-    ++ (give_block names d.lets.items cs slots split.emitted.items ++ shown_block (codes "tail {\n") names d.tail.items))))
+    ++ (give_block names d.lets.items cs slots split.emitted.items
+    ++ shown_block (codes "tail {\n") names d.tail.items))))
 
 abbrev pub shown_dense : List (String Global) → List SlotDecl → Option Dense → List ℕ
 shown_dense names slots None = codes "no dense\n"

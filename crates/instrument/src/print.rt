@@ -43,7 +43,8 @@ fn print_loop(
     split: &SplitLoop,
 ) -> Result<(), Want>
     requires { length split.now.classes.locals.items ≡ length dense.now.lets.items }
-    ensures { OnOk result (string_bytes out.new ≡ string_bytes out.old ++ shown_loop names.now slots.now dense.now split.now) }
+    ensures { OnOk result (string_bytes out.new ≡ string_bytes out.old
+        ++ shown_loop names.now slots.now dense.now split.now) }
 {
     let classes = split.classes.locals.as_slice();
     print_lets(out, Line::Local, names, &dense.lets, classes)?;
@@ -77,7 +78,8 @@ fn print_begin(
     classes: &[Class],
 ) -> Result<(), Want>
     requires { length classes.now ≡ length lets.now }
-    ensures { OnOk result (string_bytes out.new ≡ string_bytes out.old ++ begin_block names.now lets.now classes.now) }
+    ensures { OnOk result (string_bytes out.new ≡ string_bytes out.old
+        ++ begin_block names.now lets.now classes.now) }
 {
     out.push_str("begin {\n")?;
     print_declarations(out, names, "let ", lets)?;
@@ -93,7 +95,8 @@ fn print_statements(
     names: &[String],
     body: &[Stmt],
 ) -> Result<(), Want>
-    ensures { OnOk result (string_bytes out.new ≡ string_bytes out.old ++ shown_block opening.now names.now body.now) }
+    ensures { OnOk result (string_bytes out.new ≡ string_bytes out.old
+        ++ shown_block opening.now names.now body.now) }
 {
     out.push_str(opening)?;
     print_block(out, names, body)?;
@@ -109,7 +112,8 @@ fn print_give(
     emitted: &[u8],
 ) -> Result<(), Want>
     requires { length classes.now ≡ length lets.now }
-    ensures { OnOk result (string_bytes out.new ≡ string_bytes out.old ++ give_block names.now lets.now classes.now slots.now emitted.now) }
+    ensures { OnOk result (string_bytes out.new ≡ string_bytes out.old
+        ++ give_block names.now lets.now classes.now slots.now emitted.now) }
 {
     out.push_str("give {\n")?;
     print_lets(out, Line::Forward, names, lets, classes)?;
@@ -124,7 +128,8 @@ fn print_slots(
     slots: &[SlotDecl],
     emitted: &[u8],
 ) -> Result<(), Want>
-    ensures { OnOk result (string_bytes out.new ≡ string_bytes out.old ++ slot_lines names.now slots.now emitted.now) }
+    ensures { OnOk result (string_bytes out.new ≡ string_bytes out.old
+        ++ slot_lines names.now slots.now emitted.now) }
 {
     'lines: for place in emitted {
         print_slot(out, names, slot_at(slots, *place))?;
@@ -141,7 +146,8 @@ fn slot_at(slots: &[SlotDecl], place: u8) -> Option<&SlotDecl>
 
 // The line of a slot, if there is one.
 fn print_slot(out: &mut String, names: &[String], slot: Option<&SlotDecl>) -> Result<(), Want>
-    ensures { OnOk result (string_bytes out.new ≡ string_bytes out.old ++ slot_line names.now (option_copied slot.entry)) }
+    ensures { OnOk result (string_bytes out.new ≡ string_bytes out.old
+        ++ slot_line names.now (option_copied slot.entry)) }
 {
     match slot {
         Some(slot) => {

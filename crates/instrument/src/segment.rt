@@ -23,11 +23,14 @@ impl SplitLoop {
     /// had; their own values are words of 64 bits, whatever comes over them.
     pub fn begin(&self, program: &Typed, env: &mut Env, received: Option<&[i64]>)
         requires split { option_map loop_split program.now.program.dense ≡ Some self.now }
-        requires names { IsTrue (lets_placed (record (counts_of env.old) { locals = 0 }) (lets_in program.now.program.dense)) }
+        requires names { IsTrue (lets_placed (record (counts_of env.old) { locals = 0 })
+            (lets_in program.now.program.dense)) }
         requires draws { CanDraw env.old }
-        ensures begun { env.new ≡ begun self.now (lets_in program.now.program.dense) (option_copied received.entry) env.old }
+        ensures begun { env.new ≡ begun self.now (lets_in program.now.program.dense)
+            (option_copied received.entry) env.old }
         ensures own { All (FitsSigned w64) (own_words (lets_in program.now.program.dense) env.old) }
-        ensures counts { counts_of env.new ≡ record (counts_of env.old) { locals = length self.now.classes.locals.items } }
+        ensures counts { counts_of env.new
+            ≡ record (counts_of env.old) { locals = length self.now.classes.locals.items } }
         ensures draws { CanDraw env.new }
     {
         begin_lets(&program.program.dense, env);
@@ -62,10 +65,12 @@ fn push_carried(into: &mut ArrayVec<i64, 8>, class: Class, word: i64)
 // The lets of a block in the place of the locals that there are.
 fn begin_lets(dense: &Option<Dense>, env: &mut Env)
     requires room { length (lets_in dense.now) ≤ 8 }
-    requires names { IsTrue (lets_placed (record (counts_of env.old) { locals = 0 }) (lets_in dense.now)) }
+    requires names { IsTrue (lets_placed (record (counts_of env.old) { locals = 0 })
+        (lets_in dense.now)) }
     requires draws { CanDraw env.old }
     ensures lets { env.new ≡ only_lets (lets_in dense.now) env.old }
-    ensures counts { counts_of env.new ≡ record (counts_of env.old) { locals = length (lets_in dense.now) } }
+    ensures counts { counts_of env.new
+        ≡ record (counts_of env.old) { locals = length (lets_in dense.now) } }
     ensures draws { CanDraw env.new }
     ensures words { All (FitsSigned w64) env.new.locals.items }
 {
@@ -82,7 +87,8 @@ fn add_lets(lets: &[Decl], env: &mut Env)
     requires draws { CanDraw env.old }
     requires before { All (FitsSigned w64) env.old.locals.items }
     ensures lets { env.new ≡ with_lets lets.now env.old }
-    ensures counts { counts_of env.new ≡ record (counts_of env.old) { locals = length env.old.locals.items + length lets.now } }
+    ensures counts { counts_of env.new
+        ≡ record (counts_of env.old) { locals = length env.old.locals.items + length lets.now } }
     ensures draws { CanDraw env.new }
     ensures words { All (FitsSigned w64) env.new.locals.items }
 {
@@ -95,7 +101,9 @@ fn add_lets(lets: &[Decl], env: &mut Env)
 // Writes the words with which a segment begins over those that the lets have of their own.
 fn begin_words(classes: &[Class], received: Option<&[i64]>, words: &mut ArrayVec<i64, 8>)
     requires each { length classes.now ≡ length words.old.items }
-    ensures items { words.new.items ≡ with_neutral classes.now (with_received classes.now (option_copied received.entry) words.old.items) }
+    ensures items { words.new.items
+        ≡ with_neutral classes.now (with_received classes.now (option_copied received.entry)
+        words.old.items) }
     ensures count { length words.new.items ≡ length words.old.items }
 {
     if let Some(received) = received {

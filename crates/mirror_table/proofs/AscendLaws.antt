@@ -31,23 +31,32 @@ range_ascends a (suc n) = (all_range (λ y. a < y) (a + 1) n (λ v low high. ome
 filter_ascends : (p : ℕ → Bool) (xs : List ℕ) → Ascends xs → Ascends (filter p xs)
 filter_ascends p [] up = tt
 filter_ascends p (x ∷ xs) up =
-    elim (p x) as (λ b. Ascends (cond b (x ∷ filter p xs) (filter p xs))) [ true ↦ (all_filter (λ y. x < y) p xs up.0, filter_ascends p xs up.1) | false ↦ filter_ascends p xs up.1 ]
+    elim (p x) as (λ b. Ascends (cond b (x ∷ filter p xs) (filter p xs)))
+    [ true ↦ (all_filter (λ y. x < y) p xs up.0, filter_ascends p xs up.1) | false ↦ filter_ascends p xs up.1 ]
 
-append_ascends : (mid : ℕ) (xs ys : List ℕ) → Ascends xs → AllByRecursion (λ x. x < mid) xs → Ascends ys → AllByRecursion (λ y. mid ≤ y) ys → Ascends (xs ++ ys)
+append_ascends : (mid : ℕ) (xs ys : List ℕ) → Ascends xs → AllByRecursion (λ x. x < mid) xs → Ascends ys →
+    AllByRecursion (λ y. mid ≤ y) ys → Ascends (xs ++ ys)
 append_ascends mid [] ys up low up' high = up'
 append_ascends mid (x ∷ xs) ys up low up' high =
-    let first = low.0 in
-    (all_append (λ y. x < y) xs ys up.0 (all_weaker (λ y. mid ≤ y) (λ y. x < y) (λ y le. omega arith) ys high), append_ascends mid xs ys up.1 low.1 up' high)
+    let first = low.0 in (
+      all_append (λ y. x < y) xs ys up.0 (all_weaker (λ y. mid ≤ y) (λ y. x < y) (λ y le. omega arith) ys high),
+      append_ascends mid xs ys up.1 low.1 up' high,
+    )
 
-between_append : (lo mid hi : ℕ) (xs ys : List ℕ) → lo ≤ mid → mid ≤ hi → Between lo mid xs → Between mid hi ys → Between lo hi (xs ++ ys)
+between_append : (lo mid hi : ℕ) (xs ys : List ℕ) → lo ≤ mid → mid ≤ hi → Between lo mid xs → Between mid hi ys →
+    Between lo hi (xs ++ ys)
 between_append lo mid hi xs ys le le' b c = record {
-  up = append_ascends mid xs ys b.up (all_weaker (λ x. (lo ≤ x) × (x < mid)) (λ x. x < mid) (λ x h. h.1) xs b.all) c.up (all_weaker (λ x. (mid ≤ x) × (x < hi)) (λ x. mid ≤ x) (λ x h. h.0) ys c.all);
+  up = append_ascends mid xs ys b.up (all_weaker (λ x. (lo ≤ x) × (x < mid)) (λ x. x < mid) (λ x h. h.1) xs b.all)
+      c.up (all_weaker (λ x. (mid ≤ x) × (x < hi)) (λ x. mid ≤ x) (λ x h. h.0) ys c.all);
   all = all_append (λ x. (lo ≤ x) × (x < hi)) xs ys
-      (all_weaker (λ x. (lo ≤ x) × (x < mid)) (λ x. (lo ≤ x) × (x < hi)) (λ x h. let top = h.1 in (h.0, omega arith)) xs b.all)
-      (all_weaker (λ x. (mid ≤ x) × (x < hi)) (λ x. (lo ≤ x) × (x < hi)) (λ x h. let low = h.0 in (omega arith, h.1)) ys c.all);
+      (all_weaker (λ x. (lo ≤ x) × (x < mid)) (λ x. (lo ≤ x) × (x < hi)) (λ x h.
+      let top = h.1 in (h.0, omega arith)) xs b.all)
+      (all_weaker (λ x. (mid ≤ x) × (x < hi)) (λ x. (lo ≤ x) × (x < hi)) (λ x h.
+      let low = h.0 in (omega arith, h.1)) ys c.all);
 }
 
-next_above : (x y : ℕ) (ys : List ℕ) → x < y → IsStrictlyIncreasing (y ∷ ys) → (k : ℕ) → k + 1 < length (x ∷ y ∷ ys) → get_or (x ∷ y ∷ ys) k 0 < get_or (x ∷ y ∷ ys) (k + 1) 0
+next_above : (x y : ℕ) (ys : List ℕ) → x < y → IsStrictlyIncreasing (y ∷ ys) → (k : ℕ) → k + 1 < length (x ∷ y ∷ ys) →
+    get_or (x ∷ y ∷ ys) k 0 < get_or (x ∷ y ∷ ys) (k + 1) 0
 next_above x y ys first more zero lt = first
 next_above x y ys first more (suc k) lt =
     let e : suc k + 1 ≡ suc (k + 1) = omega arith in
@@ -64,34 +73,46 @@ module _ (most : ℕ) (ends : List ℕ) (edges : List Edge) (are : AreEnds most 
       let rises = chunk_rises most ends are k lt in
       record {
         up = range_ascends (start_of ends k) (slice_index ends k - start_of ends k);
-        all = all_range (λ x. (start_of ends k ≤ x) × (x < slice_index ends k)) (start_of ends k) (slice_index ends k - start_of ends k) (λ v low high. (low, omega arith));
+        all = all_range (λ x. (start_of ends k ≤ x) × (x < slice_index ends k)) (start_of ends k)
+            (slice_index ends k - start_of ends k) (λ v low high. (low, omega arith));
       }
 
   list_between : (k : ℕ) → Between (start_of ends k) (slice_index ends k) (refresh_list ends k m edges)
   list_between k =
       let between : List Edge = edges_between ends m k edges in
       let there : AllByRecursion (λ e. lies_in ends k (target e) ≡ true) between =
-      all_weaker (λ e. (lies_in ends m (source e) && lies_in ends k (target e)) ≡ true) (λ e. lies_in ends k (target e) ≡ true)
-      (λ e h. and_second (lies_in ends m (source e)) (lies_in ends k (target e)) h) between (all_passes (λ e. lies_in ends m (source e) && lies_in ends k (target e)) edges) in
+      all_weaker (λ e. (lies_in ends m (source e) && lies_in ends k (target e)) ≡ true) (λ e.
+      lies_in ends k (target e) ≡ true)
+      (λ e h. and_second (lies_in ends m (source e)) (lies_in ends k (target e)) h) between
+      (all_passes (λ e. lies_in ends m (source e) && lies_in ends k (target e)) edges) in
       record {
-        up = filter_ascends (λ v. list_any (λ e. target e == v) between) (range_with_len 0 (vertices_of ends)) (range_ascends 0 (vertices_of ends));
-        all = all_weaker (λ v. list_any (λ e. target e == v) between ≡ true) (λ v. (start_of ends k ≤ v) × (v < slice_index ends k))
+        up = filter_ascends (λ v. list_any (λ e. target e == v) between) (range_with_len 0 (vertices_of ends))
+            (range_ascends 0 (vertices_of ends));
+        all = all_weaker (λ v. list_any (λ e. target e == v) between ≡ true) (λ v. (start_of ends k ≤ v) ×
+            (v < slice_index ends k))
             (λ v met.
             let at : lies_in ends k v ≡ true = passes_from_any target (lies_in ends k) v between there met in
             (lies_low ends k v at, lies_high ends k v at))
-            (refresh_list ends k m edges) (all_passes (λ v. list_any (λ e. target e == v) between) (range_with_len 0 (vertices_of ends)));
+            (refresh_list ends k m edges) (all_passes (λ v. list_any (λ e. target e == v) between)
+            (range_with_len 0 (vertices_of ends)));
       }
 
-  known_between : (k : ℕ) → k ≤ length ends → Between 0 (start_of ends k) (flat_map (λ k. if k == m then chunk_vertices ends k else refresh_list ends k m edges) (range_with_len 0 k))
+  known_between : (k : ℕ) → k ≤ length ends →
+      Between 0 (start_of ends k) (flat_map (λ k. if k == m then chunk_vertices ends k
+      else refresh_list ends k m edges) (range_with_len 0 k))
   known_between zero le = record { up = tt; all = tt }
   known_between (suc k) le =
       let g : ℕ → List ℕ = λ k. if k == m then chunk_vertices ends k else refresh_list ends k m edges in
       let here : Between (start_of ends k) (slice_index ends k) (g k) =
-      elim (k == m) as (λ b. Between (start_of ends k) (slice_index ends k) (cond b (chunk_vertices ends k) (refresh_list ends k m edges))) [ true ↦ own_between k (omega arith) | false ↦ list_between k ] in
+      elim (k == m) as (λ b. Between (start_of ends k) (slice_index ends k)
+      (cond b (chunk_vertices ends k) (refresh_list ends k m edges)))
+      [ true ↦ own_between k (omega arith) | false ↦ list_between k ] in
       let one : k + 1 ≡ suc k = omega arith in
-      let all : flat_map g (range_with_len 0 k) ++ g k ≡ flat_map g (range_with_len 0 (suc k)) = sym (flat_map_more g k) ∙ ap (λ q. flat_map g (range_with_len 0 q)) one in
+      let all : flat_map g (range_with_len 0 k) ++ g k ≡ flat_map g (range_with_len 0 (suc k)) =
+      sym (flat_map_more g k) ∙ ap (λ q. flat_map g (range_with_len 0 q)) one in
       subst (λ (xs : List ℕ). Between 0 (slice_index ends k) xs) all
-      (between_append 0 (start_of ends k) (slice_index ends k) (flat_map g (range_with_len 0 k)) (g k) (omega arith) (chunk_rises most ends are k (omega arith)) (known_between k (omega arith)) here)
+      (between_append 0 (start_of ends k) (slice_index ends k) (flat_map g (range_with_len 0 k)) (g k) (omega arith)
+      (chunk_rises most ends are k (omega arith)) (known_between k (omega arith)) here)
 
 pub degrees_ascend : DegreesAscend
 degrees_ascend most ends draws edges m are =

@@ -15,30 +15,40 @@ all_from_start a = grind (arith, nat_tests)
 
 -- before the first chunk all is left
 pub rest_first : {X : Type 0} (key : X → ℕ) (xs : List X) → xs ≡ filter (λ x. nat_le 0 (key x)) xs
-rest_first key xs = sym (filter_all (λ x. nat_le 0 (key x)) xs (all_true (λ x. nat_le 0 (key x) ≡ true) (λ x. all_from_start (key x)) xs))
+rest_first key xs = sym (filter_all (λ x. nat_le 0 (key x)) xs
+    (all_true (λ x. nat_le 0 (key x) ≡ true) (λ x. all_from_start (key x)) xs))
 
 both_from : (a b k : ℕ) → a ≤ b → (nat_le a k && nat_le b k) ≡ nat_le b k
 both_from a b k le = grind (arith, nat_tests)
 
 -- what is left after a chunk
-pub rest_more : {X : Type 0} (key : X → ℕ) (a b : ℕ) (xs rest : List X) → a ≤ b → rest ≡ filter (λ x. nat_le a (key x)) xs → filter (λ x. nat_le b (key x)) rest ≡ filter (λ x. nat_le b (key x)) xs
+pub rest_more : {X : Type 0} (key : X → ℕ) (a b : ℕ) (xs rest : List X) → a ≤ b →
+    rest ≡ filter (λ x. nat_le a (key x)) xs → filter (λ x. nat_le b (key x)) rest ≡ filter (λ x. nat_le b (key x)) xs
 rest_more key a b xs rest le is =
     ap (filter (λ x. nat_le b (key x))) is
     ∙ (filter_filter (λ x. nat_le b (key x)) (λ x. nat_le a (key x)) xs
-    ∙ filter_agree (λ x. nat_le a (key x) && nat_le b (key x)) (λ x. nat_le b (key x)) (λ x. both_from a b (key x) le) xs)
+    ∙ filter_agree (λ x. nat_le a (key x) && nat_le b (key x)) (λ x. nat_le b (key x)) (λ x. both_from a b (key x) le)
+    xs)
 
 -- the part of what is left that lies in the next chunk
-pub part_of_rest : {X : Type 0} (key : X → ℕ) (a b : ℕ) (xs rest : List X) → rest ≡ filter (λ x. nat_le a (key x)) xs → filter (λ x. nat_lt (key x) b) rest ≡ filter (λ x. nat_le a (key x) && nat_lt (key x) b) xs
-part_of_rest key a b xs rest is = ap (filter (λ x. nat_lt (key x) b)) is ∙ filter_filter (λ x. nat_lt (key x) b) (λ x. nat_le a (key x)) xs
+pub part_of_rest : {X : Type 0} (key : X → ℕ) (a b : ℕ) (xs rest : List X) → rest ≡ filter (λ x. nat_le a (key x)) xs
+    → filter (λ x. nat_lt (key x) b) rest ≡ filter (λ x. nat_le a (key x) && nat_lt (key x) b) xs
+part_of_rest key a b xs rest is = ap (filter (λ x. nat_lt (key x) b)) is
+    ∙ filter_filter (λ x. nat_lt (key x) b) (λ x. nat_le a (key x)) xs
 
-pub rest_rises : {X : Type 0} (key : X → ℕ) (p : X → Bool) (xs rest : List X) → rest ≡ filter p xs → IsNonDecreasingBy key xs → IsNonDecreasingBy key rest
-rest_rises {X} key p xs rest is up = subst (λ (ys : List X). IsNonDecreasingBy key ys) (sym is) (IsNonDecreasingBy-filter key p xs up)
+pub rest_rises : {X : Type 0} (key : X → ℕ) (p : X → Bool) (xs rest : List X) → rest ≡ filter p xs →
+    IsNonDecreasingBy key xs → IsNonDecreasingBy key rest
+rest_rises {X} key p xs rest is up = subst (λ (ys : List X). IsNonDecreasingBy key ys) (sym is)
+    (IsNonDecreasingBy-filter key p xs up)
 
-pub rest_all : {X : Type 0} (P : X → Type 0) (p : X → Bool) (xs rest : List X) → rest ≡ filter p xs → All P xs → All P rest
+pub rest_all : {X : Type 0} (P : X → Type 0) (p : X → Bool) (xs rest : List X) → rest ≡ filter p xs → All P xs →
+    All P rest
 rest_all {X} P p xs rest is all = subst (λ (ys : List X). All P ys) (sym is) (All-filter p P xs all)
 
 -- one more list
-pub map_push : {X Y : Type 0} (view : X → Y) (f : ℕ → Y) (k : ℕ) (lists new : List X) (x : X) → map view lists ≡ map f (range_with_len 0 k) → new ≡ lists ++ x ∷ [] → view x ≡ f k → map view new ≡ map f (range_with_len 0 (k + 1))
+pub map_push : {X Y : Type 0} (view : X → Y) (f : ℕ → Y) (k : ℕ) (lists new : List X) (x : X) →
+    map view lists ≡ map f (range_with_len 0 k) → new ≡ lists ++ x ∷ [] → view x ≡ f k →
+    map view new ≡ map f (range_with_len 0 (k + 1))
 map_push view f k lists new x so_far is here =
     ap (map view) is
     ∙ (map-append view lists (x ∷ [])

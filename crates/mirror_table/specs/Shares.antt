@@ -11,7 +11,8 @@ use Rattle.symple_face.specs.PartsOf.{push_of, scan_of}
 
 -- a graph of these edges in chunks with these ends: how many edges it has, the degrees of all its vertices, and the
 -- edges that machine m works on
-pub record IsShare (ends : List ℕ) (edges : List Edge) (count : ℕ) (degrees : List Degree) (m : ℕ) (scan push : List Edge) : Type 0 where
+pub record IsShare (ends : List ℕ) (edges : List Edge) (count : ℕ) (degrees : List Degree) (m : ℕ)
+    (scan push : List Edge) : Type 0 where
   pub within : vertices_of ends ≤ VERTICES
   pub few : length edges ≤ EDGES
   pub below : AreBelow (vertices_of ends) edges

@@ -15,7 +15,8 @@ use vert_base::limits::MACHINES;
 // Adds the vertices from `start` to `end`.
 fn push_range(list: &mut Vec<VertexId>, start: u32, end: u32) -> Result<(), AllocError>
     requires { start ≤ end }
-    ensures { OnOk result (map (λ v. v.0) list.new.items ≡ map (λ v. v.0) list.old.items ++ range_with_len start (end - start)) }
+    ensures { OnOk result (map (λ v. v.0) list.new.items ≡ map (λ v. v.0) list.old.items
+        ++ range_with_len start (end - start)) }
 {
     for v in start..end {
         list.push(VertexId(v))?;
@@ -32,7 +33,8 @@ fn push_known(
     others: &[VertexId],
 ) -> Result<(), AllocError>
     requires { chunk < length cuts.now }
-    ensures { OnOk result (map (λ v. v.0) list.new.items ≡ map (λ v. v.0) list.old.items ++ (if own then chunk_vertices cuts.now chunk else map (λ v. v.0) others.now)) }
+    ensures { OnOk result (map (λ v. v.0) list.new.items ≡ map (λ v. v.0) list.old.items
+        ++ (if own then chunk_vertices cuts.now chunk else map (λ v. v.0) others.now)) }
 {
     if own {
         push_range(list, cuts.start(chunk), cuts.end(chunk))
@@ -49,7 +51,9 @@ pub(crate) fn known(
     lists: &[Vec<VertexId>],
 ) -> Result<Vec<VertexId>, AllocError>
     requires { length lists.now ≡ length cuts.now }
-    ensures { IfOk result (λ list. map (λ v. v.0) list.items ≡ flat_map (λ k. if k == m then chunk_vertices cuts.now k else slice_index_or (lists_of lists.now) k []) (range_with_len 0 (length cuts.now))) }
+    ensures { IfOk result (λ list. map (λ v. v.0) list.items
+        ≡ flat_map (λ k. if k == m then chunk_vertices cuts.now k
+        else slice_index_or (lists_of lists.now) k []) (range_with_len 0 (length cuts.now))) }
 {
     let mut list = Vec::new(alloc);
     for k in 0..cuts.count() {
@@ -72,7 +76,8 @@ fn degree(table: &Table, v: VertexId) -> Degree
 
 /// The degrees of all vertices.
 pub(crate) fn degrees(alloc: Global, table: &Table) -> Result<Vec<Degree>, AllocError>
-    ensures { IfOk result (λ list. list.items ≡ map (degree_in table.now.list table.now.list) (range_with_len 0 table.now.vertices)) }
+    ensures { IfOk result (λ list. list.items
+        ≡ map (degree_in table.now.list table.now.list) (range_with_len 0 table.now.vertices)) }
 {
     let vertices = table.vertices();
     let mut list = Vec::with_capacity(alloc, vertices as usize)?;
@@ -89,7 +94,9 @@ pub(crate) fn chosen(
     vertices: &[VertexId],
 ) -> Result<Vec<Degree>, AllocError>
     requires { All (λ v. v.0 < length degrees.now) vertices.now }
-    ensures { IfOk result (λ list. (f : ℕ → Degree) → degrees.now ≡ map f (range_with_len 0 (length degrees.now)) → list.items ≡ map f (map (λ v. v.0) vertices.now)) }
+    ensures { IfOk result (λ list. (f : ℕ → Degree) →
+        degrees.now ≡ map f (range_with_len 0 (length degrees.now)) →
+        list.items ≡ map f (map (λ v. v.0) vertices.now)) }
 {
     let mut list = Vec::with_capacity(alloc, vertices.len())?;
     for v in vertices {

@@ -25,7 +25,8 @@ pub(crate) struct Shares {
 // The machine that owns each vertex.
 fn owners(alloc: Global, cuts: &Cuts<MACHINES>) -> Result<Vec<u8>, AllocError>
     ensures len { IfOk result (λ owners. vec_len owners ≡ vertices_of cuts.now) }
-    ensures holds { IfOk result (λ owners. (v : ℕ) → v < vertices_of cuts.now → Holds cuts.now v (slice_index owners.items v)) }
+    ensures holds { IfOk result (λ owners. (v : ℕ) → v < vertices_of cuts.now →
+        Holds cuts.now v (slice_index owners.items v)) }
 {
     let vertices = cuts.end(cuts.count() - 1);
     let mut owners = Vec::with_capacity(alloc, vertices as usize)?;
@@ -37,7 +38,8 @@ fn owners(alloc: Global, cuts: &Cuts<MACHINES>) -> Result<Vec<u8>, AllocError>
 
 // Lists for so many machines, with nothing in them.
 fn empty_lists(alloc: Global, machines: u8) -> Result<Vec<Vec<Edge>>, AllocError>
-    ensures { IfOk result (λ lists. map (λ l. l.items) lists.items ≡ map (λ _. []) (range_with_len 0 machines)) }
+    ensures { IfOk result (λ lists.
+        map (λ l. l.items) lists.items ≡ map (λ _. []) (range_with_len 0 machines)) }
 {
     let mut lists = Vec::with_capacity(alloc, machines as usize)?;
     for _machine in 0..machines {
@@ -55,9 +57,13 @@ fn dealt(
     side: Side,
 ) -> Result<Vec<Vec<Edge>>, AllocError>
     requires len { length owners.now ≡ vertices_of cuts.now }
-    requires holds { (v : ℕ) → v < vertices_of cuts.now → Holds cuts.now v (slice_index owners.now v) }
+    requires holds { (v : ℕ) → v < vertices_of cuts.now →
+        Holds cuts.now v (slice_index owners.now v) }
     requires below { All (λ e. key_of side e < vertices_of cuts.now) edges.now }
-    ensures { IfOk result (λ lists. map (λ l. l.items) lists.items ≡ map (λ m. filter (λ e. lies_in cuts.now m (key_of side e)) edges.now) (range_with_len 0 (length cuts.now))) }
+    ensures { IfOk result (λ lists.
+        map (λ l. l.items) lists.items
+        ≡ map (λ m. filter (λ e. lies_in cuts.now m (key_of side e)) edges.now)
+        (range_with_len 0 (length cuts.now))) }
 {
     let _ends = cuts.ends();
     let mut lists = empty_lists(alloc, cuts.count())?;
@@ -81,8 +87,12 @@ fn whole(alloc: Global, edges: Vec<Edge>) -> Result<Vec<Vec<Edge>>, AllocError>
 pub(crate) fn deal(alloc: Global, lists: Lists, cuts: &Cuts<MACHINES>) -> Result<Shares, AllocError>
     requires sources { All (λ e. source e < vertices_of cuts.now) lists.ins.items }
     requires targets { All (λ e. target e < vertices_of cuts.now) lists.outs.items }
-    ensures scans { IfOk result (λ shares. map (λ l. l.items) shares.scans.items ≡ map (λ m. filter (λ e. lies_in cuts.now m (source e)) lists.ins.items) (range_with_len 0 (length cuts.now))) }
-    ensures pushes { IfOk result (λ shares. map (λ l. l.items) shares.pushes.items ≡ map (λ m. filter (λ e. lies_in cuts.now m (target e)) lists.outs.items) (range_with_len 0 (length cuts.now))) }
+    ensures scans { IfOk result (λ shares. map (λ l. l.items) shares.scans.items
+        ≡ map (λ m. filter (λ e. lies_in cuts.now m (source e)) lists.ins.items)
+        (range_with_len 0 (length cuts.now))) }
+    ensures pushes { IfOk result (λ shares. map (λ l. l.items) shares.pushes.items
+        ≡ map (λ m. filter (λ e. lies_in cuts.now m (target e)) lists.outs.items)
+        (range_with_len 0 (length cuts.now))) }
 {
     if cuts.count() == 1 {
         return Ok(Shares {
@@ -101,7 +111,8 @@ pub(crate) fn deal(alloc: Global, lists: Lists, cuts: &Cuts<MACHINES>) -> Result
 pub(crate) fn taken(alloc: Global, lists: &mut Vec<Vec<Edge>>, m: u8) -> Vec<Edge>
     requires { m < vec_len lists.old }
     ensures list { result.items ≡ slice_index_or (map (λ l. l.items) lists.old.items) m [] }
-    ensures others { map (λ l. l.items) lists.new.items ≡ slice_set (map (λ l. l.items) lists.old.items) m [] }
+    ensures others { map (λ l. l.items) lists.new.items
+        ≡ slice_set (map (λ l. l.items) lists.old.items) m [] }
 {
     mem::replace(&mut lists[m as usize], Vec::new(alloc))
 }

@@ -60,8 +60,11 @@ fn part(
     share: Share,
 ) -> Result<Part, AllocError>
     requires machine { share.machine < length cuts.now }
-    requires graph { (list : List Edge) × IsShare cuts.now list edges degrees.now share.machine share.scan.items share.push.items }
-    ensures part { IfOk result (λ part. (list : List Edge) → IsShare cuts.now list edges degrees.now share.machine share.scan.items share.push.items → plain_of part ≡ part_of cuts.now draws list share.machine) }
+    requires graph { (list : List Edge) ×
+        IsShare cuts.now list edges degrees.now share.machine share.scan.items share.push.items }
+    ensures part { IfOk result (λ part. (list : List Edge) →
+        IsShare cuts.now list edges degrees.now share.machine share.scan.items share.push.items →
+        plain_of part ≡ part_of cuts.now draws list share.machine) }
     ensures split { IfOk result (λ part. part.split.value ≡ split.now.value) }
 {
     let _ends = cuts.ends();
@@ -95,9 +98,12 @@ pub fn parts(
     draws: u64,
 ) -> Result<Vec<Part>, Want>
     requires { vertices_of cuts.now ≡ table.vertices }
-    ensures parts { IfOk result (λ parts. map plain_of parts.items ≡ parts_of cuts.now draws table.list) }
-    ensures split { IfOk result (λ parts. All (λ part. part.split.value ≡ split.now.value) parts.items) }
-    ensures graph { IfOk result (λ parts. (n : ℕ) (edges : List Edge) → IsTableOf n edges table → AreBelow n edges → map plain_of parts.items ≡ parts_of cuts.now draws edges) }
+    ensures parts { IfOk result (λ parts.
+        map plain_of parts.items ≡ parts_of cuts.now draws table.list) }
+    ensures split { IfOk result (λ parts.
+        All (λ part. part.split.value ≡ split.now.value) parts.items) }
+    ensures graph { IfOk result (λ parts. (n : ℕ) (edges : List Edge) → IsTableOf n edges table →
+        AreBelow n edges → map plain_of parts.items ≡ parts_of cuts.now draws edges) }
 {
     let _ends = cuts.ends();
     let _vertices = table.vertices();

@@ -45,29 +45,45 @@ module _ (g h : Graph) (are : AreAlike g h) (s : Scene) where
 
   member_same : (e : Edge) (env : Env) → at_member (on g s) e env ≡ at_member (on h s) e env
   member_same e env = λ i. record env {
-    other = record { id = record { 0 = source e }; weight = e.weight; indeg = are.indegrees (source e) i; outdeg = are.outdegrees (source e) i };
+    other = record {
+      id = record { 0 = source e };
+      weight = e.weight;
+      indeg = are.indegrees (source e) i;
+      outdeg = are.outdegrees (source e) i;
+    };
     other_row = row_at s.rows (source e);
   }
 
-  loop_same : (body : List Stmt) (members : List Edge) (env : Env) → loop (on g s) body members env ≡ loop (on h s) body members env
-  loop_same body members env = λ i. in_turn (map (λ e start. reading (source e) (run body (member_same e start i))) members) env
+  loop_same : (body : List Stmt) (members : List Edge) (env : Env) →
+      loop (on g s) body members env ≡ loop (on h s) body members env
+  loop_same body members env = λ i. in_turn
+      (map (λ e start. reading (source e) (run body (member_same e start i))) members) env
 
-  block_same : (d : Dense) (members : List Edge) (env : Env) → dense_block (on g s) d members env ≡ dense_block (on h s) d members env
-  block_same d members env = ap (λ looped. after looped (run d.tail.items looped.env)) (loop_same d.body.items members (with_lets d.lets.items env))
+  block_same : (d : Dense) (members : List Edge) (env : Env) →
+      dense_block (on g s) d members env ≡ dense_block (on h s) d members env
+  block_same d members env = ap (λ looped. after looped (run d.tail.items looped.env))
+      (loop_same d.body.items members (with_lets d.lets.items env))
 
-  dense_same : (o : Option Dense) (members : List Edge) (env : Env) → dense_part (on g s) o members env ≡ dense_part (on h s) o members env
+  dense_same : (o : Option Dense) (members : List Edge) (env : Env) →
+      dense_part (on g s) o members env ≡ dense_part (on h s) o members env
   dense_same None members env = refl
-  dense_same (Some d) members env = ap (λ r. if is_set (value_of d.when_test env) then r else leaves env) (block_same d members env)
+  dense_same (Some d) members env = ap (λ r. if is_set (value_of d.when_test env) then r else leaves env)
+      (block_same d members env)
 
-  sent_same : (ops : List Combine) (sparse : Sparse) (env : Env) (e : Edge) → emitted_over (on g s) ops sparse env e ≡ emitted_over (on h s) ops sparse env e
+  sent_same : (ops : List Combine) (sparse : Sparse) (env : Env) (e : Edge) →
+      emitted_over (on g s) ops sparse env e ≡ emitted_over (on h s) ops sparse env e
   sent_same ops sparse env e = λ i.
       let sender : Env = env_same (source e) (no_values ops) i in
       let entered : Env = member_same e env i in
-      if sender.row.active && is_set (value_of sparse.when_test sender) then (run sparse.body.items (record entered { sends = record { items = sent_by sparse sender } })).emitted else []
+      if sender.row.active && is_set (value_of sparse.when_test sender)
+      then (run sparse.body.items (record entered { sends = record { items = sent_by sparse sender } })).emitted
+      else []
 
-  sparse_same : (ops : List Combine) (o : Option Sparse) (members : List Edge) (env : Env) → sparse_part (on g s) ops o members env ≡ sparse_part (on h s) ops o members env
+  sparse_same : (ops : List Combine) (o : Option Sparse) (members : List Edge) (env : Env) →
+      sparse_part (on g s) ops o members env ≡ sparse_part (on h s) ops o members env
   sparse_same ops None members env = refl
-  sparse_same ops (Some sparse) members env = λ i. record (leaves env) { emitted = flat_map (λ e. sent_same ops sparse env e i) members }
+  sparse_same ops (Some sparse) members env = λ i.
+      record (leaves env) { emitted = flat_map (λ e. sent_same ops sparse env e i) members }
 
   module _ (p : Program) where
     bare_same : (v : ℕ) → env_at (on g s) v (no_values (slot_ops p)) ≡ env_at (on h s) v (no_values (slot_ops p))
@@ -104,20 +120,27 @@ module _ (p : Program) (draws : ℕ) (g h : Graph) (are : AreAlike g h) where
 
   abbrev begun : Env → Row
   begun env =
-      let row : Row = record { words = record { items = map (λ d. value_of d.value env) p.fields.items }; active = false } in
+      let row : Row = record {
+        words = record { items = map (λ d. value_of d.value env) p.fields.items };
+        active = false;
+      } in
       record row { active = is_set (value_of p.start (with_row row env)) }
 
   first_same : first_rows (job g) ≡ first_rows (job h)
-  first_same = λ i. map (λ v. begun (env_same g h are (scene_of (job g) 0 [] []) v [] i)) (range_with_len 0 (are.vertices i))
+  first_same = λ i. map (λ v. begun (env_same g h are (scene_of (job g) 0 [] []) v [] i))
+      (range_with_len 0 (are.vertices i))
 
   totals_same : (round : ℕ) (rows : List Row) → totals_after (job g) round rows ≡ totals_after (job h) round rows
   totals_same round rows = λ i.
-      map (λ t. total_of t.op (map (λ v. value_of t.value (env_same g h are (scene_of (job g) round rows []) v [] i)) (range_with_len 0 (are.vertices i)))) p.totals.items
+      map (λ t. total_of t.op (map (λ v. value_of t.value (env_same g h are (scene_of (job g) round rows []) v [] i))
+      (range_with_len 0 (are.vertices i)))) p.totals.items
 
   edges_same : (rows : List Row) → active_edges g rows ≡ active_edges h rows
-  edges_same rows = λ i. sum (map (λ v. if (row_at rows v).active then are.outdegrees v i else 0) (range_with_len 0 (are.vertices i)))
+  edges_same rows = λ i. sum (map (λ v. if (row_at rows v).active then are.outdegrees v i else 0)
+      (range_with_len 0 (are.vertices i)))
 
-  ruling_same : (round : ℕ) (rows : List Row) (totals : List ℤ) → ruling_after (job g) round rows totals ≡ ruling_after (job h) round rows totals
+  ruling_same : (round : ℕ) (rows : List Row) (totals : List ℤ) →
+      ruling_after (job g) round rows totals ≡ ruling_after (job h) round rows totals
   ruling_same round rows totals = λ i.
       if stops p.stop (env_same g h are (scene_of (job g) round [] totals) 0 [] i)
       then ruling.Stop
@@ -125,7 +148,8 @@ module _ (p : Program) (draws : ℕ) (g h : Graph) (are : AreAlike g h) where
 
   standing_same : (round : ℕ) (rows : List Row) → standing_after (job g) round rows ≡ standing_after (job h) round rows
   standing_same round rows =
-      let ruled = ap (ruling_after (job g) round rows) (totals_same round rows) ∙ ruling_same round rows (totals_after (job h) round rows) in
+      let ruled = ap (ruling_after (job g) round rows) (totals_same round rows)
+      ∙ ruling_same round rows (totals_after (job h) round rows) in
       λ i. record {
         rows = rows;
         totals = totals_same round rows i;
@@ -135,7 +159,11 @@ module _ (p : Program) (draws : ℕ) (g h : Graph) (are : AreAlike g h) where
       }
 
   played_same : (round : ℕ) (s : Standing) → played_at (job g) round s ≡ played_at (job h) round s
-  played_same round s = λ i. record { round = round; before = s; reads = reads_same g h are (scene_before (job g) round s) p s.ruling i }
+  played_same round s = λ i. record {
+    round = round;
+    before = s;
+    reads = reads_same g h are (scene_before (job g) round s) p s.ruling i;
+  }
 
   next_same : (round : ℕ) (s : Standing) → next_standing (job g) round s ≡ next_standing (job h) round s
   next_same round s =
@@ -145,7 +173,8 @@ module _ (p : Program) (draws : ℕ) (g h : Graph) (are : AreAlike g h) where
   rounds_same : (more round : ℕ) (s : Standing) → rounds_from more (job g) round s ≡ rounds_from more (job h) round s
   rounds_same zero round s = refl
   rounds_same (suc more) round s =
-      let rest = ap (rounds_from more (job g) (round + 1)) (next_same round s) ∙ rounds_same more (round + 1) (next_standing (job h) round s) in
+      let rest = ap (rounds_from more (job g) (round + 1)) (next_same round s)
+      ∙ rounds_same more (round + 1) (next_standing (job h) round s) in
       λ i. by_ruling s.ruling (record { rounds = []; last = s }) (then_runs (played_same round s i) (rest i))
 
   -- runs over graphs that are alike are one

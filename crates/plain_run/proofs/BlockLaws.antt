@@ -81,7 +81,9 @@ module _
       let looped = loop s d.body.items members (with_lets d.lets.items env) in
       let same = looped_same in
       let ended : left ≡ looped.env = e2 ∙ ap (λ r. r.env) same in
-      let p1 : qs ≡ with_emissions env.key ps looped.emitted = h1 ∙ ap (λ k. with_emissions k ps (loop s body ms start).emitted) k1 ∙ ap (λ r. with_emissions env.key ps r.emitted) same in
+      let p1 : qs ≡ with_emissions env.key ps looped.emitted =
+      h1 ∙ ap (λ k. with_emissions k ps (loop s body ms start).emitted) k1
+      ∙ ap (λ r. with_emissions env.key ps r.emitted) same in
       h2
       ∙ ap (λ k. with_emissions k qs (run tail left).emitted) (k2 ∙ k1)
       ∙ ap (λ x. with_emissions env.key x (run tail left).emitted) p1
@@ -89,7 +91,8 @@ module _
       ∙ ap (λ e. with_emissions env.key (with_emissions env.key ps looped.emitted) (run d.tail.items e).emitted) ended
       ∙ sym (with_emissions-append env.key ps looped.emitted (run d.tail.items looped.env).emitted)
 
-  pub block_reads : (reads : List ℕ) → reads ≡ (loop s body ms start).reads → reads ≡ (dense_block s d members env).reads
+  pub block_reads : (reads : List ℕ) → reads ≡ (loop s body ms start).reads →
+      reads ≡ (dense_block s d members env).reads
   block_reads reads h =
       let looped = loop s d.body.items members (with_lets d.lets.items env) in
       h

@@ -14,7 +14,14 @@ use Rattle.vert_eval.specs.Values.{counts_of}
 use Rattle.vert_eval.specs.Rounds.{Scene, env_at, row_at}
 
 abbrev shape : ℕ → ℕ → ℕ → Counts
-shape fields slots totals = record { fields = fields; locals = 0; sends = 0; slots = slots; totals = totals; other_fields = fields }
+shape fields slots totals = record {
+  fields = fields;
+  locals = 0;
+  sends = 0;
+  slots = slots;
+  totals = totals;
+  other_fields = fields;
+}
 
 -- how many words the environment of a vertex has
 pub counts_at :
@@ -46,6 +53,7 @@ emitted_more f xs i x ps qs rs lt is before more =
     ∙ ap (with_emissions 0 ps) (sym next)
 
 -- one element more of a list made by the number
-pub one_more : {X : Type 0} (f : ℕ → X) (v : ℕ) (xs more : List X) (x : X) → xs ≡ map f (range_with_len 0 v) → x ≡ f v → more ≡ xs ++ x ∷ [] → more ≡ map f (range_with_len 0 (v + 1))
+pub one_more : {X : Type 0} (f : ℕ → X) (v : ℕ) (xs more : List X) (x : X) → xs ≡ map f (range_with_len 0 v) →
+    x ≡ f v → more ≡ xs ++ x ∷ [] → more ≡ map f (range_with_len 0 (v + 1))
 one_more f v xs more x e here h =
     h ∙ ap (λ y. xs ++ y ∷ []) here ∙ ap (λ l. l ++ f v ∷ []) e ∙ sym (map-range_with_len_more f 0 v v (omega arith))

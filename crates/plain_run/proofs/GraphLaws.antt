@@ -13,19 +13,24 @@ use Rattle.graph_table.proofs.SplitLaws.{by_index}
 use Rattle.graph_table.proofs.StartLaws.{start_all}
 
 -- an order of the edges at a vertex has as many as there are
-pub ins_count : (n : ℕ) (edges : List Edge) (v : ℕ) → AreBelow n edges → length (ins_of n edges v) ≡ length (filter (λ e. target e == v) edges)
+pub ins_count : (n : ℕ) (edges : List Edge) (v : ℕ) → AreBelow n edges →
+    length (ins_of n edges v) ≡ length (filter (λ e. target e == v) edges)
 ins_count n edges v below =
-    start_all source n (filter (λ e. target e == v) edges) (All-filter (λ e. target e == v) (λ e. source e < n) edges (λ k d lt. (below k d lt).0))
+    start_all source n (filter (λ e. target e == v) edges)
+    (All-filter (λ e. target e == v) (λ e. source e < n) edges (λ k d lt. (below k d lt).0))
 
-pub outs_count : (n : ℕ) (edges : List Edge) (v : ℕ) → AreBelow n edges → length (outs_of n edges v) ≡ length (filter (λ e. source e == v) edges)
+pub outs_count : (n : ℕ) (edges : List Edge) (v : ℕ) → AreBelow n edges →
+    length (outs_of n edges v) ≡ length (filter (λ e. source e == v) edges)
 outs_count n edges v below =
-    start_all target n (filter (λ e. source e == v) edges) (All-filter (λ e. source e == v) (λ e. target e < n) edges (λ k d lt. (below k d lt).1))
+    start_all target n (filter (λ e. source e == v) edges)
+    (All-filter (λ e. source e == v) (λ e. target e < n) edges (λ k d lt. (below k d lt).1))
 
 -- the sources of the edges into a vertex are vertices
 pub ins_below : (n : ℕ) (edges : List Edge) (v : ℕ) → AreBelow n edges → All (λ e. source e < n) (ins_of n edges v)
 ins_below n edges v below =
     let P : Edge → Type 0 = λ e. source e < n in
-    All-in_order P source n (filter (λ e. target e == v) edges) (All-filter (λ e. target e == v) P edges (λ k d lt. (below k d lt).0))
+    All-in_order P source n (filter (λ e. target e == v) edges)
+    (All-filter (λ e. target e == v) P edges (λ k d lt. (below k d lt).0))
 
 -- the edges into a vertex stand by ascending source
 pub ins_rise : (n : ℕ) (edges : List Edge) (v : ℕ) → IsNonDecreasingBy source (ins_of n edges v)
@@ -39,4 +44,5 @@ by_test u w false is = lt-ltb u w (leb-false w u is) ∙ sym (ap not is)
 pub turned_count : (t : ℕ) (members : List Edge) → length (turned t members) ≡ length members
 turned_count t members =
     length-append (filter (λ e. nat_le t (source e)) members) (filter (λ e. nat_lt (source e) t) members)
-    ∙ length-filter_both (λ e. nat_le t (source e)) (λ e. nat_lt (source e) t) (λ e. by_test (source e) t (nat_le t (source e)) refl) members
+    ∙ length-filter_both (λ e. nat_le t (source e)) (λ e. nat_lt (source e) t) (λ e.
+    by_test (source e) t (nat_le t (source e)) refl) members

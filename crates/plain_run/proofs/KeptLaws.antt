@@ -31,7 +31,9 @@ pub read_more :
     more ≡ read_in (map f (range_with_len 0 (v + 1)))
 read_more f v read more count members so_far le is e =
     let before = map f (range_with_len 0 v) in
-    let one : count ≡ length (f v) = sym (length-map (take count members) source ∙ length-take-le count members le) ∙ ap length is in
+    let one : count ≡ length (f v) = sym (length-map (take count members) source ∙ length-take-le count members le)
+    ∙ ap length is in
     let next : read_in (map f (range_with_len 0 (v + 1))) ≡ read_in before + length (f v) =
-    ap read_in (map-range_with_len_more f 0 v v (omega arith)) ∙ (ap sum (map-append length before (f v ∷ [])) ∙ sum_by_push (λ x. x) (map length before) (length (f v))) in
+    ap read_in (map-range_with_len_more f 0 v v (omega arith))
+    ∙ (ap sum (map-append length before (f v ∷ [])) ∙ sum_by_push (λ x. x) (map length before) (length (f v))) in
     omega (arith, so_far, one, next, e)

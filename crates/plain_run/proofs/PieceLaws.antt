@@ -18,15 +18,19 @@ use Rattle.vert_eval.specs.Rounds.{Scene, loop}
 use Rattle.vert_eval.proofs.RunLaws.{followed-Broke, followed-Going, loop-append}
 
 -- the first so many of two pieces
-pub taken_first : (n : ℕ) (first rest : List Edge) → n ≤ length first → map source (take n first) ≡ map source (take n (first ++ rest))
+pub taken_first : (n : ℕ) (first rest : List Edge) → n ≤ length first →
+    map source (take n first) ≡ map source (take n (first ++ rest))
 taken_first n first rest le = ap (map source) (sym (take-append-le n first rest le))
 
-pub taken_both : (n : ℕ) (first rest : List Edge) → map source first ++ map source (take n rest) ≡ map source (take (length first + n) (first ++ rest))
-taken_both n first rest = sym (map-append source first (take n rest)) ∙ ap (map source) (sym (take-append-add first rest n))
+pub taken_both : (n : ℕ) (first rest : List Edge) → map source first ++ map source (take n rest)
+    ≡ map source (take (length first + n) (first ++ rest))
+taken_both n first rest = sym (map-append source first (take n rest))
+    ∙ ap (map source) (sym (take-append-add first rest n))
 
 module _ (s : Scene) (body : List Stmt) (first rest : List Edge) (env : Env) where
   pub loop_broke : (loop s body first env).flow ≡ Broke → loop s body first env ≡ loop s body (first ++ rest) env
-  loop_broke broke = sym (loop-append s body first rest env ∙ followed-Broke (loop s body first env) (loop s body rest) broke)
+  loop_broke broke = sym (loop-append s body first rest env
+      ∙ followed-Broke (loop s body first env) (loop s body rest) broke)
 
   module _ (left : Env) (goes : (loop s body first env).flow ≡ Going) (is : left ≡ (loop s body first env).env) where
     pub loop_going : after (loop s body first env) (loop s body rest left) ≡ loop s body (first ++ rest) env

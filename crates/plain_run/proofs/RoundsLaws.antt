@@ -28,7 +28,8 @@ pub left_more :
 left_more kept j fuel less round s next told one whole e ne is here h =
     let rest = rounds_from less j (round + 1) (next_standing j round s) in
     let step : rounds_from fuel j round s ≡ then_runs (played_at j round s) rest =
-    ap (λ n. rounds_from n j round s) e ∙ going s.ruling (record { rounds = []; last = s }) (then_runs (played_at j round s) rest) ne in
+    ap (λ n. rounds_from n j round s) e ∙ going s.ruling (record { rounds = []; last = s })
+    (then_runs (played_at j round s) rest) ne in
     let same : rounds_from less j (round + 1) next ≡ rest = ap (rounds_from less j (round + 1)) here in
     record {
       rows = ap (λ r. r.last.rows) same ∙ (ap (λ r. r.last.rows) (sym step) ∙ h.rows);
@@ -39,23 +40,35 @@ left_more kept j fuel less round s next told one whole e ne is here h =
           ∙ (ap (λ r. told ++ rounds_told kept r) (sym step) ∙ h.rounds)));
     }
 
-stopped : (j : Job) (fuel round : ℕ) (s : Standing) → s.ruling ≡ ruling.Stop → rounds_from fuel j round s ≡ record { rounds = []; last = s }
+stopped : (j : Job) (fuel round : ℕ) (s : Standing) → s.ruling ≡ ruling.Stop →
+    rounds_from fuel j round s ≡ record { rounds = []; last = s }
 stopped j zero round s e = refl
 stopped j (suc less) round s e =
-    ap (λ r. by_ruling r (record { rounds = []; last = s }) (then_runs (played_at j round s) (rounds_from less j (round + 1) (next_standing j round s)))) e
+    ap (λ r. by_ruling r (record { rounds = []; last = s })
+    (then_runs (played_at j round s) (rounds_from less j (round + 1) (next_standing j round s)))) e
 
 -- a run that has ended
-pub left_none : (kept : Bool) (j : Job) (round : ℕ) (s : Standing) (told : List Told) (left whole : Run) → left ≡ record { rounds = []; last = s } → IsLeft kept told left whole → IsLeft kept told (record { rounds = []; last = s }) whole
+pub left_none : (kept : Bool) (j : Job) (round : ℕ) (s : Standing) (told : List Told) (left whole : Run) →
+    left ≡ record { rounds = []; last = s } → IsLeft kept told left whole →
+    IsLeft kept told (record { rounds = []; last = s }) whole
 left_none kept j round s told left whole e h = subst (λ (r : Run). IsLeft kept told r whole) e h
 
-pub rows_ended : (kept : Bool) (s : Standing) (told : List Told) (whole : Run) → IsLeft kept told (record { rounds = []; last = s }) whole → s.rows ≡ whole.last.rows
+pub rows_ended : (kept : Bool) (s : Standing) (told : List Told) (whole : Run) →
+    IsLeft kept told (record { rounds = []; last = s }) whole → s.rows ≡ whole.last.rows
 rows_ended kept s told whole h = h.rows
 
-pub rounds_ended : (kept : Bool) (s : Standing) (told : List Told) (whole : Run) → IsLeft kept told (record { rounds = []; last = s }) whole → told ≡ rounds_told kept whole
+pub rounds_ended : (kept : Bool) (s : Standing) (told : List Told) (whole : Run) →
+    IsLeft kept told (record { rounds = []; last = s }) whole → told ≡ rounds_told kept whole
 rounds_ended kept s told whole h = sym (append-nil told) ∙ h.rounds
 
-pub left_stopped : (kept : Bool) (j : Job) (fuel round : ℕ) (s : Standing) (told : List Told) (whole : Run) → s.ruling ≡ ruling.Stop → IsLeft kept told (rounds_from fuel j round s) whole → IsLeft kept told (record { rounds = []; last = s }) whole
-left_stopped kept j fuel round s told whole e h = left_none kept j round s told (rounds_from fuel j round s) whole (stopped j fuel round s e) h
+pub left_stopped : (kept : Bool) (j : Job) (fuel round : ℕ) (s : Standing) (told : List Told) (whole : Run) →
+    s.ruling ≡ ruling.Stop → IsLeft kept told (rounds_from fuel j round s) whole →
+    IsLeft kept told (record { rounds = []; last = s }) whole
+left_stopped kept j fuel round s told whole e h = left_none kept j round s told (rounds_from fuel j round s) whole
+    (stopped j fuel round s e) h
 
-pub left_over : (kept : Bool) (j : Job) (fuel round : ℕ) (s : Standing) (told : List Told) (whole : Run) → fuel ≡ zero → IsLeft kept told (rounds_from fuel j round s) whole → IsLeft kept told (record { rounds = []; last = s }) whole
-left_over kept j fuel round s told whole e h = left_none kept j round s told (rounds_from fuel j round s) whole (ap (λ n. rounds_from n j round s) e) h
+pub left_over : (kept : Bool) (j : Job) (fuel round : ℕ) (s : Standing) (told : List Told) (whole : Run) →
+    fuel ≡ zero → IsLeft kept told (rounds_from fuel j round s) whole →
+    IsLeft kept told (record { rounds = []; last = s }) whole
+left_over kept j fuel round s told whole e h = left_none kept j round s told (rounds_from fuel j round s) whole
+    (ap (λ n. rounds_from n j round s) e) h

@@ -10,11 +10,13 @@ use Rattle.vert_eval.proofs.RunLaws.{turn_going}
 use Rattle.vert_eval.proofs.FrameLaws.{SameFrame-trans}
 use Rattle.plain_run.specs.Frames.{SameEnd, SameFrame}
 
-module _ {X : Type 0} (act : X → Act) (xs : List X) (i : ℕ) (x : X) (env : Env) (lt : i < length xs) (is : x ≡ get_or xs i x) where
+module _ {X : Type 0} (act : X → Act) (xs : List X) (i : ℕ) (x : X) (env : Env) (lt : i < length xs)
+    (is : x ≡ get_or xs i x) where
   -- what is left after a turn ends as what was left before it
   pub turn_ends :
       (left : Env) (ps qs : List Partial) →
-      left ≡ (act x env).env → Going ≡ (act x env).flow → qs ≡ with_emissions env.key ps (act x env).emitted → left.key ≡ env.key →
+      left ≡ (act x env).env → Going ≡ (act x env).flow → qs ≡ with_emissions env.key ps (act x env).emitted →
+      left.key ≡ env.key →
       SameEnd left.key qs (in_turn (map act (drop (i + 1) xs)) left) env.key ps (in_turn (map act (drop i xs)) env)
   turn_ends left ps qs e goes eps ek =
       let rest = in_turn (map act (drop (i + 1) xs)) left in
@@ -29,7 +31,11 @@ module _ {X : Type 0} (act : X → Act) (xs : List X) (i : ℕ) (x : X) (env : E
             ∙ ap (λ r. with_emissions env.key ps r.emitted) same;
       }
 
-pub SameEnd-trans : (i j k : ℕ) (ps qs rs : List Partial) (a b c : Ran) → SameEnd i ps a j qs b → SameEnd j qs b k rs c → SameEnd i ps a k rs c
-SameEnd-trans i j k ps qs rs a b c p q = record { env = p.env ∙ q.env; flow = p.flow ∙ q.flow; partials = p.partials ∙ q.partials }
-
+pub SameEnd-trans : (i j k : ℕ) (ps qs rs : List Partial) (a b c : Ran) → SameEnd i ps a j qs b →
+    SameEnd j qs b k rs c → SameEnd i ps a k rs c
+SameEnd-trans i j k ps qs rs a b c p q = record {
+  env = p.env ∙ q.env;
+  flow = p.flow ∙ q.flow;
+  partials = p.partials
+      ∙ q.partials;
 }

@@ -14,7 +14,8 @@ use Rattle.vert_eval.proofs.FrameLaws.{run_reads}
 abbrev pub some_edge : Edge
 some_edge = record { from = record { 0 = 0 }; to = record { 0 = 0 }; weight = pos 0 }
 
-module _ (s : Scene) (body : List Stmt) (members : List Edge) (i : ℕ) (m : Edge) (env : Env) (lt : i < length members) (is : m ≡ get_or members i m) where
+module _ (s : Scene) (body : List Stmt) (members : List Edge) (i : ℕ) (m : Edge) (env : Env) (lt : i < length members)
+    (is : m ≡ get_or members i m) where
   sources_more : map source (take (i + 1) members) ≡ map source (take i members) ++ source m ∷ []
   sources_more =
       ap (map source) (take_more members i m lt)

@@ -48,23 +48,37 @@ there test o x e h = ap (option_all test) (sym e) ∙ h
 
 -- the tests of a typed program after the first six
 abbrev mode_and_reads : Program → Bool
-mode_and_reads p = mode_stands p.mode (is_some p.dense) (is_some p.sparse) && (is_readable p && (declares_once p && totals_combine p))
+mode_and_reads p = mode_stands p.mode (is_some p.dense) (is_some p.sparse)
+    && (is_readable p && (declares_once p && totals_combine p))
 
 module _ (p : Program) (typed : is_typed p ≡ true) where
-  all : All7 (is_placed p) (is_kinded p) (is_limited p) (is_shallow p) (names_stand p) (version_stands p) (mode_and_reads p)
-  all = seven (is_placed p) (is_kinded p) (is_limited p) (is_shallow p) (names_stand p) (version_stands p) (mode_and_reads p) typed
+  all : All7 (is_placed p) (is_kinded p) (is_limited p) (is_shallow p) (names_stand p) (version_stands p)
+      (mode_and_reads p)
+  all = seven (is_placed p) (is_kinded p) (is_limited p) (is_shallow p) (names_stand p) (version_stands p)
+      (mode_and_reads p) typed
 
   abbrev Places : Type 0
-  Places = All7 (list_all (λ d. expr_placed no_counts d.value) p.fields.items) (list_all (λ t. expr_placed (row_counts p) t.value) p.totals.items) (expr_placed (row_counts p) p.start) (option_all (dense_placed (round_counts p)) p.dense) (option_all (sparse_placed (round_counts p)) p.sparse) (body_placed update_rights (round_counts p) p.update.items) (option_all (expr_placed (stop_counts p)) p.stop)
+  Places = All7 (list_all (λ d. expr_placed no_counts d.value) p.fields.items)
+      (list_all (λ t. expr_placed (row_counts p) t.value) p.totals.items) (expr_placed (row_counts p) p.start)
+      (option_all (dense_placed (round_counts p)) p.dense) (option_all (sparse_placed (round_counts p)) p.sparse)
+      (body_placed update_rights (round_counts p) p.update.items) (option_all (expr_placed (stop_counts p)) p.stop)
 
   places : Places
-  places = seven (list_all (λ d. expr_placed no_counts d.value) p.fields.items) (list_all (λ t. expr_placed (row_counts p) t.value) p.totals.items) (expr_placed (row_counts p) p.start) (option_all (dense_placed (round_counts p)) p.dense) (option_all (sparse_placed (round_counts p)) p.sparse) (body_placed update_rights (round_counts p) p.update.items) (option_all (expr_placed (stop_counts p)) p.stop) all.first
+  places = seven (list_all (λ d. expr_placed no_counts d.value) p.fields.items)
+      (list_all (λ t. expr_placed (row_counts p) t.value) p.totals.items) (expr_placed (row_counts p) p.start)
+      (option_all (dense_placed (round_counts p)) p.dense) (option_all (sparse_placed (round_counts p)) p.sparse)
+      (body_placed update_rights (round_counts p) p.update.items) (option_all (expr_placed (stop_counts p)) p.stop)
+      all.first
 
   abbrev Few : Type 0
-  Few = All7 (nat_le p.limit 10000) (nat_le (length p.fields.items) 16) (nat_le (length p.slots.items) 8) (nat_le (length p.totals.items) 4) (option_all (λ d. nat_le (length d.lets.items) 8) p.dense) (option_all (λ s. nat_le (length s.sends.items) 8) p.sparse) true
+  Few = All7 (nat_le p.limit 10000) (nat_le (length p.fields.items) 16) (nat_le (length p.slots.items) 8)
+      (nat_le (length p.totals.items) 4) (option_all (λ d. nat_le (length d.lets.items) 8) p.dense)
+      (option_all (λ s. nat_le (length s.sends.items) 8) p.sparse) true
 
   limits : Few
-  limits = six (nat_le p.limit 10000) (nat_le (length p.fields.items) 16) (nat_le (length p.slots.items) 8) (nat_le (length p.totals.items) 4) (option_all (λ d. nat_le (length d.lets.items) 8) p.dense) (option_all (λ s. nat_le (length s.sends.items) 8) p.sparse) all.third
+  limits = six (nat_le p.limit 10000) (nat_le (length p.fields.items) 16) (nat_le (length p.slots.items) 8)
+      (nat_le (length p.totals.items) 4) (option_all (λ d. nat_le (length d.lets.items) 8) p.dense)
+      (option_all (λ s. nat_le (length s.sends.items) 8) p.sparse) all.third
 
   pub fields_placed : list_all (λ d. expr_placed no_counts d.value) p.fields.items ≡ true
   fields_placed = places.first

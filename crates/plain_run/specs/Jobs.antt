@@ -23,7 +23,11 @@ standing_of s = record {
 
 -- a job, given what it works on
 abbrev pub plain_job : Program → ℕ → List ℕ → List Edge → ℕ → meaning.Job
-plain_job program vertices ends edges draws = record { program = program; graph = plain_graph vertices ends edges; draws = draws }
+plain_job program vertices ends edges draws = record {
+  program = program;
+  graph = plain_graph vertices ends edges;
+  draws = draws;
+}
 
 -- a job over the edges of a table
 abbrev pub table_job : Program → edges.Graph → List ℕ → ℕ → meaning.Job

@@ -37,7 +37,8 @@ some_same a b e = cc
 not_some : {A : Type 0} (a : A) → None ≡ Some a → ⊥
 not_some a e = cc
 
-told : (stage : Stage) (n m : ℕ) (s t : Span) → n ≡ m → s ≡ t → ◌≡◌ {A = Refusal} (record { stage = stage; number = n; span = s }) (record { stage = stage; number = m; span = t })
+told : (stage : Stage) (n m : ℕ) (s t : Span) → n ≡ m → s ≡ t →
+    ◌≡◌ {A = Refusal} (record { stage = stage; number = n; span = s }) (record { stage = stage; number = m; span = t })
 told stage n m s t e f =
     ap (λ (x : ℕ). let r : Refusal = record { stage = stage; number = x; span = s } in r) e
     ∙ ap (λ (x : Span). let r : Refusal = record { stage = stage; number = m; span = x } in r) f
@@ -48,7 +49,8 @@ module _ (text : List ℕ) where
 
   -- ---- one tree
   one_tree : (t v : ProgramTree) → IsText text t → IsText text v → t ≡ v
-  one_tree t v h k = read_once h.placed t v h.reading.reads (subst (λ u. IsReading u v) (same_tokens k.placed h.placed k.tokens h.tokens) k.reading).reads
+  one_tree t v h k = read_once h.placed t v h.reading.reads
+      (subst (λ u. IsReading u v) (same_tokens k.placed h.placed k.tokens h.tokens) k.reading).reads
 
   pub says_one_tree : SaysOneTree text
   says_one_tree p q h k =
@@ -57,26 +59,31 @@ module _ (text : List ℕ) where
 
   -- ---- one refusal
   no_tokens : (a b : Refusal) → HasNoTokens text a → HasNoTokens text b → a ≡ b
-  no_tokens a b h k = some_same a b (sym h.refused ∙ ap lex_refusal (err_same h.fault k.fault (sym h.tokens ∙ k.tokens)) ∙ k.refused)
+  no_tokens a b h k = some_same a b (sym h.refused
+      ∙ ap lex_refusal (err_same h.fault k.fault (sym h.tokens ∙ k.tokens)) ∙ k.refused)
 
   no_program : (a b : Refusal) → IsNoProgram text a → IsNoProgram text b → a ≡ b
   no_program a b h k =
-      let first = subst (λ (u : List Placed). IsFirstFault k.why b.span u (through origin text)) (same_tokens k.placed h.placed k.tokens h.tokens) k.first in
+      let first = subst (λ (u : List Placed). IsFirstFault k.why b.span u (through origin text))
+      (same_tokens k.placed h.placed k.tokens h.tokens) k.first in
       let e = one_fault h.placed (through origin text) h.why k.why a.span b.span h.first first in
       h.refused ∙ told Grammar _ _ a.span b.span (ap number_of e.0) e.1 ∙ sym k.refused
 
   untyped : (a b : Refusal) → IsUntyped text a → IsUntyped text b → a ≡ b
   untyped a b h k =
       let e = some_same _ _ (sym h.first ∙ ap first_fault (one_tree h.tree k.tree h.is k.is) ∙ k.first) in
-      h.refused ∙ told Typing a.number b.number a.span b.span (ap (λ (f : Finding). f.code) e) (ap (λ (f : Finding). f.span) e) ∙ sym k.refused
+      h.refused ∙ told Typing a.number b.number a.span b.span (ap (λ (f : Finding). f.code) e)
+      (ap (λ (f : Finding). f.span) e) ∙ sym k.refused
 
-  tokens_or_none : {A : Type 0} (a : Refusal) (placed : List Placed) → HasNoTokens text a → tokens_of text ≡ Ok placed → A
+  tokens_or_none : {A : Type 0} (a : Refusal) (placed : List Placed) → HasNoTokens text a → tokens_of text ≡ Ok placed
+      → A
   tokens_or_none a placed h e = absurd (not_both placed h.fault (sym e ∙ h.tokens))
 
   -- a tree of these tokens, which are refused
   read_or_none : {A : Type 0} (a : Refusal) (tree : ProgramTree) → IsNoProgram text a → IsText text tree → A
   read_or_none a tree h k =
-      absurd (refuses_no_program h.placed h.why h.first.rest tree h.first.refused (subst (λ (u : List Placed). IsReading u tree) (same_tokens k.placed h.placed k.tokens h.tokens) k.reading))
+      absurd (refuses_no_program h.placed h.why h.first.rest tree h.first.refused
+      (subst (λ (u : List Placed). IsReading u tree) (same_tokens k.placed h.placed k.tokens h.tokens) k.reading))
 
   pub has_one_refusal : HasOneRefusal text
   has_one_refusal a b (inl h) (inl k) = no_tokens a b h k
@@ -105,18 +112,29 @@ module _ (text : List ℕ) where
   -- ---- one of the two
   typed_or_not : (tree : ProgramTree) → IsText text tree → (o : Option Finding) → first_fault tree ≡ o → IsDecided text
   typed_or_not tree is None e = inl (tree, is, e)
-  typed_or_not tree is (Some f) e = inr (record { stage = Typing; number = f.code; span = f.span }, inr (inr (record { tree = tree; is = is; first = e; refused = refl })))
+  typed_or_not tree is (Some f) e = inr (
+    record { stage = Typing; number = f.code; span = f.span },
+    inr (inr (record { tree = tree; is = is; first = e; refused = refl })),
+  )
 
   read_or_not : (placed : List Placed) → tokens_of text ≡ Ok placed → IsJudged placed → IsDecided text
-  read_or_not placed e (inl h) = typed_or_not h.0 (record { placed = placed; tokens = e; reading = h.1 }) (first_fault h.0) refl
+  read_or_not placed e (inl h) = typed_or_not h.0 (record { placed = placed; tokens = e; reading = h.1 })
+      (first_fault h.0) refl
   read_or_not placed e (inr h) = inr (
     record { stage = Grammar; number = number_of h.0; span = spot (through origin text) h.1 },
-    inr (inl (record { placed = placed; tokens = e; why = h.0; first = record { rest = h.1; place = refl; refused = h.2 }; refused = refl })),
+    inr (inl (record {
+      placed = placed;
+      tokens = e;
+      why = h.0;
+      first = record { rest = h.1; place = refl; refused = h.2 };
+      refused = refl;
+    })),
   )
 
   lexed_or_not : (w : Result (List Placed) LexFault) → tokens_of text ≡ w → IsDecided text
   lexed_or_not (Ok placed) e = read_or_not placed e (tokens_judged placed)
-  lexed_or_not (Err fault) e = let r = tokens_refused text fault e in inr (r.0, inl (record { fault = fault; tokens = e; refused = r.1 }))
+  lexed_or_not (Err fault) e = let r = tokens_refused text fault e in
+      inr (r.0, inl (record { fault = fault; tokens = e; refused = r.1 }))
 
   pub is_decided : IsDecided text
   is_decided = lexed_or_not (tokens_of text) refl

@@ -22,22 +22,30 @@ Differ ts = (i j : ℕ) → i < length ts → j < length ts → get_or ts i [] �
 
 module _ (ts : Texts) (t : List ℕ) (none : list_any (bytes_eq t) ts ≡ false) where
   other : (i : ℕ) → i < length ts → t ≡ get_or ts i [] → ⊥
-  other i lt e = true≢false (sym (list_any_at (bytes_eq t) ts i [] lt ((bytes_eq-Decides t (get_or ts i [])).1 e)) ∙ none)
+  other i lt e = true≢false (sym (list_any_at (bytes_eq t) ts i [] lt ((bytes_eq-Decides t (get_or ts i [])).1 e))
+      ∙ none)
 
   -- one of the texts, or the new one
   abbrev Stands : ℕ → Type 0
-  Stands i = ((i < length ts) × (get_or (ts ++ t ∷ []) i [] ≡ get_or ts i [])) ⊎ ((i ≡ length ts) × (get_or (ts ++ t ∷ []) i [] ≡ t))
+  Stands i = ((i < length ts) × (get_or (ts ++ t ∷ []) i [] ≡ get_or ts i [])) ⊎
+      ((i ≡ length ts) × (get_or (ts ++ t ∷ []) i [] ≡ t))
 
   stands : (i : ℕ) → i < length (ts ++ t ∷ []) → Stands i
   stands i lt = go (nat_lt i (length ts)) refl
     where
       go : (b : Bool) → nat_lt i (length ts) ≡ b → Stands i
-      go true e = let less : i < length ts = ltb-true i (length ts) e in inl (less, get_or_append_left ts (t ∷ []) [] i less)
+      go true e = let less : i < length ts = ltb-true i (length ts) e in
+          inl (less, get_or_append_left ts (t ∷ []) [] i less)
       go false e =
           let more = ltb-false i (length ts) e in
           let long = length-append ts (t ∷ []) in
           let last : i ≡ length ts = omega arith in
-          inr (last, ap (λ k. get_or (ts ++ t ∷ []) k []) last ∙ get_or-append_right ts (t ∷ []) (length ts) (length ts) [] refl (omega arith) ∙ ap (λ k. get_or (t ∷ []) k []) (zero_of (length ts)))
+          inr (
+            last,
+            ap (λ k. get_or (ts ++ t ∷ []) k []) last
+                ∙ get_or-append_right ts (t ∷ []) (length ts) (length ts) [] refl (omega arith)
+                ∙ ap (λ k. get_or (t ∷ []) k []) (zero_of (length ts)),
+          )
         where
           zero_of : (n : ℕ) → n - n ≡ 0
           zero_of n = omega arith
@@ -72,4 +80,5 @@ pub apart : (names : List (String Global)) (texts : Texts) → map string_bytes 
     → (i j : ℕ) → i < length names → j < length names → text_of names i ≡ text_of names j → i ≡ j
 apart names texts made i j less more e =
     let wide = length-map names string_bytes in
-    subst Differ (sym made) (all_differ [] texts (λ k l lt more e. absurd (omega arith))) i j (omega arith) (omega arith) (sym (text_at names i) ∙ e ∙ text_at names j)
+    subst Differ (sym made) (all_differ [] texts (λ k l lt more e. absurd (omega arith))) i j (omega arith)
+    (omega arith) (sym (text_at names i) ∙ e ∙ text_at names j)

@@ -25,7 +25,8 @@ use Rattle.vert_tree.specs.Trees.{Named, Tree, Literal, Truth, Word, Variable, G
 use Rattle.vert_tree.specs.Views.{text_of, view, view_block, view_declaration, view_name, view_slot, view_statement, view_total}
 use Rattle.vert_tree.proofs.Rows.{view-If, view-If_else}
 use Rattle.vert_types.specs.Filled.{body_filled, decl_filled, expr_filled, is_what, level_filled, name_filled, says, stmt_filled}
-use Rattle.vert_types.proofs.FillLaws.{both, if_filled}
+use Rattle.vert_types.proofs.FillLaws.{if_filled}
+use Rattle.std.proofs.lemmas.Bool.{and_from}
 use Rattle.vert_grammar.specs.Spelling.{spelled, spelled_block, spelled_statement}
 use Rattle.vert_parse.specs.Names.{Texts, block_names, declaration_names, slot_names, statement_names, total_names, tree_names}
 use Rattle.program_reader.proofs.Made.{make, make_block, make_declaration, make_name, make_slot, make_statement, make_total, make_vec, vec_items}
@@ -91,24 +92,24 @@ module _ (place : List ℕ → ℕ) (what : List ℕ → What) (names : List (St
       let p = parts (tree_names left) (tree_names right) h in
       let a = made left p.0 in
       let b = made right p.1 in
-      (ap₂ (Pair s op) a.0 b.0, both _ _ a.1 b.1)
+      (ap₂ (Pair s op) a.0 b.0, and_from _ _ a.1 b.1)
   made (Choice s test held otherwise) h =
       let p = parts (tree_names test) (tree_names held ++ tree_names otherwise) h in
       let q = parts (tree_names held) (tree_names otherwise) p.1 in
       let a = made test p.0 in
       let b = made held q.0 in
       let c = made otherwise q.1 in
-      (three (Choice s) a.0 b.0 c.0, both _ _ a.1 (both _ _ b.1 c.1))
+      (three (Choice s) a.0 b.0 c.0, and_from _ _ a.1 (and_from _ _ b.1 c.1))
   made (Least s left right) h =
       let p = parts (tree_names left) (tree_names right) h in
       let a = made left p.0 in
       let b = made right p.1 in
-      (ap₂ (Least s) a.0 b.0, both _ _ a.1 b.1)
+      (ap₂ (Least s) a.0 b.0, and_from _ _ a.1 b.1)
   made (Greatest s left right) h =
       let p = parts (tree_names left) (tree_names right) h in
       let a = made left p.0 in
       let b = made right p.1 in
-      (ap₂ (Greatest s) a.0 b.0, both _ _ a.1 b.1)
+      (ap₂ (Greatest s) a.0 b.0, and_from _ _ a.1 b.1)
   made (Group s inner) h = let a = made inner h in (ap (Group s) a.0, a.1)
 
   -- ---- statements
@@ -123,7 +124,7 @@ module _ (place : List ℕ → ℕ) (what : List ℕ → What) (names : List (St
       → stmt_filled w (statements.Assign t op e) ≡ true
   assign_filled t op e a b =
       ap (stmt_filled w) (sym (rolls-Assign t op e))
-      ∙ fold-roll-Stmt Bool (level_filled w) (level.Assign t op e) ∙ both _ _ a b
+      ∙ fold-roll-Stmt Bool (level_filled w) (level.Assign t op e) ∙ and_from _ _ a b
 
   active_filled : (s : Span) (e : Expr) → expr_filled w e ≡ true → stmt_filled w (statements.SetActive s e) ≡ true
   active_filled s e a =
@@ -134,7 +135,7 @@ module _ (place : List ℕ → ℕ) (what : List ℕ → What) (names : List (St
       → stmt_filled w (statements.Emit s t e) ≡ true
   emit_filled s t e a b =
       ap (stmt_filled w) (sym (rolls-Emit s t e))
-      ∙ fold-roll-Stmt Bool (level_filled w) (level.Emit s t e) ∙ both _ _ a b
+      ∙ fold-roll-Stmt Bool (level_filled w) (level.Emit s t e) ∙ and_from _ _ a b
 
   break_filled : (s : Span) → stmt_filled w (statements.Break s) ≡ true
   break_filled s = ap (stmt_filled w) (sym (rolls-Break s)) ∙ fold-roll-Stmt Bool (level_filled w) (level.Break s)
@@ -207,7 +208,7 @@ module _ (place : List ℕ → ℕ) (what : List ℕ → What) (names : List (St
         let both_long = length-append (spelled_statement first) (spelled_block others) in
         let a = made_statement first p.0 (omega (arith, few, both_long)) in
         let b = made_block others p.1 (omega (arith, few, both_long)) in
-        (ap₂ More a.0 b.0, both _ _ a.1 b.1)
+        (ap₂ More a.0 b.0, and_from _ _ a.1 b.1)
 
   pub made_items : (b : Statements) → Found (block_names b) → length (spelled_block b) ≤ 65536
       → AreMade b (make_vec (make_block place what b)).items
@@ -228,7 +229,7 @@ module _ (place : List ℕ → ℕ) (what : List ℕ → What) (names : List (St
         let p = parts (texts x) (flat_map texts xs) h in
         let a = one x p.0 in
         let b = list_made one xs p.1 in
-        (ap₂ (λ y ys. y ∷ ys) a.0 b.0, both _ _ a.1 b.1)
+        (ap₂ (λ y ys. y ∷ ys) a.0 b.0, and_from _ _ a.1 b.1)
 
     pub vec_made : EachMade → (xs : List X) → length xs ≤ 65536 → Found (flat_map texts xs)
         → AreAllMade xs (make_vec (map make_one xs)).items
@@ -241,7 +242,7 @@ module _ (place : List ℕ → ℕ) (what : List ℕ → What) (names : List (St
   decl_made d h =
       let a = made d.value h.1 in
       let again : Named → Tree → Declaration = λ n e. record { name = n; kind = d.kind; value = e } in
-      (ap₂ again (name_view d.name h.0) a.0, both _ _ (name_good d.name h.0) a.1)
+      (ap₂ again (name_view d.name h.0) a.0, and_from _ _ (name_good d.name h.0) a.1)
 
   abbrev pub slot_filled : SlotDecl → Bool
   slot_filled d = name_filled w d.name
@@ -258,4 +259,4 @@ module _ (place : List ℕ → ℕ) (what : List ℕ → What) (names : List (St
   total_made d h =
       let a = made d.value h.1 in
       let again : Named → Tree → TotalDeclaration = λ n e. record { name = n; op = d.op; value = e } in
-      (ap₂ again (name_view d.name h.0) a.0, both _ _ (name_good d.name h.0) a.1)
+      (ap₂ again (name_view d.name h.0) a.0, and_from _ _ (name_good d.name h.0) a.1)

@@ -11,7 +11,7 @@ use Rattle.vert_tree.specs.Places.{option_all}
 use Rattle.vert_tree.specs.Trees.{Declaration, DenseBlock, ProgramTree, SlotDeclaration, SparseBlock, Statements, TotalDeclaration, Tree}
 use Rattle.vert_tree.specs.Views.{view, view_declaration, view_dense, view_program, view_slot, view_sparse, view_total}
 use Rattle.vert_types.specs.Filled.{decl_filled, decls_filled, dense_filled, expr_filled, program_filled, sparse_filled}
-use Rattle.vert_types.proofs.FillLaws.{both}
+use Rattle.std.proofs.lemmas.Bool.{and_from}
 use Rattle.vert_grammar.specs.Grammar.{Given, IsSmall, limits}
 use Rattle.vert_grammar.specs.Spelling.{spelled, spelled_block, spelled_declaration, spelled_dense, spelled_header, spelled_maybe, spelled_program, spelled_slot, spelled_sparse, spelled_start, spelled_stop, spelled_total, spelled_update}
 use Rattle.vert_parse.specs.Names.{Texts, block_names, declaration_names, dense_names, given_names, program_names, slot_names, sparse_names, total_names, tree_names}
@@ -97,7 +97,7 @@ module _ (place : List ℕ → ℕ) (what : List ℕ → What) (names : List (St
       let b = declarations d.lets (omega (arith, lets)) q.0 in
       let c = block d.body r.0 (omega (arith, few, u, v, x)) in
       let e = block d.tail r.1 (omega (arith, few, u, v, x, y)) in
-      (ap Some (four again a.0 b.0 c.0 e.0), both _ _ a.1 (both _ _ b.1 (both _ _ c.1 e.1)))
+      (ap Some (four again a.0 b.0 c.0 e.0), and_from _ _ a.1 (and_from _ _ b.1 (and_from _ _ c.1 e.1)))
 
   abbrev IsMadeSparse : Option SparseBlock → Type 0
   IsMadeSparse o =
@@ -121,7 +121,7 @@ module _ (place : List ℕ → ℕ) (what : List ℕ → What) (names : List (St
       let a = expression d.test p.0 in
       let b = declarations d.sends (omega (arith, sends)) q.0 in
       let c = block d.body q.1 (omega (arith, few, u, v, x)) in
-      (ap Some (three again a.0 b.0 c.0), both _ _ a.1 (both _ _ b.1 c.1))
+      (ap Some (three again a.0 b.0 c.0), and_from _ _ a.1 (and_from _ _ b.1 c.1))
 
   stop_made : (o : Option Tree) → Here (given_names tree_names o)
       → (option_map (view names) (option_map (make place what) o) ≡ o)
@@ -195,5 +195,6 @@ module _ (place : List ℕ → ℕ) (what : List ℕ → What) (names : List (St
       let g = block t.update f7.0 short.update in
       let i = stop_made t.stop f7.1 in (
         rw same (eight (tree_of t) a.0 b.0 c.0 d.0 e.0 f.0 g.0 i.0),
-        both _ _ a.1 (both _ _ b.1 (both _ _ c.1 (both _ _ d.1 (both _ _ e.1 (both _ _ f.1 (both _ _ g.1 i.1)))))),
+        and_from _ _ a.1 (and_from _ _ b.1
+            (and_from _ _ c.1 (and_from _ _ d.1 (and_from _ _ e.1 (and_from _ _ f.1 (and_from _ _ g.1 i.1)))))),
       )

@@ -28,11 +28,13 @@ both_give a b x y f g h =
 three_give : (a b c x y z : Bool) → Gives a x → Gives b y → Gives c z → Gives (a && (b && c)) (x && (y && z))
 three_give a b c x y z f g h = both_give a (b && c) x (y && z) f (both_give b c y z g h)
 
-all_give : {X : Type 0} (p q : X → Bool) (xs : List X) → ((x : X) → Gives (p x) (q x)) → Gives (list_all p xs) (list_all q xs)
+all_give : {X : Type 0} (p q : X → Bool) (xs : List X) → ((x : X) → Gives (p x) (q x)) →
+    Gives (list_all p xs) (list_all q xs)
 all_give p q [] f h = refl
 all_give p q (x ∷ xs) f h = both_give (p x) (list_all p xs) (q x) (list_all q xs) (f x) (all_give p q xs f) h
 
-given_gives : {X : Type 0} (p q : X → Bool) (o : Option X) → ((x : X) → Gives (p x) (q x)) → Gives (option_all p o) (option_all q o)
+given_gives : {X : Type 0} (p q : X → Bool) (o : Option X) → ((x : X) → Gives (p x) (q x)) →
+    Gives (option_all p o) (option_all q o)
 given_gives p q None f h = refl
 given_gives p q (Some x) f h = f x h
 
@@ -53,7 +55,8 @@ module _ (n : ℕ) where
   node_gives (nodes.Neg' _ _ a) h = node_gives a h
   node_gives (nodes.Not' _ _ a) h = node_gives a h
   node_gives (nodes.Binary' op _ _ a _ _ b) h = both_give _ _ _ _ (node_gives a) (node_gives b) h
-  node_gives (nodes.Cond' _ _ test _ _ a _ _ b) h = three_give _ _ _ _ _ _ (node_gives test) (node_gives a) (node_gives b) h
+  node_gives (nodes.Cond' _ _ test _ _ a _ _ b) h = three_give _ _ _ _ _ _ (node_gives test) (node_gives a)
+      (node_gives b) h
   node_gives (nodes.Least' _ _ a _ _ b) h = both_give _ _ _ _ (node_gives a) (node_gives b) h
   node_gives (nodes.Greatest' _ _ a _ _ b) h = both_give _ _ _ _ (node_gives a) (node_gives b) h
   node_gives (nodes.Group' _ _ a) h = node_gives a h
@@ -73,22 +76,27 @@ module _ (n : ℕ) where
   abbrev below : Stmt-F Held → Stmt-F Stmt
   below y = map-Stmt Held Stmt (λ s. s.0) y
 
-  row_gives : (ss : List Held) → Gives (list_all (λ b. b) (map (stmt_all (is_fresh n)) (stmts ss))) (list_all (λ b. b) (map (stmt_known n) (stmts ss)))
+  row_gives : (ss : List Held) → Gives (list_all (λ b. b) (map (stmt_all (is_fresh n)) (stmts ss)))
+      (list_all (λ b. b) (map (stmt_known n) (stmts ss)))
   row_gives [] h = refl
   row_gives (s ∷ ss) h = both_give _ _ _ _ s.1 (row_gives ss) h
 
-  level_gives : (y : Stmt-F Held) → Gives (level_all (is_fresh n) (map-Stmt Stmt Bool (stmt_all (is_fresh n)) (below y))) (level_known n (map-Stmt Stmt Bool (stmt_known n) (below y)))
+  level_gives : (y : Stmt-F Held) → Gives (level_all (is_fresh n)
+      (map-Stmt Stmt Bool (stmt_all (is_fresh n)) (below y)))
+      (level_known n (map-Stmt Stmt Bool (stmt_known n) (below y)))
   level_gives (level.Assign target op e) = both_give _ _ _ _ (name_gives target) (expr_gives e)
   level_gives (level.SetActive s e) = expr_gives e
   level_gives (level.If s test held None) = three_give _ _ _ _ _ _ (expr_gives test) (row_gives held.items) (λ h. h)
-  level_gives (level.If s test held (Some body)) = three_give _ _ _ _ _ _ (expr_gives test) (row_gives held.items) (row_gives body.items)
+  level_gives (level.If s test held (Some body)) = three_give _ _ _ _ _ _ (expr_gives test) (row_gives held.items)
+      (row_gives body.items)
   level_gives (level.Emit s slot e) = both_give _ _ _ _ (name_gives slot) (expr_gives e)
   level_gives (level.Break s) = λ h. h
 
   stmt_gives : (s : Stmt) → Kept s
   stmt_gives = ind-Stmt Kept (λ x y is.
       subst (λ z. Kept (roll-Stmt z)) is
-      (λ h. fold-roll-Stmt Bool (level_known n) (below y) ∙ level_gives y (sym (fold-roll-Stmt Bool (level_all (is_fresh n)) (below y)) ∙ h)))
+      (λ h. fold-roll-Stmt Bool (level_known n) (below y)
+      ∙ level_gives y (sym (fold-roll-Stmt Bool (level_all (is_fresh n)) (below y)) ∙ h)))
 
   body_gives : (ss : List Stmt) → Gives (body_all (is_fresh n) ss) (body_known n ss)
   body_gives ss = all_give _ _ ss stmt_gives
@@ -101,9 +109,12 @@ module _ (n : ℕ) where
       (both_give _ _ _ _ (expr_gives p.start)
       (both_give _ _ _ _
       (given_gives _ _ p.dense (λ d. both_give _ _ _ _ (expr_gives d.when_test)
-      (three_give _ _ _ _ _ _ (all_give _ _ d.lets.items (λ l. both_give _ _ _ _ (name_gives l.name) (expr_gives l.value))) (body_gives d.body.items) (body_gives d.tail.items))))
+      (three_give _ _ _ _ _ _ (all_give _ _ d.lets.items (λ l.
+      both_give _ _ _ _ (name_gives l.name) (expr_gives l.value))) (body_gives d.body.items)
+      (body_gives d.tail.items))))
       (both_give _ _ _ _
       (given_gives _ _ p.sparse (λ d. three_give _ _ _ _ _ _ (expr_gives d.when_test)
-      (all_give _ _ d.sends.items (λ l. both_give _ _ _ _ (name_gives l.name) (expr_gives l.value))) (body_gives d.body.items)))
+      (all_give _ _ d.sends.items (λ l. both_give _ _ _ _ (name_gives l.name) (expr_gives l.value)))
+      (body_gives d.body.items)))
       (both_give _ _ _ _ (body_gives p.update.items)
       (given_gives _ _ p.stop expr_gives)))))))

@@ -28,17 +28,23 @@ use Rattle.program_reader.specs.Faults.{parse_fault, type_fault}
 use Rattle.program_reader.proofs.ParsedLaws.{is_parsed}
 
 module _ (text : List ℕ) (placed : List Placed) (lexed : tokens_of text ≡ Ok placed) where
-  stops : (why : Why) (at : Span) → IsStopped (reading placed) (through origin text) why at → IsNoProgram text (record { stage = Grammar; number = number_of why; span = at })
+  stops : (why : Why) (at : Span) → IsStopped (reading placed) (through origin text) why at →
+      IsNoProgram text (record { stage = Grammar; number = number_of why; span = at })
   stops why at h = record {
     placed = placed;
     tokens = lexed;
     why = why;
-    first = record { rest = h.rest; place = h.place; refused = refuses_soundly placed (record { why = why; rest = h.rest }) h.stopped };
+    first = record {
+      rest = h.rest;
+      place = h.place;
+      refused = refuses_soundly placed (record { why = why; rest = h.rest }) h.stopped;
+    };
     refused = refl;
   }
 
   -- where parsing stops the text is no program
-  pub no_program : (fault : ParseFault) → ParsesAs (reading placed) (through origin text) (Err fault) → ReadsProgram text (Err (parse_fault fault))
+  pub no_program : (fault : ParseFault) → ParsesAs (reading placed) (through origin text) (Err fault) →
+      ReadsProgram text (Err (parse_fault fault))
   no_program (Unexpected at) h = inr (inl (stops faults.Unexpected at h))
   no_program (TooDeep at) h = inr (inl (stops faults.TooDeep at h))
   no_program (TooMany at) h = inr (inl (stops faults.TooMany at h))
@@ -56,8 +62,10 @@ module _ (text : List ℕ) (placed : List Placed) (lexed : tokens_of text ≡ Ok
     is_text = record { placed = placed; tokens = lexed; reading = is_reading }
 
     -- where the checks refuse it the text is untyped
-    pub untyped : (fault : TypeFault) → IsFirst (view_program program) fault → ReadsProgram text (Err (type_fault fault))
-    untyped (types.Fault code s) h = inr (inr (record { tree = view_program program; is = is_text; first = h; refused = refl }))
+    pub untyped : (fault : TypeFault) → IsFirst (view_program program) fault →
+        ReadsProgram text (Err (type_fault fault))
+    untyped (types.Fault code s) h = inr (inr
+        (record { tree = view_program program; is = is_text; first = h; refused = refl }))
     untyped types.Want h = tt
 
     -- and where they accept it the text says it
@@ -67,5 +75,6 @@ module _ (text : List ℕ) (placed : List Placed) (lexed : tokens_of text ≡ Ok
       accepted = ap first_fault h.same ∙ h.accepted;
       typed = typed;
       filled = h.filled;
-      names = ap (λ v. map string_bytes v.items) h.names ∙ named.texts ∙ ap (λ t. insert_all bytes_eq [] (program_names t)) (sym h.same);
+      names = ap (λ v. map string_bytes v.items) h.names ∙ named.texts
+          ∙ ap (λ t. insert_all bytes_eq [] (program_names t)) (sym h.same);
     }

@@ -23,7 +23,8 @@ abbrev IsSmallJudged : Result Kind LexFault → Type 0
 IsSmallJudged (Ok kind) = IsSmallKind kind
 IsSmallJudged (Err fault) = IsRefusal fault
 
-number_small : (s : Span) (value : ℕ) (b : Bool) → b ≡ nat_lt 9223372036854775807 value → IsSmallJudged (if b then Err (BadNumber s) else Ok (Number value))
+number_small : (s : Span) (value : ℕ) (b : Bool) → b ≡ nat_lt 9223372036854775807 value →
+    IsSmallJudged (if b then Err (BadNumber s) else Ok (Number value))
 number_small s value true is = (_, refl)
 number_small s value false is = ltb-false 9223372036854775807 value (sym is)
 
@@ -34,12 +35,14 @@ judged_small s (Some (Reserved place)) = tt
 judged_small s (Some (Mark place)) = tt
 judged_small s (Some (Name text)) = tt
 
-followed_small : (s : Span) (kind : Result Kind LexFault) (others : Result (List Placed) LexFault) → IsSmallJudged kind → IsSmallAnswer others → IsSmallAnswer (followed s kind others)
+followed_small : (s : Span) (kind : Result Kind LexFault) (others : Result (List Placed) LexFault) →
+    IsSmallJudged kind → IsSmallAnswer others → IsSmallAnswer (followed s kind others)
 followed_small s (Ok kind) (Ok others) small rest = (small, rest)
 followed_small s (Ok kind) (Err fault) small rest = rest
 followed_small s (Err fault) others small rest = small
 
-pick_small : (b : Bool) (x y : Result (List Placed) LexFault) → IsSmallAnswer x → IsSmallAnswer y → IsSmallAnswer (if b then x else y)
+pick_small : (b : Bool) (x y : Result (List Placed) LexFault) → IsSmallAnswer x → IsSmallAnswer y →
+    IsSmallAnswer (if b then x else y)
 pick_small true x y small other = small
 pick_small false x y small other = other
 
@@ -51,7 +54,8 @@ at_small false zero s (b ∷ bs) =
     let n = longest (length (b ∷ bs)) (b ∷ bs) in
     pick_small (is_blank b) _ _ (at_small false 0 (after s b) bs)
     (pick_small (is_comment b bs) _ _ (at_small true 0 (after s b) bs)
-    (followed_small s (judged s (kind_of (take n (b ∷ bs)))) (tokens_at false (pred n) (after s b) bs) (judged_small s (kind_of (take n (b ∷ bs)))) (at_small false (pred n) (after s b) bs)))
+    (followed_small s (judged s (kind_of (take n (b ∷ bs)))) (tokens_at false (pred n) (after s b) bs)
+    (judged_small s (kind_of (take n (b ∷ bs)))) (at_small false (pred n) (after s b) bs)))
 
 tokens_are : (text : List ℕ) → IsSmallAnswer (tokens_of text)
 tokens_are text = pick_small (nat_lt 65536 (length text)) _ _ (_, refl) (at_small false 0 origin text)
@@ -61,13 +65,15 @@ pub tokens_small : (text : List ℕ) (placed : List Placed) → tokens_of text �
 tokens_small text placed is = subst IsSmallAnswer is (tokens_are text)
 
 -- a text without tokens is refused
-pub tokens_refused : (text : List ℕ) (fault : LexFault) → tokens_of text ≡ Err fault → (refusal : Refusal) × (lex_refusal fault ≡ Some refusal)
+pub tokens_refused : (text : List ℕ) (fault : LexFault) → tokens_of text ≡ Err fault → (refusal : Refusal) ×
+    (lex_refusal fault ≡ Some refusal)
 tokens_refused text fault is = subst IsSmallAnswer is (tokens_are text)
 
 -- a text that has tokens is short enough
 pub tokens_short : (text : List ℕ) (placed : List Placed) → tokens_of text ≡ Ok placed → length text ≤ 65536
 tokens_short text placed is = go (nat_lt 65536 (length text)) refl is
   where
-    go : (b : Bool) → b ≡ nat_lt 65536 (length text) → (if b then Err TooLong else tokens_at false 0 origin text) ≡ Ok placed → length text ≤ 65536
+    go : (b : Bool) → b ≡ nat_lt 65536 (length text) → (if b then Err TooLong else tokens_at false 0 origin text)
+        ≡ Ok placed → length text ≤ 65536
     go true at e = cc
     go false at e = ltb-false 65536 (length text) (sym at)

@@ -18,7 +18,8 @@ const ORIGIN: Span = Span {
 };
 
 fn refused(stage: Stage, number: u8, span: Span) -> ProgramFault
-    ensures { result ≡ ProgramFault.Refused (record { stage = stage; number = number; span = span }) }
+    ensures { result ≡ ProgramFault.Refused
+        (record { stage = stage; number = number; span = span }) }
 {
     ProgramFault::Refused(Refusal {
         stage,

@@ -72,7 +72,8 @@ operands_more f steps step place (Carried ∷ cs) = operands_more f steps step (
 operands_more f steps step place (Reduced op ∷ cs) =
     let rest = combined_operands f (steps ++ step ∷ []) (place + 1) cs in
     let come : Option ℤ = both_of op (combined op (operand_words f steps place)) (operand_at place (f step)) in
-    ap (λ o. o ∷ rest) (word_more op f steps step place) ∙ ap (λ os. come ∷ os) (operands_more f steps step (place + 1) cs)
+    ap (λ o. o ∷ rest) (word_more op f steps step place)
+    ∙ ap (λ os. come ∷ os) (operands_more f steps step (place + 1) cs)
 
 -- ---- words that are own ones, carried ones, or own ones combined with these operands
 abbrev AreClosed : List Class → List ℤ → List ℤ → List (Option ℤ) → Type 0
@@ -123,7 +124,8 @@ one_operand : (op : Combine) (own before x : ℤ) (t o : Option ℤ) → before 
     combined_of op before x ≡ with_operand op own (both_of op t o)
 one_operand op own before x t None is stays leaves =
     ap (combined_of op before) leaves ∙ stays ∙ is ∙ ap (with_operand op own) (sym (nothing_more op t))
-one_operand op own before x None (Some y) is stays leaves = ap (λ b. combined_of op b x) is ∙ ap (combined_of op own) leaves
+one_operand op own before x None (Some y) is stays leaves = ap (λ b. combined_of op b x) is
+    ∙ ap (combined_of op own) leaves
 one_operand op own before x (Some z) (Some y) is stays leaves =
     ap (λ b. combined_of op b x) is ∙ ap (combined_of op (combined_of op own z)) leaves ∙ combined_of-assoc op own z y
 
@@ -139,17 +141,20 @@ closed_more [] (o ∷ own) before xs ts came place h l m leaves = absurd h
 closed_more (c ∷ cs) [] before xs ts came place h l m leaves = absurd h
 closed_more (c ∷ cs) (o ∷ own) [] xs ts came place h l m leaves = absurd h
 closed_more (c ∷ cs) (o ∷ own) (b ∷ before) [] ts came place h l m leaves = absurd m
-closed_more (Constant ∷ cs) (o ∷ own) (b ∷ before) (x ∷ xs) ts came place h l m leaves =
-    (m.0, closed_more cs own before xs ts came (place + 1) h.1 l.1 m.1
-    (λ j op is. leaves (suc j) op is ∙ ap (λ k. left_with op (came k)) (omega arith)))
+closed_more (Constant ∷ cs) (o ∷ own) (b ∷ before) (x ∷ xs) ts came place h l m leaves = (
+  m.0,
+  closed_more cs own before xs ts came (place + 1) h.1 l.1 m.1
+      (λ j op is. leaves (suc j) op is ∙ ap (λ k. left_with op (came k)) (omega arith)),
+)
 closed_more (Carried ∷ cs) (o ∷ own) (b ∷ before) (x ∷ xs) ts came place h l m leaves =
     closed_more cs own before xs ts came (place + 1) h l.1 m.1
     (λ j op is. leaves (suc j) op is ∙ ap (λ k. left_with op (came k)) (omega arith))
 closed_more (Reduced op ∷ cs) (o ∷ own) (b ∷ before) (x ∷ xs) [] came place h l m leaves = absurd h
-closed_more (Reduced op ∷ cs) (o ∷ own) (b ∷ before) (x ∷ xs) (t ∷ ts) came place h l m leaves =
-    (one_operand op o b x t (came place) h.0 l.0 (leaves 0 op refl ∙ ap (λ k. left_with op (came k)) (omega arith)),
-    closed_more cs own before xs ts came (place + 1) h.1 l.1 m.1
-    (λ j other is. leaves (suc j) other is ∙ ap (λ k. left_with other (came k)) (omega arith)))
+closed_more (Reduced op ∷ cs) (o ∷ own) (b ∷ before) (x ∷ xs) (t ∷ ts) came place h l m leaves = (
+  one_operand op o b x t (came place) h.0 l.0 (leaves 0 op refl ∙ ap (λ k. left_with op (came k)) (omega arith)),
+  closed_more cs own before xs ts came (place + 1) h.1 l.1 m.1
+      (λ j other is. leaves (suc j) other is ∙ ap (λ k. left_with other (came k)) (omega arith)),
+)
 
 -- with no operand more
 closed_still : (cs : List Class) (own xs : List ℤ) (ts : List (Option ℤ)) (came : ℕ → Option ℤ) (place : ℕ) →
@@ -163,9 +168,10 @@ closed_still (Constant ∷ cs) (o ∷ own) (x ∷ xs) ts came place none h =
     (h.0, closed_still cs own xs ts came (place + 1) none h.1)
 closed_still (Carried ∷ cs) (o ∷ own) (x ∷ xs) ts came place none h = closed_still cs own xs ts came (place + 1) none h
 closed_still (Reduced op ∷ cs) (o ∷ own) (x ∷ xs) [] came place none h = absurd h
-closed_still (Reduced op ∷ cs) (o ∷ own) (x ∷ xs) (t ∷ ts) came place none h =
-    (h.0 ∙ ap (with_operand op o) (sym (ap (both_of op t) (none place) ∙ nothing_more op t)),
-    closed_still cs own xs ts came (place + 1) none h.1)
+closed_still (Reduced op ∷ cs) (o ∷ own) (x ∷ xs) (t ∷ ts) came place none h = (
+  h.0 ∙ ap (with_operand op o) (sym (ap (both_of op t) (none place) ∙ nothing_more op t)),
+  closed_still cs own xs ts came (place + 1) none h.1,
+)
 
 -- where nothing is marked there is no operand
 pub unmarked_none : (env : Env) (place : ℕ) → env.touched ≡ 0 → operand_at place env ≡ None

@@ -37,5 +37,7 @@ module _ (most : ℕ) (ends : List ℕ) (are : AreEnds most ends) where
   holds m v lt h = let low = lies_low ends m v h in (lt, omega arith, lies_high ends m v h)
 
   -- a vertex lies in one chunk
-  pub one_chunk : (k m v : ℕ) → k < length ends → m < length ends → lies_in ends k v ≡ true → lies_in ends m v ≡ true → k ≡ m
-  one_chunk k m v kin min at_k at_m = parts_alone ends v k m (holder_parts ends v m are.2 (holds m v min at_m)) (holds k v kin at_k)
+  pub one_chunk : (k m v : ℕ) → k < length ends → m < length ends → lies_in ends k v ≡ true → lies_in ends m v ≡ true
+      → k ≡ m
+  one_chunk k m v kin min at_k at_m = parts_alone ends v k m (holder_parts ends v m are.2 (holds m v min at_m))
+      (holds k v kin at_k)

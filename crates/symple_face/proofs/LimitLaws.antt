@@ -12,15 +12,19 @@ use Rattle.instrument.proofs.TypedLaws.{limited}
 use Rattle.vert_base.proofs.Chains.{and_first, and_second}
 
 pub few_fields : (p : Program) → is_typed p ≡ true → length p.fields.items ≤ 16
-few_fields p h = leb-true _ _ (and_first (nat_le (length p.fields.items) 16) _ (and_second (nat_le p.limit 10000) _ (limited p h)))
+few_fields p h = leb-true _ _ (and_first (nat_le (length p.fields.items) 16) _
+    (and_second (nat_le p.limit 10000) _ (limited p h)))
 
 pub few_slots : (p : Program) → is_typed p ≡ true → length p.slots.items ≤ 8
 few_slots p h =
-    leb-true _ _ (and_first (nat_le (length p.slots.items) 8) _ (and_second (nat_le (length p.fields.items) 16) _ (and_second (nat_le p.limit 10000) _ (limited p h))))
+    leb-true _ _ (and_first (nat_le (length p.slots.items) 8) _
+    (and_second (nat_le (length p.fields.items) 16) _ (and_second (nat_le p.limit 10000) _ (limited p h))))
 
 pub few_totals : (p : Program) → is_typed p ≡ true → length p.totals.items ≤ 4
 few_totals p h =
-    leb-true _ _ (and_first (nat_le (length p.totals.items) 4) _ (and_second (nat_le (length p.slots.items) 8) _ (and_second (nat_le (length p.fields.items) 16) _ (and_second (nat_le p.limit 10000) _ (limited p h)))))
+    leb-true _ _ (and_first (nat_le (length p.totals.items) 4) _
+    (and_second (nat_le (length p.slots.items) 8) _
+    (and_second (nat_le (length p.fields.items) 16) _ (and_second (nat_le p.limit 10000) _ (limited p h)))))
 
 sends_few : (s : Option Sparse) → option_all (λ s. nat_le (length s.sends.items) 8) s ≡ true → length (sends_in s) ≤ 8
 sends_few None h = omega arith
@@ -28,4 +32,7 @@ sends_few (Some s) h = leb-true _ _ h
 
 pub few_sends : (p : Program) → is_typed p ≡ true → length (sends_in p.sparse) ≤ 8
 few_sends p h =
-    sends_few p.sparse (and_second (option_all (λ d. nat_le (length d.lets.items) 8) p.dense) _ (and_second (nat_le (length p.totals.items) 4) _ (and_second (nat_le (length p.slots.items) 8) _ (and_second (nat_le (length p.fields.items) 16) _ (and_second (nat_le p.limit 10000) _ (limited p h))))))
+    sends_few p.sparse (and_second (option_all (λ d. nat_le (length d.lets.items) 8) p.dense) _
+    (and_second (nat_le (length p.totals.items) 4) _
+    (and_second (nat_le (length p.slots.items) 8) _
+    (and_second (nat_le (length p.fields.items) 16) _ (and_second (nat_le p.limit 10000) _ (limited p h))))))

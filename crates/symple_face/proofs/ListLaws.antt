@@ -12,21 +12,29 @@ pub filter_few : {X : Type 0} (p : X → Bool) (xs : List X) → length (filter 
 filter_few p [] = omega arith
 filter_few p (x ∷ xs) =
     let more = filter_few p xs in
-    elim (p x) as (λ b. length (cond b (x ∷ filter p xs) (filter p xs)) ≤ length (x ∷ xs)) [ true ↦ omega arith | false ↦ omega arith ]
+    elim (p x) as (λ b. length (cond b (x ∷ filter p xs) (filter p xs)) ≤ length (x ∷ xs))
+    [ true ↦ omega arith | false ↦ omega arith ]
 
-pub length-filter-map : {X Y : Type 0} (f : X → Y) (p : Y → Bool) (xs : List X) → length (filter p (map f xs)) ≡ length (filter (λ x. p (f x)) xs)
+pub length-filter-map : {X Y : Type 0} (f : X → Y) (p : Y → Bool) (xs : List X) →
+    length (filter p (map f xs)) ≡ length (filter (λ x. p (f x)) xs)
 length-filter-map f p [] = refl
 length-filter-map f p (x ∷ xs) =
     let more = length-filter-map f p xs in
-    elim (p (f x)) as (λ b. length (cond b (f x ∷ filter p (map f xs)) (filter p (map f xs))) ≡ length (cond b (x ∷ filter (λ x. p (f x)) xs) (filter (λ x. p (f x)) xs)))
+    elim (p (f x)) as (λ b. length (cond b (f x ∷ filter p (map f xs)) (filter p (map f xs)))
+    ≡ length (cond b (x ∷ filter (λ x. p (f x)) xs) (filter (λ x. p (f x)) xs)))
     [ true ↦ omega arith | false ↦ more ]
 
 -- no more vertices are met than there are
 pub ends_met_few : (end : Edge → ℕ) (n : ℕ) (edges : List Edge) → length (ends_met end n edges) ≤ n
-ends_met_few end n edges = omega (arith, length-range_with_len 0 n, filter_few (λ v. list_any (λ e. end e == v) edges) (range_with_len 0 n))
+ends_met_few end n edges = omega (
+  arith,
+  length-range_with_len 0 n,
+  filter_few (λ v. list_any (λ e. end e == v) edges) (range_with_len 0 n),
+)
 
 -- an entry of lists for machines is as short as each of them
-at_few : (most : ℕ) (f : ℕ → List ℕ) → ((k : ℕ) → length (f k) ≤ most) → (ks : List ℕ) (i : ℕ) → length (get_or (map f ks) i []) ≤ most
+at_few : (most : ℕ) (f : ℕ → List ℕ) → ((k : ℕ) → length (f k) ≤ most) → (ks : List ℕ) (i : ℕ) →
+    length (get_or (map f ks) i []) ≤ most
 at_few most f few [] i = omega arith
 at_few most f few (k ∷ ks) zero = few k
 at_few most f few (k ∷ ks) (suc i) = at_few most f few ks i
@@ -34,12 +42,16 @@ at_few most f few (k ∷ ks) (suc i) = at_few most f few ks i
 other_few : (most m k : ℕ) (xs : List ℕ) → length xs ≤ most → length (if k == m then [] else xs) ≤ most
 other_few most m k xs few = elim (k == m) as (λ b. length (cond b [] xs) ≤ most) [ true ↦ omega arith | false ↦ few ]
 
-pub others_few : (most p m i : ℕ) (f : ℕ → List ℕ) → ((k : ℕ) → length (f k) ≤ most) → length (get_or (for_others p m f) i []) ≤ most
-others_few most p m i f few = at_few most (λ k. if k == m then [] else f k) (λ k. other_few most m k (f k) (few k)) (range_with_len 0 p) i
+pub others_few : (most p m i : ℕ) (f : ℕ → List ℕ) → ((k : ℕ) → length (f k) ≤ most) →
+    length (get_or (for_others p m f) i []) ≤ most
+others_few most p m i f few = at_few most (λ k. if k == m then [] else f k) (λ k. other_few most m k (f k) (few k))
+    (range_with_len 0 p) i
 
 -- the same of a list that is equal, and of vertices with these numbers
-pub short_lists : {X : Type 0} (number : X → ℕ) (most p m i : ℕ) (f : ℕ → List ℕ) (lists : List (List ℕ)) (list : List X) →
-    lists ≡ for_others p m f → map number list ≡ get_or lists i [] → ((k : ℕ) → length (f k) ≤ most) → length list ≤ most
+pub short_lists : {X : Type 0} (number : X → ℕ) (most p m i : ℕ) (f : ℕ → List ℕ) (lists : List (List ℕ))
+    (list : List X) →
+    lists ≡ for_others p m f → map number list ≡ get_or lists i [] → ((k : ℕ) → length (f k) ≤ most) →
+    length list ≤ most
 short_lists number most p m i f lists list same here few =
     let P : List (List ℕ) → Type 0 = λ ls. length (get_or ls i []) ≤ most in
     let h : length (get_or lists i []) ≤ most = subst P (sym same) (others_few most p m i f few) in

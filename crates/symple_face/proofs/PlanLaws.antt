@@ -10,7 +10,9 @@ use Rattle.symple_face.specs.Plans.{concerns, goes_by_plan, is_half, is_planned,
 -- the step of a loop state is below the number of machines
 pub dep_step : (split : Split) (p m : ℕ) (x : Name) → is_planned split p m x ≡ true → x.kind ≡ Dep → x.step < p
 dep_step split p m x planned dep =
-    let goes : goes_by_plan (ring_of split p) x.kind x ≡ true = (and_parts (goes_by_plan (ring_of split p) x.kind x) _ (and_parts (concerns p m x) _ planned).1).0 in
-    let half : is_half p x ≡ true = (and_parts (is_half p x) _ (ap (λ k. goes_by_plan (ring_of split p) k x) (sym dep) ∙ goes)).0 in
+    let goes : goes_by_plan (ring_of split p) x.kind x ≡ true =
+    (and_parts (goes_by_plan (ring_of split p) x.kind x) _ (and_parts (concerns p m x) _ planned).1).0 in
+    let half : is_half p x ≡ true = (and_parts (is_half p x) _ (ap (λ k. goes_by_plan (ring_of split p) k x) (sym dep)
+    ∙ goes)).0 in
     let step : x.step < p - 1 = ltb-true x.step (p - 1) (and_parts (nat_lt x.step (p - 1)) (nat_le x.half 1) half).0 in
     omega arith

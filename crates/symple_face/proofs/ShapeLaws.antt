@@ -25,10 +25,14 @@ same_self a = eq-eqb a a refl
 planned_same : (split : Split) (p : ℕ) (x : Name) → is_planned split p x.from x ≡ is_planned split p x.to x
 planned_same split p x =
     let here : ((x.from == x.from) || (x.to == x.from)) ≡ ((x.from == x.to) || (x.to == x.to)) =
-    or_left (x.from == x.from) (x.to == x.from) (same_self x.from) ∙ sym (or_right (x.from == x.to) (x.to == x.to) (same_self x.to)) in
-    ap (λ b. (nat_lt x.from p && (nat_lt x.to p && (not (x.from == x.to) && b))) && (goes_by_plan (ring_of split p) x.kind x && (serves (blocks_of split) x.kind && is_in_range (blocks_of split).limit x.kind x.round))) here
+    or_left (x.from == x.from) (x.to == x.from) (same_self x.from)
+    ∙ sym (or_right (x.from == x.to) (x.to == x.to) (same_self x.to)) in
+    ap (λ b. (nat_lt x.from p && (nat_lt x.to p && (not (x.from == x.to) && b)))
+    && (goes_by_plan (ring_of split p) x.kind x
+    && (serves (blocks_of split) x.kind && is_in_range (blocks_of split).limit x.kind x.round))) here
 
-module _ (split : Split) (ends : List ℕ) (draws : ℕ) (edges : List Edge) (x : Name) (from : x.from < length ends) (to : x.to < length ends) (apart : x.from ≢ x.to) where
+module _ (split : Split) (ends : List ℕ) (draws : ℕ) (edges : List Edge) (x : Name) (from : x.from < length ends)
+    (to : x.to < length ends) (apart : x.from ≢ x.to) where
   there : (x.from == x.to) ≡ false
   there = ne_eqb x.from x.to apart
 
@@ -39,7 +43,8 @@ module _ (split : Split) (ends : List ℕ) (draws : ℕ) (edges : List Edge) (x 
   refreshed_same =
       let p = part_of ends draws edges x.from in
       let q = part_of ends draws edges x.to in
-      ap (λ b. if b then slice_index_or p.refresh_to x.to [] else slice_index_or p.refresh_of x.from []) (same_self x.from)
+      ap (λ b. if b then slice_index_or p.refresh_to x.to [] else slice_index_or p.refresh_of x.from [])
+      (same_self x.from)
       ∙ (other_list (length ends) x.from x.to (λ k. refresh_list ends x.from k edges) to back
       ∙ (sym (other_list (length ends) x.to x.from (λ k. refresh_list ends k x.to edges) from there)
       ∙ sym (ap (λ b. if b then slice_index_or q.refresh_to x.to [] else slice_index_or q.refresh_of x.from []) there)))
@@ -48,7 +53,8 @@ module _ (split : Split) (ends : List ℕ) (draws : ℕ) (edges : List Edge) (x 
   updated_same =
       let p = part_of ends draws edges x.from in
       let q = part_of ends draws edges x.to in
-      ap (λ b. if b then slice_index_or p.refresh_of x.to [] else slice_index_or p.refresh_to x.from []) (same_self x.from)
+      ap (λ b. if b then slice_index_or p.refresh_of x.to [] else slice_index_or p.refresh_to x.from [])
+      (same_self x.from)
       ∙ (other_list (length ends) x.from x.to (λ k. refresh_list ends k x.from edges) to back
       ∙ (sym (other_list (length ends) x.to x.from (λ k. refresh_list ends x.to k edges) from there)
       ∙ sym (ap (λ b. if b then slice_index_or q.refresh_of x.to [] else slice_index_or q.refresh_to x.from []) there)))
@@ -62,13 +68,16 @@ module _ (split : Split) (ends : List ℕ) (draws : ℕ) (edges : List Edge) (x 
       ∙ (sym (other_list (length ends) x.to x.from (λ k. push_list ends k x.to edges) from there)
       ∙ sym (ap (λ b. if b then slice_index_or q.push_to x.to [] else slice_index_or q.push_of x.from []) there)))
 
-  form_same : (k : NameKind) → form_of split (part_of ends draws edges x.from) k x ≡ form_of split (part_of ends draws edges x.to) k x
+  form_same : (k : NameKind) → form_of split (part_of ends draws edges x.from) k x
+      ≡ form_of split (part_of ends draws edges x.to) k x
   form_same Refresh =
       let types : List ValueType = types_of split.program.program.fields.items ++ value.Bool ∷ [] in
       ap (λ l. shape.Refresh (length l) (length types) (bool_bits types)) refreshed_same
   form_same Dep = refl
-  form_same Update = ap (λ l. shape.Update (count_within (half_in ends x.to x.half) l) (length split.program.program.slots.items) (length (reduced_in split.dense))) updated_same
-  form_same Push = ap (λ l. shape.Push (length l) (length (types_of (sends_in split.program.program.sparse))) (bool_bits (types_of (sends_in split.program.program.sparse)))) pushed_same
+  form_same Update = ap (λ l. shape.Update (count_within (half_in ends x.to x.half) l)
+      (length split.program.program.slots.items) (length (reduced_in split.dense))) updated_same
+  form_same Push = ap (λ l. shape.Push (length l) (length (types_of (sends_in split.program.program.sparse)))
+      (bool_bits (types_of (sends_in split.program.program.sparse)))) pushed_same
   form_same Tally = refl
   form_same Verdict = refl
 
@@ -81,8 +90,11 @@ shapes_agree split ends draws edges x from to =
     let planned = planned_same split (length ends) x in
     let apart : is_planned split (length ends) x.from x ≡ true → x.from ≢ x.to = λ h e.
     let met : concerns (length ends) x.from x ≡ true = (and_parts (concerns (length ends) x.from x) _ h).0 in
-    let other : not (x.from == x.to) ≡ true = (and_parts (not (x.from == x.to)) _ (and_parts (nat_lt x.to (length ends)) _ (and_parts (nat_lt x.from (length ends)) _ met).1).1).0 in
+    let other : not (x.from == x.to) ≡ true =
+    (and_parts (not (x.from == x.to)) _
+    (and_parts (nat_lt x.to (length ends)) _ (and_parts (nat_lt x.from (length ends)) _ met).1).1).0 in
     true≢false (sym other ∙ ap not (eq-eqb x.from x.to e)) in
-    and_keeps (is_planned split (length ends) x.from x) (form_of split (part_of ends draws edges x.from) x.kind x) (form_of split (part_of ends draws edges x.to) x.kind x)
+    and_keeps (is_planned split (length ends) x.from x) (form_of split (part_of ends draws edges x.from) x.kind x)
+    (form_of split (part_of ends draws edges x.to) x.kind x)
     (λ h. form_same split ends draws edges x from to (apart h) x.kind)
     ∙ ap (λ b. if b then Some (form_of split (part_of ends draws edges x.to) x.kind x) else None) planned

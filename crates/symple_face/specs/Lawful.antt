@@ -95,7 +95,8 @@ pub record IsLawful (work : Work) (sound : State → Type 0) : Type 0 where
   pub take_part : (s : State) (l : Letter) → (work.take s l).part ≡ s.part
   pub take_split : (s : State) (l : Letter) → (work.take s l).split ≡ s.split
   pub take_at : (s : State) (l : Letter) → (work.take s l).at ≡ standing_taken l.name.kind (ruling_read l.body) s.at
-  pub take_held : (s : State) (l : Letter) (x : Name) → has_taken (work.take s l) x ≡ (same_name l.name x || has_taken s x)
+  pub take_held : (s : State) (l : Letter) (x : Name) →
+      has_taken (work.take s l) x ≡ (same_name l.name x || has_taken s x)
   pub take_verdict : (s : State) (l : Letter) → l.name.kind ≡ kind.Verdict → (work.take s l).ruling ≡ ruling_read l.body
   pub take_other : (s : State) (l : Letter) → l.name.kind ≢ kind.Verdict → (work.take s l).ruling ≡ s.ruling
   pub take_sound : (s : State) (l : Letter) → sound s → IsTakeable s l → sound (work.take s l)

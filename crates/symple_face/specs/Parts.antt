@@ -72,7 +72,8 @@ lists_of lists = map (λ list. map (λ v. v.0) list.items) lists
 -- of the others those that have an edge from the own one
 abbrev pub known_vertices : PlainPart → List ℕ
 known_vertices p =
-    flat_map (λ k. if k == p.at.machine then chunk_vertices p.ends k else refresh_list p.ends k p.at.machine p.scan) (range_with_len 0 p.at.machines)
+    flat_map (λ k. if k == p.at.machine then chunk_vertices p.ends k else refresh_list p.ends k p.at.machine p.scan)
+    (range_with_len 0 p.at.machines)
 
 -- what holds of every part: the chunks and limits, the orders and chunks of its edges, its lists of
 -- vertices, and its degrees
@@ -91,4 +92,5 @@ pub record IsPart (p : PlainPart) : Type 0 where
   pub push_to : p.push_to ≡ for_others p.at.machines p.at.machine (λ k. push_list p.ends p.at.machine k p.scan)
   pub push_of : p.push_of ≡ for_others p.at.machines p.at.machine (λ k. push_list p.ends k p.at.machine p.push)
   pub known : map (λ d. d.id.0) p.degrees ≡ known_vertices p
-  pub own : filter (λ d. lies_in p.ends p.at.machine d.id.0) p.degrees ≡ map (degree_in p.push p.scan) (chunk_vertices p.ends p.at.machine)
+  pub own : filter (λ d. lies_in p.ends p.at.machine d.id.0) p.degrees
+      ≡ map (degree_in p.push p.scan) (chunk_vertices p.ends p.at.machine)

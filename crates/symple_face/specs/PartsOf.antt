@@ -19,9 +19,11 @@ scan_of ends edges m = by_target (vertices_of ends) (filter (λ e. lies_in ends 
 abbrev pub push_of : List ℕ → List Edge → ℕ → List Edge
 push_of ends edges m = by_source (vertices_of ends) (filter (λ e. lies_in ends m (target e)) edges)
 
--- the vertices whose degrees machine m knows: its own ones, and of the other chunks those that have an edge from one of them
+-- the vertices whose degrees machine m knows: its own ones, and of the other chunks those that have an edge from one
+-- of them
 abbrev pub known_of : List ℕ → List Edge → ℕ → List ℕ
-known_of ends edges m = flat_map (λ k. if k == m then chunk_vertices ends k else refresh_list ends k m edges) (range_with_len 0 (length ends))
+known_of ends edges m = flat_map (λ k. if k == m then chunk_vertices ends k else refresh_list ends k m edges)
+    (range_with_len 0 (length ends))
 
 -- the part of machine m
 abbrev pub part_of : List ℕ → ℕ → List Edge → ℕ → PlainPart
@@ -46,5 +48,6 @@ parts_of ends draws edges = map (part_of ends draws edges) (range_with_len 0 (le
 -- the sender and the receiver of a message see one form of its body
 abbrev pub ShapesAgree : Type 0
 ShapesAgree =
-    (split : Split) (ends : List ℕ) (draws : ℕ) (edges : List Edge) (x : Name) → x.from < length ends → x.to < length ends →
+    (split : Split) (ends : List ℕ) (draws : ℕ) (edges : List Edge) (x : Name) → x.from < length ends →
+    x.to < length ends →
     shape_of split (part_of ends draws edges x.from) x ≡ shape_of split (part_of ends draws edges x.to) x

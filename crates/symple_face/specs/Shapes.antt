@@ -55,13 +55,16 @@ size_of range = range.1 - range.0
 
 -- the rows that a refresh tells, those that an update is about, and the senders of a push
 abbrev pub refreshed : PlainPart → Name → List ℕ
-refreshed part x = if x.from == part.at.machine then slice_index_or part.refresh_to x.to [] else slice_index_or part.refresh_of x.from []
+refreshed part x = if x.from == part.at.machine then slice_index_or part.refresh_to x.to []
+    else slice_index_or part.refresh_of x.from []
 
 abbrev pub updated : PlainPart → Name → List ℕ
-updated part x = if x.from == part.at.machine then slice_index_or part.refresh_of x.to [] else slice_index_or part.refresh_to x.from []
+updated part x = if x.from == part.at.machine then slice_index_or part.refresh_of x.to []
+    else slice_index_or part.refresh_to x.from []
 
 abbrev pub pushed : PlainPart → Name → List ℕ
-pushed part x = if x.from == part.at.machine then slice_index_or part.push_to x.to [] else slice_index_or part.push_of x.from []
+pushed part x = if x.from == part.at.machine then slice_index_or part.push_to x.to []
+    else slice_index_or part.push_of x.from []
 
 -- the form of a message's body by its kind
 abbrev pub form_of : Split → PlainPart → NameKind → Name → BodyShape
@@ -69,17 +72,21 @@ form_of split part kind.Refresh x =
     let types = types_of split.program.program.fields.items ++ Bool ∷ [] in
     Refresh (length (refreshed part x)) (length types) (bool_bits types)
 form_of split part kind.Dep x =
-    Dep (size_of (half_in part.ends (chunk_of x.from x.step part.at.machines) x.half)) (words_in (loop_carry split.dense))
+    Dep (size_of (half_in part.ends (chunk_of x.from x.step part.at.machines) x.half))
+    (words_in (loop_carry split.dense))
     (bool_bits (types_at (types_of (lets_in split.program.program.dense)) (carried_in split.dense)))
 form_of split part kind.Update x =
-    Update (count_within (half_in part.ends x.to x.half) (updated part x)) (length split.program.program.slots.items) (length (reduced_in split.dense))
+    Update (count_within (half_in part.ends x.to x.half) (updated part x)) (length split.program.program.slots.items)
+    (length (reduced_in split.dense))
 form_of split part kind.Push x =
     let types = types_of (sends_in split.program.program.sparse) in
     Push (length (pushed part x)) (length types) (bool_bits types)
 form_of split part kind.Tally x = Tally (length split.program.program.totals.items)
 form_of split part kind.Verdict x =
-    Verdict (may_rule (blocks_of split) x.round ruling.Dense) (may_rule (blocks_of split) x.round ruling.Sparse) (length split.program.program.totals.items)
+    Verdict (may_rule (blocks_of split) x.round ruling.Dense) (may_rule (blocks_of split) x.round ruling.Sparse)
+    (length split.program.program.totals.items)
 
 -- the form of a message's body at a machine that sends or takes it
 abbrev pub shape_of : Split → PlainPart → Name → Option BodyShape
-shape_of split part x = if is_planned split part.at.machines part.at.machine x then Some (form_of split part x.kind x) else None
+shape_of split part x = if is_planned split part.at.machines part.at.machine x then Some (form_of split part x.kind x)
+    else None

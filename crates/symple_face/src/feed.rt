@@ -15,8 +15,10 @@ pub trait Feed {
 
     /// The first neighbour that is left. Its row is written into `row`.
     fn next(&mut self, row: &mut Row) -> Option<Neighbour>
-        ensures first { IfSome result (λ neighbour. left self.old ≡ (neighbour, row.new) ∷ left self.new) }
-        ensures given { IfSome result (λ neighbour. given self.new ≡ given self.old ++ (neighbour, row.new) ∷ []) }
+        ensures first { IfSome result (λ neighbour. left self.old ≡ (neighbour, row.new)
+            ∷ left self.new) }
+        ensures given { IfSome result (λ neighbour.
+            given self.new ≡ given self.old ++ (neighbour, row.new) ∷ []) }
         // None is answered exactly where nothing is left.
         ensures end { IfNone result (left self.old ≡ []) }
         ensures nothing { IfNone result (left self.new ≡ []) }

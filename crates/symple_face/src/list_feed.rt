@@ -19,7 +19,10 @@ impl Model for ListFeed {
 
     ghost Value = { Given };
 
-    ghost view = { λ f. record { given = take f.count f.list.items; left = drop f.count f.list.items } };
+    ghost view = { λ f. record {
+      given = take f.count f.list.items;
+      left = drop f.count f.list.items;
+    } };
 }
 
 impl ListFeed {

@@ -29,7 +29,8 @@ fn list_at(lists: &[Vec<VertexId>], machine: u8) -> &[VertexId]
 
 // How many vertices of a list lie from the first to the second of two.
 fn count_within(range: (u32, u32), vertices: &[VertexId]) -> usize
-    ensures value { result ≡ length (filter (λ v. nat_le range.0 v.0 && nat_lt v.0 range.1) vertices.now) }
+    ensures value { result ≡ length
+        (filter (λ v. nat_le range.0 v.0 && nat_lt v.0 range.1) vertices.now) }
     ensures within { result ≤ length vertices.now }
 {
     vertices
@@ -53,7 +54,8 @@ impl Part {
     }
 
     fn form(&self, name: &Name) -> BodyShape
-        requires { is_planned self.now.split.value self.now.at.machines self.now.at.machine name.now ≡ true }
+        requires { is_planned self.now.split.value self.now.at.machines self.now.at.machine
+            name.now ≡ true }
         ensures { result ≡ form_of self.now.split.value (plain_of self.now) name.now.kind name.now }
     {
         match name.kind {
@@ -69,7 +71,8 @@ impl Part {
     }
 
     fn refresh_form(&self, name: &Name) -> BodyShape
-        ensures { result ≡ form_of self.now.split.value (plain_of self.now) NameKind.Refresh name.now }
+        ensures { result ≡ form_of self.now.split.value (plain_of self.now) NameKind.Refresh
+            name.now }
     {
         let fields = fields(&self.split);
         BodyShape::Refresh {
@@ -96,7 +99,8 @@ impl Part {
     fn update_form(&self, name: &Name) -> BodyShape
         requires to { name.now.to < self.now.at.machines }
         requires half { name.now.half ≤ 1 }
-        ensures { result ≡ form_of self.now.split.value (plain_of self.now) NameKind.Update name.now }
+        ensures { result ≡ form_of self.now.split.value (plain_of self.now) NameKind.Update
+            name.now }
     {
         BodyShape::Update {
             vertices: count_within(self.half_of(name.to, name.half), self.updated(name)) as u32,

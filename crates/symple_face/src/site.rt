@@ -85,7 +85,8 @@ pub trait Restart: Site {
     /// Puts a machine that was just made to the begin of the start's round. It takes no memory.
     fn restart(&mut self, start: &Start)
         requires made { let s = Self.state self.old in s ≡ Self.work.first s.part s.split }
-        requires start { let s = Self.state self.old in IsStart s.part s.split (plain_start start.now) }
+        requires start { let s = Self.state self.old in
+            IsStart s.part s.split (plain_start start.now) }
         ensures { let s = Self.state self.old in
             Self.state self.new ≡ Self.work.restarted s.part s.split (plain_start start.now) };
 

@@ -15,7 +15,8 @@ use vert_base::ValueType;
 use vert_tree::Decl;
 
 fn is_bool(kind: ValueType) -> bool
-    ensures { (types : List ValueType) → bool_bits (kind ∷ types) ≡ (if result then 1 else 0) + 2 * bool_bits types }
+    ensures { (types : List ValueType) → bool_bits (kind ∷ types) ≡ (if result then 1 else 0) + 2
+        * bool_bits types }
 {
     kind == ValueType::Bool
 }
@@ -24,7 +25,8 @@ fn is_bool(kind: ValueType) -> bool
 pub(crate) fn bits_before(decls: &[Decl], last: u32) -> u32
     requires few { length decls.now ≤ 16 }
     requires last { last ≤ 1 }
-    ensures value { (types : List ValueType) → last ≡ bool_bits types → result ≡ bool_bits (types_of decls.now ++ types) }
+    ensures value { (types : List ValueType) → last ≡ bool_bits types →
+        result ≡ bool_bits (types_of decls.now ++ types) }
     ensures small { result < 2 ^ (length decls.now + 1) }
     ensures alone { last ≡ 0 → result < 2 ^ length decls.now }
 {
@@ -67,7 +69,8 @@ fn type_at(lets: &[Decl], place: u8) -> ValueType
 
 // The bits of the carried lets of the program's loop.
 pub(crate) fn carried_bits(split: &Split) -> u8
-    ensures { result ≡ bool_bits (types_at (types_of (lets_in split.now.program.program.dense)) (carried_in split.now.dense)) }
+    ensures { result ≡ bool_bits (types_at (types_of (lets_in split.now.program.program.dense))
+        (carried_in split.now.dense)) }
 {
     match (&split.program.program.dense, &split.dense) {
         (Some(dense), Some(split_loop)) => bits_at(
@@ -129,7 +132,9 @@ pub(crate) fn carry_words(split: &Split) -> u8
 
 // What a verdict for a round may rule, with the words of its totals.
 pub(crate) fn verdict_form(split: &Split, round: u32) -> BodyShape
-    ensures { result ≡ BodyShape.Verdict (may_rule (blocks_of split.now) round ruling.Dense) (may_rule (blocks_of split.now) round ruling.Sparse) (length split.now.program.program.totals.items) }
+    ensures { result ≡ BodyShape.Verdict (may_rule (blocks_of split.now) round ruling.Dense)
+        (may_rule (blocks_of split.now) round ruling.Sparse)
+        (length split.now.program.program.totals.items) }
 {
     let program = &split.program.program;
     let takes_place = u64::from(round) <= program.limit;

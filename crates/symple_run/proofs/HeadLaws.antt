@@ -36,24 +36,28 @@ use Rattle.vert_tree.specs.Typed.{is_typed}
 
 -- ---- no order stores a file or takes from the input
 
-quiet_graph : (read : Result Graph EdgeFault) (next : Graph → Order) → ((graph : Graph) → IsQuiet IsSourceRun (next graph)) → IsQuiet IsSourceRun (of_graph read next)
+quiet_graph : (read : Result Graph EdgeFault) (next : Graph → Order) →
+    ((graph : Graph) → IsQuiet IsSourceRun (next graph)) → IsQuiet IsSourceRun (of_graph read next)
 quiet_graph (Ok graph) next quiet = quiet graph
 quiet_graph (Err fault) next quiet = tt
 
 quiet_source : (play : Play) (course : Course) → IsSourceRun play course → IsQuiet IsSourceRun (follows course)
 quiet_source play course is = let P : Course → Type 0 = λ c. IsQuiet IsSourceRun (follows c) in subst P (sym is) tt
 
-quiet_run : (job : words.PlainJob) (machines : ℕ) (log : Bool) → IsQuiet IsSourceRun (if log then Refuses note.BadWords else run_order job machines)
+quiet_run : (job : words.PlainJob) (machines : ℕ) (log : Bool) →
+    IsQuiet IsSourceRun (if log then Refuses note.BadWords else run_order job machines)
 quiet_run job machines true = tt
 quiet_run job machines false = λ text program says bytes.
-    quiet_graph (graph_of job.form bytes) (λ graph. Runs (play_of job machines program graph) follows) (λ graph course is. quiet_source (play_of job machines program graph) course is)
+    quiet_graph (graph_of job.form bytes) (λ graph. Runs (play_of job machines program graph) follows)
+    (λ graph course is. quiet_source (play_of job machines program graph) course is)
 
 quiet_line : (line : words.PlainLine) → IsQuiet IsSourceRun (asked line)
 quiet_line (words.RunOf job machines None) = quiet_run job machines job.lines.log
 quiet_line (words.RunOf job machines (Some image)) = tt
 quiet_line (words.ShowOf program) = λ text p says. tt
 quiet_line (words.FreeOf program) = λ text p says. tt
-quiet_line (words.PlanOf name form machines) = λ bytes. quiet_graph (graph_of form bytes) (λ graph. Puts (plan_text machines graph) Ends) (λ graph. tt)
+quiet_line (words.PlanOf name form machines) = λ bytes.
+    quiet_graph (graph_of form bytes) (λ graph. Puts (plan_text machines graph) Ends) (λ graph. tt)
 quiet_line (words.RecordOf job schedule machines seed lossy) = tt
 quiet_line (words.ReplayOf job schedule) = tt
 quiet_line (words.ResumeOf job image machines) = tt
@@ -77,10 +81,12 @@ by_bool true long within more step fact = fact
 by_bool false long within more step fact = step fact
 
 -- of a file within the limit another fact follows
-by_file : (limit : ℕ) (file : Option (List ℕ)) (lacks long : Type 0) (within more : List ℕ → Type 0) → ((bytes : List ℕ) → within bytes → more bytes) →
+by_file : (limit : ℕ) (file : Option (List ℕ)) (lacks long : Type 0) (within more : List ℕ → Type 0) →
+    ((bytes : List ℕ) → within bytes → more bytes) →
     ByFile limit file lacks long within → ByFile limit file lacks long more
 by_file limit None lacks long within more step fact = fact
-by_file limit (Some bytes) lacks long within more step fact = by_bool (nat_lt limit (length bytes)) long (within bytes) (more bytes) (step bytes) fact
+by_file limit (Some bytes) lacks long within more step fact = by_bool (nat_lt limit (length bytes)) long
+    (within bytes) (more bytes) (step bytes) fact
 
 module _ (files : List File) (input : Option (List ℕ)) (outcome : Option note.Fault) where
   abbrev May : Order → Type 0
@@ -90,24 +96,39 @@ module _ (files : List File) (input : Option (List ℕ)) (outcome : Option note.
   Has order = Must IsSourceRun order files input outcome
 
   judged : (text : List ℕ) (next : Program → Order) → ((p q : Program) → May (next p) → Has (next q)) →
-      ((refusal : Refusal) × RefusesText text refusal × (outcome ≡ Some (note.BadProgram refusal))) ⊎ ((program : Program) × Says text program × May (next program)) →
-      ((refusal : Refusal) → RefusesText text refusal → outcome ≡ Some (note.BadProgram refusal)) × ((program : Program) → Says text program → Has (next program))
-  judged text next same (inl (refusal, refuses, is)) =
-      (λ other others. is ∙ ap (λ (r : Refusal). Some (note.BadProgram r)) (has_one_refusal text refusal other refuses others), λ program says. absurd (says_none_refused text refusal program refuses says))
-  judged text next same (inr (program, says, comes)) =
-      (λ refusal refuses. absurd (says_none_refused text refusal program refuses says), λ other others. same program other comes)
+      ((refusal : Refusal) × RefusesText text refusal × (outcome ≡ Some (note.BadProgram refusal))) ⊎
+      ((program : Program) × Says text program × May (next program)) →
+      ((refusal : Refusal) → RefusesText text refusal → outcome ≡ Some (note.BadProgram refusal)) ×
+      ((program : Program) → Says text program → Has (next program))
+  judged text next same (inl (refusal, refuses, is)) = (
+    λ other others. is ∙ ap (λ (r : Refusal). Some (note.BadProgram r))
+        (has_one_refusal text refusal other refuses others),
+    λ program says.
+        absurd (says_none_refused text refusal program refuses says),
+  )
+  judged text next same (inr (program, says, comes)) = (
+    λ refusal refuses. absurd (says_none_refused text refusal program refuses says),
+    λ other others.
+        same program other comes,
+  )
 
-  program_must : (name : List ℕ) (next : Program → Order) → ((p q : Program) → May (next p) → Has (next q)) → May (with_program name next) → Has (with_program name next)
+  program_must : (name : List ℕ) (next : Program → Order) → ((p q : Program) → May (next p) → Has (next q)) →
+      May (with_program name next) → Has (with_program name next)
   program_must name next same may =
-      by_file 65536 (file_named name files) (outcome ≡ Some (note.NoLoad name)) _ _ _ (λ text. judged text next same) may
+      by_file 65536 (file_named name files) (outcome ≡ Some (note.NoLoad name)) _ _ _ (λ text. judged text next same)
+      may
 
-  graph_either : (read : Result Graph EdgeFault) (next other : Graph → Order) → ((graph : Graph) → May (next graph) → Has (other graph)) → May (of_graph read next) → Has (of_graph read other)
+  graph_either : (read : Result Graph EdgeFault) (next other : Graph → Order) →
+      ((graph : Graph) → May (next graph) → Has (other graph)) → May (of_graph read next) → Has (of_graph read other)
   graph_either (Ok graph) next other step may = step graph may
   graph_either (Err fault) next other step may = may
 
-  graph_must : (form : GraphForm) (name : List ℕ) (next other : Graph → Order) → ((graph : Graph) → May (next graph) → Has (other graph)) → May (with_graph form name next) → Has (with_graph form name other)
+  graph_must : (form : GraphForm) (name : List ℕ) (next other : Graph → Order) →
+      ((graph : Graph) → May (next graph) → Has (other graph)) → May (with_graph form name next) →
+      Has (with_graph form name other)
   graph_must form name next other step may =
-      by_file 268435456 (file_named name files) (outcome ≡ Some (note.NoLoad name)) _ _ _ (λ bytes. graph_either (graph_of form bytes) next other step) may
+      by_file 268435456 (file_named name files) (outcome ≡ Some (note.NoLoad name)) _ _ _ (λ bytes.
+      graph_either (graph_of form bytes) next other step) may
 
   -- a source run is over at its end, whichever it is
   run_over : (play : Play) → May (Runs play follows) → outcome ≡ None
@@ -116,11 +137,15 @@ module _ (files : List File) (input : Option (List ℕ)) (outcome : Option note.
   run_has : (play : Play) → outcome ≡ None → Has (Runs play follows)
   run_has play fine = λ course is. let P : Course → Type 0 = λ c. Has (follows c) in subst P (sym is) fine
 
-  run_must : (job : words.PlainJob) (machines : ℕ) (log : Bool) → May (if log then Refuses note.BadWords else run_order job machines) → Has (if log then Refuses note.BadWords else run_order job machines)
+  run_must : (job : words.PlainJob) (machines : ℕ) (log : Bool) →
+      May (if log then Refuses note.BadWords else run_order job machines) →
+      Has (if log then Refuses note.BadWords else run_order job machines)
   run_must job machines true may = may
   run_must job machines false may =
-      program_must job.program (λ program. with_graph job.form job.graph (λ graph. Runs (play_of job machines program graph) follows))
-      (λ p q. graph_must job.form job.graph (λ graph. Runs (play_of job machines p graph) follows) (λ graph. Runs (play_of job machines q graph) follows)
+      program_must job.program (λ program.
+      with_graph job.form job.graph (λ graph. Runs (play_of job machines program graph) follows))
+      (λ p q. graph_must job.form job.graph (λ graph. Runs (play_of job machines p graph) follows) (λ graph.
+      Runs (play_of job machines q graph) follows)
       (λ graph both. run_has (play_of job machines q graph) (run_over (play_of job machines p graph) both)))
       may
 
@@ -128,9 +153,11 @@ module _ (files : List File) (input : Option (List ℕ)) (outcome : Option note.
   line_must (words.RunOf job machines None) may = run_must job machines job.lines.log may
   line_must (words.RunOf job machines (Some image)) may = may
   line_must (words.ShowOf name) may = program_must name (λ program. Puts (shown program) Ends) (λ p q fine. fine) may
-  line_must (words.FreeOf name) may = program_must name (λ program. Puts (free_text program) Ends) (λ p q fine. fine) may
+  line_must (words.FreeOf name) may = program_must name (λ program. Puts (free_text program) Ends) (λ p q fine. fine)
+      may
   line_must (words.PlanOf name form machines) may =
-      graph_must form name (λ graph. Puts (plan_text machines graph) Ends) (λ graph. Puts (plan_text machines graph) Ends) (λ graph fine. fine) may
+      graph_must form name (λ graph. Puts (plan_text machines graph) Ends) (λ graph.
+      Puts (plan_text machines graph) Ends) (λ graph fine. fine) may
   line_must (words.RecordOf job schedule machines seed lossy) may = may
   line_must (words.ReplayOf job schedule) may = may
   line_must (words.ResumeOf job image machines) may = may
@@ -148,23 +175,31 @@ module _ (files : List File) (input : Option (List ℕ)) (outcome : Option note.
 
 -- no put fails where none was counted, or the sink is sure of the texts
 safe : (order : Order) (files : List File) (input : Option (List ℕ)) (faults after spare : ℕ) →
-    (Rose faults after → ⊥) ⊎ Fits IsSourceRun order files input spare → IsSafe IsSourceRun order files input faults after spare
+    (Rose faults after → ⊥) ⊎ Fits IsSourceRun order files input spare →
+    IsSafe IsSourceRun order files input faults after spare
 safe order files input faults after spare (inl calm) = inl calm
 safe order files input faults after spare (inr fits) = inr (spare, fits, omega arith)
 
-by_outcome : (result : Status) (outcome expected : Option note.Fault) → result ≡ status_after outcome → IsOrWants outcome expected → (result ≡ status_after expected) ⊎ (result ≡ status.Memory)
+by_outcome : (result : Status) (outcome expected : Option note.Fault) → result ≡ status_after outcome →
+    IsOrWants outcome expected → (result ≡ status_after expected) ⊎ (result ≡ status.Memory)
 by_outcome result outcome expected is (inl same) = inl (is ∙ ap status_after same)
 by_outcome result outcome expected is (inr wants) = inr (is ∙ ap status_after wants)
 
 pub completes :
-    (texts : List (List ℕ)) (w after : Outside) (outcome : Option note.Fault) (result : Status) → Leaves IsSourceRun (order_of texts) w after outcome → result ≡ status_after outcome →
+    (texts : List (List ℕ)) (w after : Outside) (outcome : Option note.Fault) (result : Status) →
+    Leaves IsSourceRun (order_of texts) w after outcome → result ≡ status_after outcome →
     IsComplete IsSourceRun texts w after result
 completes texts w after outcome result leaves is = λ files expected told comes nothing.
     let P : Option (List File) → Type 0 = λ fs.
     Leaves IsSourceRun (order_of texts)
-    (record { shelf = record { files = fs; loads = w.shelf.loads; stores = w.shelf.stores }; out = w.out; input = record { bytes = w.input.bytes; faults = w.input.faults } }) after outcome in
+    (record {
+      shelf = record { files = fs; loads = w.shelf.loads; stores = w.shelf.stores };
+      out = w.out;
+      input = record { bytes = w.input.bytes; faults = w.input.faults };
+    }) after outcome in
     by_outcome result outcome expected is
-    (must_come IsSourceRun after outcome expected (order_of texts) files w.shelf.loads w.shelf.stores w.out w.input.bytes w.input.faults
+    (must_come IsSourceRun after outcome expected (order_of texts) files w.shelf.loads w.shelf.stores w.out
+    w.input.bytes w.input.faults
     (order_must files w.input.bytes expected (words.line_of texts) comes)
     (record { no_load = nothing.no_load; no_store = nothing.no_store; no_take = nothing.no_take })
     (safe (order_of texts) files w.input.bytes w.out.faults after.out.faults w.out.spare nothing.no_put)
@@ -174,8 +209,10 @@ completes texts w after outcome result leaves is = λ files expected told comes 
 
 -- a note is left whole, or a first part of it
 pub noted_by :
-    {S : Type 0} {held : S → Option (List ℕ)} {faults spare : S → ℕ} {old new : S} (text : List ℕ) (result : Result (Unit {0}) SinkFault) → Writes held faults spare old new text result →
-    (held new ≡ gained (held old) text) ⊎ PutFails text (sink_state held faults spare old) (sink_state held faults spare new)
+    {S : Type 0} {held : S → Option (List ℕ)} {faults spare : S → ℕ} {old new : S} (text : List ℕ)
+    (result : Result (Unit {0}) SinkFault) → Writes held faults spare old new text result →
+    (held new ≡ gained (held old) text) ⊎ PutFails text (sink_state held faults spare old)
+    (sink_state held faults spare new)
 noted_by text (Ok done) w = inl w.whole
 noted_by text (Err fault) w = inr (record { part = w.part; rose = w.failed; sure = omega (arith, w.sure) })
 
@@ -195,7 +232,8 @@ no_fault note.NoMemory is = cc
 not_none : {A : Type 0} (fault : note.Fault) → None ≡ Some fault → A
 not_none fault is = cc
 
-module _ (name : List ℕ) (w after : Outside) (law : (text : List ℕ) (p : Program) → Says text p → IsTrue (is_free (freedom_of p)) → AlikeAtAllCounts p) where
+module _ (name : List ℕ) (w after : Outside) (law : (text : List ℕ) (p : Program) → Says text p →
+    IsTrue (is_free (freedom_of p)) → AlikeAtAllCounts p) where
   freed : Leaves IsSourceRun (free_order name) w after None → FreeAnswer w.shelf.files name w.out after.out
   freed (Loaded text under within (IsProgram program says (Gained spare spared done))) = record {
     text = text;
@@ -212,15 +250,18 @@ module _ (name : List ℕ) (w after : Outside) (law : (text : List ℕ) (p : Pro
   freed (NotLoaded fault why same is) = not_none fault is
   freed (WantsAtLoad wants) = not_none note.NoMemory wants.memory
 
-  ended_well : (outcome : Option note.Fault) → status.Done ≡ status_after outcome → Leaves IsSourceRun (free_order name) w after outcome → FreeAnswer w.shelf.files name w.out after.out
+  ended_well : (outcome : Option note.Fault) → status.Done ≡ status_after outcome →
+      Leaves IsSourceRun (free_order name) w after outcome → FreeAnswer w.shelf.files name w.out after.out
   ended_well None done leaves = freed leaves
   ended_well (Some fault) done leaves = no_fault fault done
 
 -- the words are `free` and a name, and the command ended well
 pub free_answer :
-    (texts : List (List ℕ)) (w after : Outside) (outcome : Option note.Fault) (result : Status) → Leaves IsSourceRun (order_of texts) w after outcome → result ≡ status_after outcome →
+    (texts : List (List ℕ)) (w after : Outside) (outcome : Option note.Fault) (result : Status) →
+    Leaves IsSourceRun (order_of texts) w after outcome → result ≡ status_after outcome →
     ((text : List ℕ) (p : Program) → Says text p → IsTrue (is_free (freedom_of p)) → AlikeAtAllCounts p) →
-    (name : List ℕ) → words.line_of texts ≡ Ok (words.FreeOf name) → result ≡ status.Done → FreeAnswer w.shelf.files name w.out after.out
+    (name : List ℕ) → words.line_of texts ≡ Ok (words.FreeOf name) → result ≡ status.Done →
+    FreeAnswer w.shelf.files name w.out after.out
 free_answer texts w after outcome result leaves is law name line done =
     let P : Result words.PlainLine words.LineFault → Type 0 = λ r. Leaves IsSourceRun (asked_by r) w after outcome in
     ended_well name w after law outcome (sym done ∙ is) (subst P line leaves)
@@ -230,4 +271,5 @@ pub alike_by :
     ((job : Job) → IsTrue (is_typed job.program) → IsTrue (is_free (freedom_of job.program)) → RunsAlike job) →
     (text : List ℕ) (p : Program) → Says text p → IsTrue (is_free (freedom_of p)) → AlikeAtAllCounts p
 alike_by law text p says free = λ graph draws first second.
-    law (job_of first draws p graph) says.typed free (ends_of first graph.vertices graph.list) (ends_of second graph.vertices graph.list)
+    law (job_of first draws p graph) says.typed free (ends_of first graph.vertices graph.list)
+    (ends_of second graph.vertices graph.list)

@@ -16,7 +16,8 @@ module _ {X : Type 0} {text : ℕ → X → List ℕ} {texts : ℕ → List X �
   texts-append v (x ∷ xs) ys =
       let there : v + 1 + length xs ≡ v + length (x ∷ xs) = omega arith in
       are.more v x (xs ++ ys)
-      ∙ ap (λ (rest : List ℕ). text v x ++ rest) (texts-append (v + 1) xs ys ∙ ap (λ (k : ℕ). texts (v + 1) xs ++ texts k ys) there)
+      ∙ ap (λ (rest : List ℕ). text v x ++ rest) (texts-append (v + 1) xs ys
+      ∙ ap (λ (k : ℕ). texts (v + 1) xs ++ texts k ys) there)
       ∙ sym (append_assoc (text v x) (texts (v + 1) xs) (texts (v + length (x ∷ xs)) ys))
       ∙ sym (ap (λ (front : List ℕ). front ++ texts (v + length (x ∷ xs)) ys) (are.more v x xs))
 
@@ -24,11 +25,13 @@ module _ {X : Type 0} {text : ℕ → X → List ℕ} {texts : ℕ → List X �
   texts-one v x = are.more v x [] ∙ ap (λ (rest : List ℕ). text v x ++ rest) (are.none (v + 1)) ∙ append-nil (text v x)
 
   -- the texts before an element and its own
-  pub numbered_more : (xs : List X) (i : ℕ) (d : X) (part : List ℕ) → i < length xs → part ≡ text i (get_or xs i d) → texts 0 (take i xs) ++ part ≡ texts 0 (take (i + 1) xs)
+  pub numbered_more : (xs : List X) (i : ℕ) (d : X) (part : List ℕ) → i < length xs → part ≡ text i (get_or xs i d) →
+      texts 0 (take i xs) ++ part ≡ texts 0 (take (i + 1) xs)
   numbered_more xs i d part below is =
       let within : i ≤ length xs = omega arith in
       let place : i ≡ 0 + length (take i xs) = omega (arith, length-take-le i xs within) in
-      ap (λ (rest : List ℕ). texts 0 (take i xs) ++ rest) (is ∙ sym (texts-one i (get_or xs i d)) ∙ ap (λ (k : ℕ). texts k (get_or xs i d ∷ [])) place)
+      ap (λ (rest : List ℕ). texts 0 (take i xs) ++ rest) (is ∙ sym (texts-one i (get_or xs i d))
+      ∙ ap (λ (k : ℕ). texts k (get_or xs i d ∷ [])) place)
       ∙ sym (texts-append 0 (take i xs) (get_or xs i d ∷ []))
       ∙ sym (ap (texts 0) (take_more xs i d below))
 

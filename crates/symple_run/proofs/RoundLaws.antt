@@ -51,7 +51,8 @@ pub none_read : (round v : ℕ) (sources : List VertexId) → length sources ≡
 none_read round v [] none = refl
 none_read round v (u ∷ us) none = absurd (omega arith)
 
-pub few_rounds : (rounds held : List PlayedRound) → rounds ≡ held → AreFew (map told_of held) → All (λ r. IsFew (told_of r)) rounds
+pub few_rounds : (rounds held : List PlayedRound) → rounds ≡ held → AreFew (map told_of held) →
+    All (λ r. IsFew (told_of r)) rounds
 few_rounds rounds held is few =
     subst (λ (rs : List PlayedRound). All (λ r. IsFew (told_of r)) rs) (sym is)
     (All-from_recursion (λ r. IsFew (told_of r)) held (each held (recursion_from_All IsFew (map told_of held) few)))
@@ -66,7 +67,8 @@ pub rounds_then_table :
     flat_map (λ r. told_lines lines (told_of r)) rounds ++ table_text p rows ≡ told_run lines p (map told_of held) rows
 rounds_then_table lines p rounds held rows is =
     ap (λ (text : List ℕ). text ++ table_text p rows)
-    (ap (flat_map (λ (r : PlayedRound). told_lines lines (told_of r))) is ∙ sym (flat_map-map (told_lines lines) told_of held))
+    (ap (flat_map (λ (r : PlayedRound). told_lines lines (told_of r))) is
+    ∙ sym (flat_map-map (told_lines lines) told_of held))
 
 -- what isn't empty has some
 pub not_empty : {X : Type 0} (xs : List X) (b : Bool) → b ≡ (length xs == 0) → b ≡ false → length xs ≡ 0 → ⊥

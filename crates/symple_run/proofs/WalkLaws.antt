@@ -31,46 +31,61 @@ module _ (courses : Play → Course → Type 0) where
 
   -- the program was loaded and read, and then the rest came
   pub program_goes :
-      (old new : Kept) (name : List ℕ) (typed : Typed) → HasProgram old new name typed → (next : Program → Order) (out : Held) (input : Left) (after : Outside) (outcome : Option Fault) →
-      Leaves courses (next typed.program) (outside new out input) after outcome → Leaves courses (with_program name next) (outside old out input) after outcome
+      (old new : Kept) (name : List ℕ) (typed : Typed) → HasProgram old new name typed →
+      (next : Program → Order) (out : Held) (input : Left) (after : Outside) (outcome : Option Fault) →
+      Leaves courses (next typed.program) (outside new out input) after outcome →
+      Leaves courses (with_program name next) (outside old out input) after outcome
   program_goes old new name typed has next out input after outcome rest =
       let P : Kept → Type 0 = λ k. Leaves courses (next typed.program) (outside k out input) after outcome in
       Loaded has.text has.under has.within (IsProgram typed.program has.says (subst P has.same rest))
 
   -- there is no program, and the command ended
   pub program_stops :
-      (old new : Kept) (name : List ℕ) (fault : Fault) → NoProgram old new name fault → (next : Program → Order) (out : Held) (input : Left) →
+      (old new : Kept) (name : List ℕ) (fault : Fault) → NoProgram old new name fault →
+      (next : Program → Order) (out : Held) (input : Left) →
       Leaves courses (with_program name next) (outside old out input) (outside new out input) (Some fault)
   program_stops old new name fault (NoText why) next out input = NotLoaded fault why refl refl
   program_stops old new name fault (BadText text under within refusal refuses same is) next out input =
-      Loaded text under within (IsRefused refusal refuses (record { same = same_shelf old new out input same; fault_is = ap Some is }))
-  program_stops old new name fault (WantsForText same is) next out input = WantsAtLoad (record { same = same_shelf old new out input same; memory = ap Some is })
+      Loaded text under within (IsRefused refusal refuses
+      (record { same = same_shelf old new out input same; fault_is = ap Some is }))
+  program_stops old new name fault (WantsForText same is) next out input = WantsAtLoad
+      (record { same = same_shelf old new out input same; memory = ap Some is })
 
   pub graph_goes :
-      (old new : Kept) (form : GraphForm) (name : List ℕ) (graph : Graph) → HasGraph old new form name graph → (next : Graph → Order) (out : Held) (input : Left) (after : Outside) (outcome : Option Fault) →
-      Leaves courses (next graph) (outside new out input) after outcome → Leaves courses (with_graph form name next) (outside old out input) after outcome
+      (old new : Kept) (form : GraphForm) (name : List ℕ) (graph : Graph) → HasGraph old new form name graph →
+      (next : Graph → Order) (out : Held) (input : Left) (after : Outside) (outcome : Option Fault) →
+      Leaves courses (next graph) (outside new out input) after outcome →
+      Leaves courses (with_graph form name next) (outside old out input) after outcome
   graph_goes old new form name graph has next out input after outcome rest =
       let P : Kept → Type 0 = λ k. Leaves courses (next graph) (outside k out input) after outcome in
-      let Q : Result Graph EdgeFault → Type 0 = λ read. Leaves courses (of_graph read next) (outside old out input) after outcome in
+      let Q : Result Graph EdgeFault → Type 0 = λ read.
+      Leaves courses (of_graph read next) (outside old out input) after outcome in
       Loaded has.bytes has.under has.within (subst Q (sym has.reads) (subst P has.same rest))
 
   pub graph_stops :
-      (old new : Kept) (form : GraphForm) (name : List ℕ) (fault : Fault) → NoGraph old new form name fault → (next : Graph → Order) (out : Held) (input : Left) →
+      (old new : Kept) (form : GraphForm) (name : List ℕ) (fault : Fault) → NoGraph old new form name fault →
+      (next : Graph → Order) (out : Held) (input : Left) →
       Leaves courses (with_graph form name next) (outside old out input) (outside new out input) (Some fault)
   graph_stops old new form name fault (NoFile why) next out input = NotLoaded fault why refl refl
   graph_stops old new form name fault (BadFile bytes under within why reads same is) next out input =
-      let Q : Result Graph EdgeFault → Type 0 = λ read. Leaves courses (of_graph read next) (outside old out input) (outside new out input) (Some fault) in
-      Loaded bytes under within (subst Q (sym reads) (Refused (record { same = same_shelf old new out input same; fault_is = ap Some is })))
-  graph_stops old new form name fault (WantsForFile same is) next out input = WantsAtLoad (record { same = same_shelf old new out input same; memory = ap Some is })
+      let Q : Result Graph EdgeFault → Type 0 = λ read.
+      Leaves courses (of_graph read next) (outside old out input) (outside new out input) (Some fault) in
+      Loaded bytes under within (subst Q (sym reads)
+      (Refused (record { same = same_shelf old new out input same; fault_is = ap Some is })))
+  graph_stops old new form name fault (WantsForFile same is) next out input = WantsAtLoad
+      (record { same = same_shelf old new out input same; memory = ap Some is })
 
   -- ---- a text, and the end
 
   pub put_ends :
-      (text : List ℕ) (old new : Held) (result : Result (Unit {0}) Failure) → Plays text old new result → (shelf : Kept) (input : Left) →
+      (text : List ℕ) (old new : Held) (result : Result (Unit {0}) Failure) → Plays text old new result →
+      (shelf : Kept) (input : Left) →
       Leaves courses (Puts text Ends) (outside shelf old input) (outside shelf new input) (fault_after result)
-  put_ends text old new (Ok done) plays shelf input = Gained new.spare plays.spared (record { same = ap (λ (h : Held). outside shelf h input) plays.same; fine = refl })
+  put_ends text old new (Ok done) plays shelf input = Gained new.spare plays.spared
+      (record { same = ap (λ (h : Held). outside shelf h input) plays.same; fine = refl })
   put_ends text old new (Err failure.Write) plays shelf input = NotPut plays refl refl
-  put_ends text old new (Err failure.Memory) plays shelf input = WantsAtPut (record { same = ap (λ (h : Held). outside shelf h input) plays; memory = refl })
+  put_ends text old new (Err failure.Memory) plays shelf input = WantsAtPut
+      (record { same = ap (λ (h : Held). outside shelf h input) plays; memory = refl })
   put_ends text old new (Err failure.Command) plays shelf input = absurd plays
   put_ends text old new (Err failure.Words) plays shelf input = absurd plays
   put_ends text old new (Err (failure.Load name)) plays shelf input = absurd plays
@@ -81,8 +96,10 @@ module _ (courses : Play → Course → Type 0) where
   -- ---- words
 
   -- what an order leaves, another leaves that is the same
-  pub as_order : (first second : Order) (w after : Outside) (outcome : Option Fault) → first ≡ second → Leaves courses first w after outcome → Leaves courses second w after outcome
-  as_order first second w after outcome same leaves = let P : Order → Type 0 = λ o. Leaves courses o w after outcome in subst P same leaves
+  pub as_order : (first second : Order) (w after : Outside) (outcome : Option Fault) → first ≡ second →
+      Leaves courses first w after outcome → Leaves courses second w after outcome
+  as_order first second w after outcome same leaves = let P : Order → Type 0 = λ o. Leaves courses o w after outcome
+      in subst P same leaves
 
   -- a line that isn't performed
   pub refuses : (fault : Fault) (w : Outside) → Leaves courses (Refuses fault) w w (Some fault)
@@ -92,7 +109,8 @@ module _ (courses : Play → Course → Type 0) where
   no_memory w = record { same = refl; memory = refl }
 
   -- memory may want before anything of a line is done
-  run_wants : (job : words.PlainJob) (machines : ℕ) (w : Outside) (log : Bool) → Leaves courses (if log then Refuses BadWords else run_order job machines) w w (Some NoMemory)
+  run_wants : (job : words.PlainJob) (machines : ℕ) (w : Outside) (log : Bool) →
+      Leaves courses (if log then Refuses BadWords else run_order job machines) w w (Some NoMemory)
   run_wants job machines w true = WantsAtRefusal (no_memory w)
   run_wants job machines w false = WantsAtLoad (no_memory w)
 
@@ -110,30 +128,36 @@ module _ (courses : Play → Course → Type 0) where
   asked_wants (words.SplitOf program graph prefix form machines draws) w = WantsAtRefusal (no_memory w)
   asked_wants (words.WorkerOf part rows) w = WantsAtRefusal (no_memory w)
 
-  asked_by_wants : (line : Result words.PlainLine words.LineFault) (w : Outside) → Leaves courses (asked_by line) w w (Some NoMemory)
+  asked_by_wants : (line : Result words.PlainLine words.LineFault) (w : Outside) →
+      Leaves courses (asked_by line) w w (Some NoMemory)
   asked_by_wants (Ok line) w = asked_wants line w
   asked_by_wants (Err words.NoCommand) w = WantsAtRefusal (no_memory w)
   asked_by_wants (Err words.BadWords) w = WantsAtRefusal (no_memory w)
 
   -- the words were no line
-  words_stop : (texts : List (List ℕ)) (w : Outside) (why : WordFault) → Faults (words.line_of texts) why → Leaves courses (order_of texts) w w (Some (fault_of (failure_for why)))
+  words_stop : (texts : List (List ℕ)) (w : Outside) (why : WordFault) → Faults (words.line_of texts) why →
+      Leaves courses (order_of texts) w w (Some (fault_of (failure_for why)))
   words_stop texts w word.Command is =
-      let P : Result words.PlainLine words.LineFault → Type 0 = λ r. Leaves courses (asked_by r) w w (Some (fault_of failure.Command)) in
+      let P : Result words.PlainLine words.LineFault → Type 0 = λ r.
+      Leaves courses (asked_by r) w w (Some (fault_of failure.Command)) in
       subst P (sym is) (refuses (fault_of failure.Command) w)
   words_stop texts w word.Words is =
-      let P : Result words.PlainLine words.LineFault → Type 0 = λ r. Leaves courses (asked_by r) w w (Some (fault_of failure.Words)) in
+      let P : Result words.PlainLine words.LineFault → Type 0 = λ r.
+      Leaves courses (asked_by r) w w (Some (fault_of failure.Words)) in
       subst P (sym is) (refuses (fault_of failure.Words) w)
   words_stop texts w word.Want is = asked_by_wants (words.line_of texts) w
 
   pub words_refused :
-      (texts : List (List ℕ)) (w : Outside) (why : WordFault) → Faults (words.line_of texts) why → (f : Failure) → f ≡ failure_for why → Leaves courses (order_of texts) w w (Some (fault_of f))
+      (texts : List (List ℕ)) (w : Outside) (why : WordFault) → Faults (words.line_of texts) why → (f : Failure) →
+      f ≡ failure_for why → Leaves courses (order_of texts) w w (Some (fault_of f))
   words_refused texts w why faults f is =
       let P : Failure → Type 0 = λ g. Leaves courses (order_of texts) w w (Some (fault_of g)) in
       subst P (sym is) (words_stop texts w why faults)
 
   -- the words were a line, and it was performed
   pub line_obeyed :
-      (texts : List (List ℕ)) (line : words.PlainLine) (w after : Outside) (outcome : Option Fault) → words.line_of texts ≡ Ok line → Leaves courses (asked line) w after outcome →
+      (texts : List (List ℕ)) (line : words.PlainLine) (w after : Outside) (outcome : Option Fault) →
+      words.line_of texts ≡ Ok line → Leaves courses (asked line) w after outcome →
       Leaves courses (order_of texts) w after outcome
   line_obeyed texts line w after outcome is leaves =
       let P : Result words.PlainLine words.LineFault → Type 0 = λ r. Leaves courses (asked_by r) w after outcome in
@@ -141,6 +165,8 @@ module _ (courses : Play → Course → Type 0) where
 
 -- a run that put the text of the source run
 pub run_ends :
-    (play : Play) (old new : Held) (result : Result (Unit {0}) Failure) → Plays (play_text play) old new result → (shelf : Kept) (input : Left) →
+    (play : Play) (old new : Held) (result : Result (Unit {0}) Failure) → Plays (play_text play) old new result →
+    (shelf : Kept) (input : Left) →
     Leaves IsSourceRun (Runs play follows) (outside shelf old input) (outside shelf new input) (fault_after result)
-run_ends play old new result plays shelf input = Ran (Prints (play_text play) IsOver) refl (put_ends IsSourceRun (play_text play) old new result plays shelf input)
+run_ends play old new result plays shelf input = Ran (Prints (play_text play) IsOver) refl
+    (put_ends IsSourceRun (play_text play) old new result plays shelf input)

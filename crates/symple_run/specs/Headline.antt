@@ -33,14 +33,16 @@ Noted (Some fault) notes notes_after =
 
 -- The order of the words left of the outside `w` what stands in `after`, each run in it being one that
 -- `courses` allows, and the status and the note are those of how it ended.
-pub record Answers (courses : Play → Course → Type 0) (texts : List (List ℕ)) (w after : Outside) (notes notes_after : Held) (result : Status) : Type 0 where
+pub record Answers (courses : Play → Course → Type 0) (texts : List (List ℕ)) (w after : Outside)
+    (notes notes_after : Held) (result : Status) : Type 0 where
   pub outcome : Option Fault
   pub leaves : Leaves courses (order_of texts) w after outcome
   pub status_is : result ≡ status_after outcome
   pub noted : Noted outcome notes notes_after
 
 -- no count rose, or that of `out` need not, since it is sure to take all that the order puts
-pub record NothingFails (courses : Play → Course → Type 0) (order : Order) (files : List File) (w after : Outside) : Type 0 where
+pub record NothingFails (courses : Play → Course → Type 0) (order : Order) (files : List File) (w after : Outside) :
+    Type 0 where
   pub no_load : ¬ (Rose w.shelf.loads after.shelf.loads)
   pub no_store : ¬ (Rose w.shelf.stores after.shelf.stores)
   pub no_take : ¬ (Rose w.input.faults after.input.faults)

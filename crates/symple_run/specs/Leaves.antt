@@ -47,7 +47,8 @@ pub data CannotLoad (name : List ℕ) (limit : ℕ) (too_long : Fault) (old new 
       → CannotLoad name limit too_long old new fault
 
 -- the bytes of a file were loaded, and then the rest came; or they were not, and the command ended
-pub data AfterLoad (name : List ℕ) (limit : ℕ) (too_long : Fault) (w new : Outside) (outcome : Option Fault) (rest : List ℕ → Type 0) : Type 0 where
+pub data AfterLoad (name : List ℕ) (limit : ℕ) (too_long : Fault) (w new : Outside) (outcome : Option Fault)
+    (rest : List ℕ → Type 0) : Type 0 where
   Loaded : (bytes : List ℕ) → IsUnder w.shelf.files name (Some bytes) → length bytes ≤ limit → rest bytes
       → AfterLoad name limit too_long w new outcome rest
   NotLoaded : (fault : Fault) → CannotLoad name limit too_long w.shelf new.shelf fault
@@ -66,7 +67,8 @@ HasNoFile None name limit loads loads_after = loads ≤ loads_after
 HasNoFile (Some files) name limit loads loads_after = (loads_after ≡ loads) × IsMore limit (file_named name files)
 
 -- a file was loaded or there is none, and then the rest came; or the shelf failed
-pub data AfterTry (name : List ℕ) (limit : ℕ) (w new : Outside) (outcome : Option Fault) (rest : Option (List ℕ) → ℕ → Type 0) : Type 0 where
+pub data AfterTry (name : List ℕ) (limit : ℕ) (w new : Outside) (outcome : Option Fault) (rest : Option (List ℕ) → ℕ →
+    Type 0) : Type 0 where
   IsThere : (bytes : List ℕ) → IsUnder w.shelf.files name (Some bytes) → length bytes ≤ limit
       → rest (Some bytes) w.shelf.loads → AfterTry name limit w new outcome rest
   IsNone : (loads : ℕ) → HasNoFile w.shelf.files name limit w.shelf.loads loads → rest None loads
@@ -79,14 +81,16 @@ pub data AfterTry (name : List ℕ) (limit : ℕ) (w new : Outside) (outcome : O
 -- ---- what is judged and played
 
 -- the text says a program, and then the rest came; or it is refused
-pub data AfterJudging (text : List ℕ) (w new : Outside) (outcome : Option Fault) (rest : Program → Type 0) : Type 0 where
-  IsProgram : (program : Program) → Says text program → rest program → AfterJudging text w new outcome rest
-  IsRefused : (refusal : Refusal) → RefusesText text refusal → EndsWith (BadProgram refusal) w new outcome
-      → AfterJudging text w new outcome rest
-  WantsAtJudging : Wants w new outcome → AfterJudging text w new outcome rest
+pub data AfterJudging (text : List ℕ) (w new : Outside) (outcome : Option Fault) (rest : Program → Type 0) : Type 0
+  where
+    IsProgram : (program : Program) → Says text program → rest program → AfterJudging text w new outcome rest
+    IsRefused : (refusal : Refusal) → RefusesText text refusal → EndsWith (BadProgram refusal) w new outcome
+        → AfterJudging text w new outcome rest
+    WantsAtJudging : Wants w new outcome → AfterJudging text w new outcome rest
 
 -- the run went this way, and then the rest came
-pub data AfterRun (is_course : Course → Type 0) (w new : Outside) (outcome : Option Fault) (rest : Course → Type 0) : Type 0 where
+pub data AfterRun (is_course : Course → Type 0) (w new : Outside) (outcome : Option Fault) (rest : Course → Type 0) :
+    Type 0 where
   Ran : (course : Course) → is_course course → rest course → AfterRun is_course w new outcome rest
   WantsAtRun : Wants w new outcome → AfterRun is_course w new outcome rest
 
@@ -118,12 +122,13 @@ pub record StoreFails (name : List ℕ) (old new : Kept) : Type 0 where
   pub loads : new.loads ≡ old.loads
 
 -- the bytes stand under the name, and then the rest came; or the store failed
-pub data AfterStore (name bytes : List ℕ) (w new : Outside) (outcome : Option Fault) (rest : Kept → Type 0) : Type 0 where
-  Stored : rest (record w.shelf { files = option_map (with_file name bytes) w.shelf.files })
-      → AfterStore name bytes w new outcome rest
-  NotStored : StoreFails name w.shelf new.shelf → new ≡ record w { shelf = new.shelf } → outcome ≡ Some NoWrite
-      → AfterStore name bytes w new outcome rest
-  WantsAtStore : Wants w new outcome → AfterStore name bytes w new outcome rest
+pub data AfterStore (name bytes : List ℕ) (w new : Outside) (outcome : Option Fault) (rest : Kept → Type 0) : Type 0
+  where
+    Stored : rest (record w.shelf { files = option_map (with_file name bytes) w.shelf.files })
+        → AfterStore name bytes w new outcome rest
+    NotStored : StoreFails name w.shelf new.shelf → new ≡ record w { shelf = new.shelf } → outcome ≡ Some NoWrite
+        → AfterStore name bytes w new outcome rest
+    WantsAtStore : Wants w new outcome → AfterStore name bytes w new outcome rest
 
 -- ---- the input
 
@@ -145,10 +150,12 @@ pub record ServedPart (used : ℕ) (text : List ℕ) (w new : Outside) : Type 0 
   pub shelf : new.shelf ≡ w.shelf
 
 -- the input was served, and then the rest came; or serving ended early
-pub data AfterServing (used : List ℕ → ℕ) (text : List ℕ → List ℕ) (w new : Outside) (outcome : Option Fault) (rest : List ℕ → Held → Left → Type 0) : Type 0 where
+pub data AfterServing (used : List ℕ → ℕ) (text : List ℕ → List ℕ) (w new : Outside) (outcome : Option Fault)
+    (rest : List ℕ → Held → Left → Type 0) : Type 0 where
   Served : (bytes : List ℕ) → IsLeft w.input.bytes bytes → (spare : ℕ)
       → w.out.spare ≤ spare + length (text bytes)
-      → rest bytes (after_text w.out (text bytes) spare) (record w.input { bytes = option_map (drop (used bytes)) w.input.bytes })
+      → rest bytes (after_text w.out (text bytes) spare)
+      (record w.input { bytes = option_map (drop (used bytes)) w.input.bytes })
       → AfterServing used text w new outcome rest
   NotServed : (bytes : List ℕ) → IsLeft w.input.bytes bytes → ServedPart (used bytes) (text bytes) w new
       → CannotServe (text bytes) w new outcome → AfterServing used text w new outcome rest

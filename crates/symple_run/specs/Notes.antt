@@ -39,9 +39,12 @@ note_text BadWords = codes "symple: bad arguments\n"
 note_text (NoLoad name) = codes "symple: cannot read " ++ (name ++ codes "\n")
 note_text (BadProgram refusal) =
     codes "symple: program: "
-    ++ (stage_letter refusal.stage ++ (decimal refusal.number ++ (codes " at " ++ (decimal refusal.span.line ++ (codes ":" ++ (decimal refusal.span.column ++ codes "\n"))))))
-note_text (BadLine code line) = codes "symple: graph: E" ++ (decimal code ++ (codes " at line " ++ (decimal line ++ codes "\n")))
-note_text (BadByte code at) = codes "symple: graph: E" ++ (decimal code ++ (codes " at byte " ++ (decimal at ++ codes "\n")))
+    ++ (stage_letter refusal.stage ++ (decimal refusal.number
+    ++ (codes " at " ++ (decimal refusal.span.line ++ (codes ":" ++ (decimal refusal.span.column ++ codes "\n"))))))
+note_text (BadLine code line) = codes "symple: graph: E"
+    ++ (decimal code ++ (codes " at line " ++ (decimal line ++ codes "\n")))
+note_text (BadByte code at) = codes "symple: graph: E"
+    ++ (decimal code ++ (codes " at byte " ++ (decimal at ++ codes "\n")))
 note_text NoWrite = codes "symple: cannot write\n"
 note_text NoMemory = codes "symple: out of memory\n"
 

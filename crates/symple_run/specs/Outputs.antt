@@ -43,7 +43,8 @@ read_lines round v (us ∷ others) = read_line round v us ++ read_lines round (v
 
 -- what is asked for of the lines of a round: `--rounds`, and then `--reads`
 abbrev pub told_lines : Lines → Told → List ℕ
-told_lines lines told = (if lines.rounds then told_text told else []) ++ (if lines.reads then read_lines told.round 0 told.reads else [])
+told_lines lines told = (if lines.rounds then told_text told else [])
+    ++ (if lines.reads then read_lines told.round 0 told.reads else [])
 
 -- the lines of the rounds, and then the table of the last rows
 abbrev pub told_run : Lines → Program → List Told → List Row → List ℕ
@@ -54,10 +55,12 @@ text_of_run lines program run = told_run lines program (rounds_told lines.reads 
 
 -- what the source run of a program puts
 abbrev pub play_text : Play → List ℕ
-play_text play = text_of_run play.lines play.program (source_run (job_of play.machines play.draws play.program play.graph))
+play_text play = text_of_run play.lines play.program
+    (source_run (job_of play.machines play.draws play.program play.graph))
 
 abbrev pub chunk_text : ℕ → ℕ → ℕ → List ℕ
-chunk_text chunk start end = codes "chunk " ++ decimal chunk ++ codes " " ++ decimal start ++ codes " " ++ decimal end ++ codes "\n"
+chunk_text chunk start end = codes "chunk " ++ decimal chunk ++ codes " " ++ decimal start ++ codes " " ++ decimal end
+    ++ codes "\n"
 
 -- the line of each chunk, by their ends
 abbrev pub chunk_line : List ℕ → ℕ → List ℕ
@@ -69,7 +72,8 @@ chunks_text ends = flat_map (chunk_line ends) (range_with_len 0 (length ends))
 -- in a step a machine works on a chunk, by the circulant plan
 abbrev pub step_text : ℕ → ℕ → ℕ → List ℕ
 step_text machines step machine =
-    codes "step " ++ decimal step ++ codes " machine " ++ decimal machine ++ codes " chunk " ++ decimal (chunk_of machine step machines) ++ codes "\n"
+    codes "step " ++ decimal step ++ codes " machine " ++ decimal machine ++ codes " chunk "
+    ++ decimal (chunk_of machine step machines) ++ codes "\n"
 
 -- the lines of a step, for each machine
 abbrev pub machines_text : ℕ → ℕ → List ℕ
@@ -96,7 +100,8 @@ freedom_text p NoLoop = codes "free no-loop\n"
 freedom_text p Reductions = codes "free reductions\n"
 freedom_text p FoundOne = codes "free found-one\n"
 freedom_text p ReachACount = codes "free reach-a-count\n"
-freedom_text p (FirstSlot slot) = codes "not free: first slot " ++ (slot_name p (slice_get p.slots.items slot) ++ codes "\n")
+freedom_text p (FirstSlot slot) = codes "not free: first slot "
+    ++ (slot_name p (slice_get p.slots.items slot) ++ codes "\n")
 freedom_text p OtherLoop = codes "not free: loop\n"
 
 abbrev pub free_text : Program → List ℕ

@@ -95,7 +95,8 @@ Plays text old new (Err _) = ⊥
 -- ---- a command
 
 -- what an order leaves of a shelf and a sink, whatever the input
-abbrev pub Performs : {H O : Type 0} → (H → Option (List File)) → (H → ℕ) → (H → ℕ) → (O → Option (List ℕ)) → (O → ℕ) → (O → ℕ) → Order → H → H → O → O → Result (Unit {0}) Failure → Type 0
+abbrev pub Performs : {H O : Type 0} → (H → Option (List File)) → (H → ℕ) → (H → ℕ) → (O → Option (List ℕ)) →
+    (O → ℕ) → (O → ℕ) → Order → H → H → O → O → Result (Unit {0}) Failure → Type 0
 Performs files loads stores held faults spare order shelf shelf_after out out_after result =
     (input : Left) → Leaves IsSourceRun order
     (outside (shelf_state files loads stores shelf) (sink_state held faults spare out) input)

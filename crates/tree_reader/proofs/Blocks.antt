@@ -18,11 +18,14 @@ use Rattle.vert_grammar.specs.Grammar.{Rights}
 use Rattle.vert_grammar.specs.Reading.{stop, both, made, place, rest, block_of, braced, choose, else_of, statement_at, tree_at}
 use Rattle.tree_reader.specs.Parts.{branch_at}
 
-pub if_view : (names : List (String Global)) (s : Span) (test : Expr) (held : Vec Stmt) (otherwise : Option (Vec Stmt)) → view_statement names (statements.If s test held otherwise) ≡ if_of s (view names test) (view_block names held.items) (option_map (λ b. view_block names b.items) otherwise)
+pub if_view : (names : List (String Global)) (s : Span) (test : Expr) (held : Vec Stmt)
+    (otherwise : Option (Vec Stmt)) → view_statement names (statements.If s test held otherwise)
+    ≡ if_of s (view names test) (view_block names held.items) (option_map (λ b. view_block names b.items) otherwise)
 if_view names s test held None = view-If names s test held
 if_view names s test held (Some otherwise) = view-If_else names s test held otherwise
 
-pub block_view : (names : List (String Global)) (xs : List Stmt) → view_block names xs ≡ block_of (map (view_statement names) xs)
+pub block_view : (names : List (String Global)) (xs : List Stmt) →
+    view_block names xs ≡ block_of (map (view_statement names) xs)
 block_view names [] = refl
 block_view names (x ∷ xs) = ap (More (view_statement names x)) (block_view names xs)
 
@@ -41,7 +44,8 @@ branch_stops r (suc zero) ts lt = refl
 branch_stops r (suc (suc b)) ts lt = absurd (omega arith)
 
 pub branch_step : (r : Rights) (b : ℕ) (ts : List Placed) → (b < 2 → ⊥)
-    → branch_at r b ts ≡ made (λ x. if_of (place ts) x.0 x.1.0 x.1.1) (both (tree_at (b - 1) 6) (both (braced (statement_at r (b - 1))) (else_of (statement_at r (b - 1))))) (rest ts)
+    → branch_at r b ts ≡ made (λ x. if_of (place ts) x.0 x.1.0 x.1.1)
+    (both (tree_at (b - 1) 6) (both (braced (statement_at r (b - 1))) (else_of (statement_at r (b - 1))))) (rest ts)
 branch_step r zero ts n = absurd (omega arith)
 branch_step r (suc b) ts n =
     let e : suc b - 1 ≡ b = omega arith in

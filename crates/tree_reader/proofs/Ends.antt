@@ -10,7 +10,8 @@ use Rattle.vert_grammar.specs.Reading.{all_of, program_at, stop}
 use Rattle.tree_reader.specs.declared.sign.Sign.{Sign}
 use Rattle.tree_reader.specs.Signs.{plain}
 
-pub left_over : (names : List (String Global)) (l : Limits) (ts : List Placed) (p : ProgramTree) (r : List Sign) → program_at l ts ≡ Ok (p, plain names r) → 1 ≤ length r → all_of l ts ≡ stop Unexpected (plain names r)
+pub left_over : (names : List (String Global)) (l : Limits) (ts : List Placed) (p : ProgramTree) (r : List Sign) →
+    program_at l ts ≡ Ok (p, plain names r) → 1 ≤ length r → all_of l ts ≡ stop Unexpected (plain names r)
 unfolding all_of
 left_over names l ts p [] e h = absurd (omega arith)
 left_over names l ts p (x ∷ xs) e h = rw e refl

@@ -16,7 +16,8 @@ use Rattle.tree_reader.specs.Signs.{Fails, plain, plain_why}
 abbrev pub with_front : {A : Type 0} → List A → Res (List A) → Res (List A)
 with_front front q = q >>= λ x. Ok (front ++ x.0, x.1)
 
-regroup : {A : Type 0} (front : List A) (y : A) (q : Res (List A)) → with_front front (in_front y q) ≡ with_front (front ++ y ∷ []) q
+regroup : {A : Type 0} (front : List A) (y : A) (q : Res (List A)) →
+    with_front front (in_front y q) ≡ with_front (front ++ y ∷ []) q
 regroup front y (Ok x) = ap (λ l. Ok (l, x.1)) (sym (append_assoc front (y ∷ []) x.0))
 regroup front y (Err s) = refl
 
@@ -26,20 +27,24 @@ starts (Err s) = refl
 
 module _ {A : Type 0} (f : Kind → Bool) (p : Parser A) (front : List A) (total : Res (List A)) (ts : List Placed) where
   -- ---- at most so many
-  pub goes_on : (n m : ℕ) (y : A) (after : List Placed) → n ≡ suc m → begins f ts ≡ true → p ts ≡ Ok (y, after) → with_front front (up_to f p n ts) ≡ total → with_front (front ++ y ∷ []) (up_to f p m after) ≡ total
+  pub goes_on : (n m : ℕ) (y : A) (after : List Placed) → n ≡ suc m → begins f ts ≡ true → p ts ≡ Ok (y, after) →
+      with_front front (up_to f p n ts) ≡ total → with_front (front ++ y ∷ []) (up_to f p m after) ≡ total
   unfolding up_to
   goes_on n m y after e b h so_far =
       let one : up_to f p (suc m) ts ≡ in_front y (up_to f p m after) = rw (b, h) refl in
-      sym (regroup front y (up_to f p m after)) ∙ ap (with_front front) (sym one) ∙ ap (λ k. with_front front (up_to f p k ts)) (sym e) ∙ so_far
+      sym (regroup front y (up_to f p m after)) ∙ ap (with_front front) (sym one)
+      ∙ ap (λ k. with_front front (up_to f p k ts)) (sym e) ∙ so_far
 
-  pub fails : (names : List (String Global)) (n m : ℕ) (e : Halt) → n ≡ suc m → begins f ts ≡ true → Fails names e (p ts) → with_front front (up_to f p n ts) ≡ total → Fails names e total
+  pub fails : (names : List (String Global)) (n m : ℕ) (e : Halt) → n ≡ suc m → begins f ts ≡ true →
+      Fails names e (p ts) → with_front front (up_to f p n ts) ≡ total → Fails names e total
   unfolding up_to
   fails names n m halts.Memory e b h so_far = tt
   fails names n m (halts.Fault w l) e b h so_far =
       let one : up_to f p (suc m) ts ≡ Err (record { why = plain_why w; rest = plain names l.now }) = rw (b, h) refl in
       sym so_far ∙ ap (λ k. with_front front (up_to f p k ts)) e ∙ ap (with_front front) one
 
-  pub is_full : (n : ℕ) → n ≡ 0 → begins f ts ≡ true → with_front front (up_to f p n ts) ≡ total → total ≡ stop TooMany ts
+  pub is_full : (n : ℕ) → n ≡ 0 → begins f ts ≡ true → with_front front (up_to f p n ts) ≡ total →
+      total ≡ stop TooMany ts
   unfolding up_to
   is_full n e b so_far =
       let one : up_to f p zero ts ≡ stop TooMany ts = rw b refl in
@@ -71,28 +76,39 @@ module _ {A : Type 0} (f : Kind → Bool) (p : Parser A) where
   unfolding many
   many_starts ts = record { bound = length ts; enough = omega arith; read = starts (many_from f p (length ts) ts) }
 
-  pub many_goes_on : (front : List A) (ts all after : List Placed) (y : A) → IsMany f p front ts all → begins f ts ≡ true → p ts ≡ Ok (y, after) → length after + 1 ≤ length ts → IsMany f p (front ++ y ∷ []) after all
+  pub many_goes_on : (front : List A) (ts all after : List Placed) (y : A) → IsMany f p front ts all →
+      begins f ts ≡ true → p ts ≡ Ok (y, after) → length after + 1 ≤ length ts → IsMany f p (front ++ y ∷ []) after all
   unfolding many_from
   many_goes_on front ts all after y m b h less = go m.bound m.enough m.read
     where
-      go : (n : ℕ) → length ts ≤ n → with_front front (many_from f p n ts) ≡ many f p all → IsMany f p (front ++ y ∷ []) after all
+      go : (n : ℕ) → length ts ≤ n → with_front front (many_from f p n ts) ≡ many f p all →
+          IsMany f p (front ++ y ∷ []) after all
       go zero en g = absurd (let l = begun f ts b in omega arith)
       go (suc n) en g =
           let one : many_from f p (suc n) ts ≡ in_front y (many_from f p n after) = rw (b, h) refl in
-          record { bound = n; enough = omega arith; read = sym (regroup front y (many_from f p n after)) ∙ ap (with_front front) (sym one) ∙ g }
+          record {
+            bound = n;
+            enough = omega arith;
+            read = sym (regroup front y (many_from f p n after))
+                ∙ ap (with_front front) (sym one) ∙ g;
+          }
 
-  pub many_fails : (names : List (String Global)) (front : List A) (ts all : List Placed) (e : Halt) → IsMany f p front ts all → begins f ts ≡ true → Fails names e (p ts) → Fails names e (many f p all)
+  pub many_fails : (names : List (String Global)) (front : List A) (ts all : List Placed) (e : Halt) →
+      IsMany f p front ts all → begins f ts ≡ true → Fails names e (p ts) → Fails names e (many f p all)
   unfolding many_from
   many_fails names front ts all halts.Memory m b h = tt
   many_fails names front ts all (halts.Fault w l) m b h = go m.bound m.enough m.read
     where
-      go : (n : ℕ) → length ts ≤ n → with_front front (many_from f p n ts) ≡ many f p all → many f p all ≡ Err (record { why = plain_why w; rest = plain names l.now })
+      go : (n : ℕ) → length ts ≤ n → with_front front (many_from f p n ts) ≡ many f p all →
+          many f p all ≡ Err (record { why = plain_why w; rest = plain names l.now })
       go zero en g = absurd (let k = begun f ts b in omega arith)
       go (suc n) en g =
-          let one : many_from f p (suc n) ts ≡ Err (record { why = plain_why w; rest = plain names l.now }) = rw (b, h) refl in
+          let one : many_from f p (suc n) ts
+          ≡ Err (record { why = plain_why w; rest = plain names l.now }) = rw (b, h) refl in
           sym g ∙ ap (with_front front) one
 
-  pub many_over : (front : List A) (ts all : List Placed) → IsMany f p front ts all → begins f ts ≡ false → many f p all ≡ Ok (front, ts)
+  pub many_over : (front : List A) (ts all : List Placed) → IsMany f p front ts all → begins f ts ≡ false →
+      many f p all ≡ Ok (front, ts)
   unfolding many_from
   many_over front ts all m b = go m.bound m.read
     where

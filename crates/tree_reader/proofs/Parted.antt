@@ -20,7 +20,8 @@ abbrev then_part : {A B : Type 0} → Parser B → A × List Placed → Res (A �
 then_part q x = q x.1 >>= behind x.0
 
 -- what is made of the second part where the first is read
-beside : {A B C : Type 0} (a : A) (f : A × B → C) (r : Res B) → ((r >>= behind a) >>= through f) ≡ (r >>= through (λ y. f (a, y)))
+beside : {A B C : Type 0} (a : A) (f : A × B → C) (r : Res B) →
+    ((r >>= behind a) >>= through f) ≡ (r >>= through (λ y. f (a, y)))
 beside a f (Ok y) = refl
 beside a f (Err e) = refl
 
@@ -35,7 +36,8 @@ made_of_both {A = A} p q q' f f' h ts = go (p ts)
     go (Err e) = refl
 
 -- what is made in two steps
-made_twice : {A B C : Type 0} (g : A → B) (f : B → C) (p : Parser A) (ts : List Placed) → made (λ x. f (g x)) p ts ≡ made f (made g p) ts
+made_twice : {A B C : Type 0} (g : A → B) (f : B → C) (p : Parser A) (ts : List Placed) →
+    made (λ x. f (g x)) p ts ≡ made f (made g p) ts
 made_twice {A = A} g f p ts = go (p ts)
   where
     go : (r : Res A) → (r >>= through (λ x. f (g x))) ≡ ((r >>= through g) >>= through f)
@@ -45,7 +47,8 @@ made_twice {A = A} g f p ts = go (p ts)
 abbrev parted : Parser DenseBlock
 parted =
     made (λ x. record { test = x.1.1.0.0; lets = x.1.1.1.0; body = x.1.1.1.1.0; tail = x.1.1.1.1.1 })
-    (both (the_word word.DENSE) (both (the_word word.WHEN) (both (ended_by mark.LEFT_BRACE 64) (both (up_to (is_word word.LET) (declaration_at word.LET 64) 8) loop_at))))
+    (both (the_word word.DENSE) (both (the_word word.WHEN)
+    (both (ended_by mark.LEFT_BRACE 64) (both (up_to (is_word word.LET) (declaration_at word.LET 64) 8) loop_at))))
 
 pub dense_step : (ts : List Placed) → dense_at limits ts ≡ parted ts
 unfolding dense_at

@@ -29,13 +29,15 @@ pair_at b = made (λ x. (x.1.0, x.1.1.1.0)) (two_of (tree_at b))
 -- an `if`, where so many nodes may be nested
 abbrev pub branch_at : Rights → ℕ → Parser Statement
 branch_at r zero = stop TooDeep
-branch_at r (suc b) = node b (λ s x. if_of s x.0 x.1.0 x.1.1) (both (tree_at b 6) (both (braced (statement_at r b)) (else_of (statement_at r b))))
+branch_at r (suc b) = node b (λ s x. if_of s x.0 x.1.0 x.1.1)
+    (both (tree_at b 6) (both (braced (statement_at r b)) (else_of (statement_at r b))))
 
 -- the loop body and the tail of a dense block
 abbrev pub loop_at : Parser (Statements × Statements)
 loop_at =
     made (λ x. (x.1.1.1.0, x.1.1.1.1.1.0))
-    (both (the_word word.FOR) (both (the_word word.U) (both (the_mark mark.LEFT_BRACE) (both (block_at loop_rights 64) (both (the_mark mark.RIGHT_BRACE)
+    (both (the_word word.FOR) (both (the_word word.U)
+    (both (the_mark mark.LEFT_BRACE) (both (block_at loop_rights 64) (both (the_mark mark.RIGHT_BRACE)
     (both (block_at tail_rights 64) (the_mark mark.RIGHT_BRACE)))))))
 
 -- the blocks behind the dense one
@@ -43,4 +45,5 @@ abbrev pub LaterBlocks : Type 0
 LaterBlocks = Option SparseBlock × (Statements × Option Tree)
 
 abbrev pub later_at : ℕ → Parser LaterBlocks
-later_at version = both (maybe (is_word word.SPARSE) (sparse_at limits)) (both (update_at 64) (maybe (is_stop version) (stop_at 64)))
+later_at version = both (maybe (is_word word.SPARSE) (sparse_at limits))
+    (both (update_at 64) (maybe (is_stop version) (stop_at 64)))

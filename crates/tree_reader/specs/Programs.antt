@@ -17,13 +17,22 @@ view_head h = (h.version, ((h.mode_at, h.mode), (h.limit_at, h.limit)))
 
 module _ (names : List (String Global)) where
   abbrev pub view_declared : Declared → DeclaredNames
-  view_declared d = (map (view_declaration names) d.fields.items, (map (view_slot names) d.slots.items, map (view_total names) d.totals.items))
+  view_declared d = (
+    map (view_declaration names) d.fields.items,
+    (map (view_slot names) d.slots.items, map (view_total names) d.totals.items),
+  )
 
   abbrev pub view_later : Later → LaterBlocks
-  view_later b = (option_map (view_sparse names) b.sparse, (view_block names b.update.items, option_map (view names) b.stop))
+  view_later b = (
+    option_map (view_sparse names) b.sparse,
+    (view_block names b.update.items, option_map (view names) b.stop),
+  )
 
   abbrev pub view_blocks : Blocks → ProgramBlocks
-  view_blocks b = (option_map (view_dense names) b.dense, (option_map (view_sparse names) b.sparse, (view_block names b.update.items, option_map (view names) b.stop)))
+  view_blocks b = (
+    option_map (view_dense names) b.dense,
+    (option_map (view_sparse names) b.sparse, (view_block names b.update.items, option_map (view names) b.stop)),
+  )
 
   -- a program whose names have these texts
   abbrev pub view_named : Program → ProgramTree

@@ -47,7 +47,9 @@ fn other_builtin(word: u8) -> Option<Builtin>
 
 /// The node that a word is, where it stands for a value.
 fn word_node(word: u8) -> Option<Node>
-    ensures { result ≡ (if is_truth (Reserved word) then Some (nodes.Bool (is_word TRUE (Reserved word))) else (if is_builtin (Reserved word) then Some (nodes.Word (builtin_of word)) else None)) }
+    ensures { result ≡ (if is_truth (Reserved word)
+        then Some (nodes.Bool (is_word TRUE (Reserved word)))
+        else (if is_builtin (Reserved word) then Some (nodes.Word (builtin_of word)) else None)) }
 {
     match word {
         words::TRUE => Some(Node::Bool(true)),
@@ -58,7 +60,11 @@ fn word_node(word: u8) -> Option<Node>
 
 /// The node that a token of one token is, where it is one.
 fn atom_node(kind: SignKind) -> Option<Node>
-    ensures { (names : List (String Global)) → MatchOption result (is_atom (plain_kind names kind) ≡ false) (λ node. (is_atom (plain_kind names kind) ≡ true) × ((s : Span) → view_node names s node ≡ atom_of s (plain_kind names kind)) × ((s : Span) → depth (view_node names s node) ≡ 1)) }
+    ensures { (names : List (String Global)) →
+        MatchOption result (is_atom (plain_kind names kind) ≡ false) (λ node.
+        (is_atom (plain_kind names kind) ≡ true) ×
+        ((s : Span) → view_node names s node ≡ atom_of s (plain_kind names kind)) ×
+        ((s : Span) → depth (view_node names s node) ≡ 1)) }
 {
     match kind {
         SignKind::Number(number) => Some(Node::Int(number.value as i64)),
@@ -72,7 +78,9 @@ impl Reader {
     #[tactic(auto, unfolding(vert_grammar::specs::Reading::single))]
     fn atom<'a>(&self, tokens: &'a [Sign]) -> Result<(Expr, &'a [Sign]), Halt<'a>>
         ensures depth { IfOk result (λ x. depth (view self.now.names.items x.0) ≡ 1) }
-        ensures read { Gives self.now.names.items (λ x. (view self.now.names.items x.0, plain self.now.names.items x.1.now)) result (single is_atom atom_of (plain self.now.names.items tokens.now)) }
+        ensures read { Gives self.now.names.items (λ x.
+            (view self.now.names.items x.0, plain self.now.names.items x.1.now)) result
+            (single is_atom atom_of (plain self.now.names.items tokens.now)) }
     {
         match tokens {
             [] => Err(Halt::Fault(Why::Unexpected, tokens)),
@@ -87,7 +95,9 @@ impl Reader {
     #[tactic(auto, unfolding(vert_grammar::specs::Reading::named_at, vert_grammar::specs::Reading::single))]
     fn named<'a>(&self, tokens: &'a [Sign]) -> Result<(Expr, &'a [Sign]), Halt<'a>>
         ensures depth { IfOk result (λ x. depth (view self.now.names.items x.0) ≡ 1) }
-        ensures read { Gives self.now.names.items (λ x. (view self.now.names.items x.0, plain self.now.names.items x.1.now)) result (named_at (plain self.now.names.items tokens.now)) }
+        ensures read { Gives self.now.names.items (λ x.
+            (view self.now.names.items x.0, plain self.now.names.items x.1.now)) result
+            (named_at (plain self.now.names.items tokens.now)) }
     {
         let (name, tokens) = self.name(tokens)?;
         let span = name.span;
@@ -110,7 +120,9 @@ impl Reader {
     #[tactic(auto, unfolding(vert_grammar::specs::Reading::other_at, vert_grammar::specs::Reading::single))]
     fn other<'a>(&self, tokens: &'a [Sign]) -> Result<(Expr, &'a [Sign]), Halt<'a>>
         ensures depth { IfOk result (λ x. depth (view self.now.names.items x.0) ≡ 1) }
-        ensures read { Gives self.now.names.items (λ x. (view self.now.names.items x.0, plain self.now.names.items x.1.now)) result (other_at (plain self.now.names.items tokens.now)) }
+        ensures read { Gives self.now.names.items (λ x.
+            (view self.now.names.items x.0, plain self.now.names.items x.1.now)) result
+            (other_at (plain self.now.names.items tokens.now)) }
     {
         let (span, tokens) = self.word(words::U, tokens)?;
         let (_, tokens) = self.mark(marks::DOT, tokens)?;
@@ -130,7 +142,9 @@ impl Reader {
 
     /// The word that the first token is, if it may stand behind `u.`.
     fn other_word(&self, tokens: &[Sign]) -> Option<Builtin>
-        ensures { result ≡ (if begins is_other_word (plain self.now.names.items tokens.now) then Some (builtin_of (word_in (kind (plain self.now.names.items tokens.now)))) else None) }
+        ensures { result ≡ (if begins is_other_word (plain self.now.names.items tokens.now)
+            then Some (builtin_of (word_in (kind (plain self.now.names.items tokens.now))))
+            else None) }
     {
         match tokens {
             [] => None,
@@ -145,7 +159,9 @@ impl Reader {
     #[tactic(auto, unfolding(vert_grammar::specs::Reading::draw_at))]
     fn draw<'a>(&self, tokens: &'a [Sign]) -> Result<(Expr, &'a [Sign]), Halt<'a>>
         ensures depth { IfOk result (λ x. depth (view self.now.names.items x.0) ≡ 1) }
-        ensures read { Gives self.now.names.items (λ x. (view self.now.names.items x.0, plain self.now.names.items x.1.now)) result (draw_at (plain self.now.names.items tokens.now)) }
+        ensures read { Gives self.now.names.items (λ x.
+            (view self.now.names.items x.0, plain self.now.names.items x.1.now)) result
+            (draw_at (plain self.now.names.items tokens.now)) }
     {
         let (span, tokens) = self.word(words::DRAW, tokens)?;
         let (_, tokens) = self.mark(marks::LEFT_PARENTHESIS, tokens)?;
@@ -158,7 +174,9 @@ impl Reader {
     /// An expression that no other is part of, and what follows it.
     pub(crate) fn plain<'a>(&self, tokens: &'a [Sign]) -> Result<(Expr, &'a [Sign]), Halt<'a>>
         ensures depth { IfOk result (λ x. depth (view self.now.names.items x.0) ≡ 1) }
-        ensures read { Gives self.now.names.items (λ x. (view self.now.names.items x.0, plain self.now.names.items x.1.now)) result (plain_at (plain self.now.names.items tokens.now)) }
+        ensures read { Gives self.now.names.items (λ x.
+            (view self.now.names.items x.0, plain self.now.names.items x.1.now)) result
+            (plain_at (plain self.now.names.items tokens.now)) }
     {
         if self.begins_name(tokens) {
             return self.named(tokens);

@@ -28,7 +28,8 @@ const TOTAL: &[u8] = b"total";
 
 /// How a word combines values, where it says so.
 fn combine(word: u8) -> Option<Combine>
-    ensures { result ≡ (if is_combine (Reserved word) then Some (combine_of (Reserved word)) else None) }
+    ensures { result ≡ (if is_combine (Reserved word) then Some (combine_of (Reserved word))
+        else None) }
 {
     match word {
         words::MIN => Some(Combine::Min),
@@ -41,7 +42,8 @@ fn combine(word: u8) -> Option<Combine>
 
 /// The same where a total may combine so.
 fn fold(word: u8) -> Option<Combine>
-    ensures { result ≡ (if is_fold_at (Reserved word) then Some (combine_of (Reserved word)) else None) }
+    ensures { result ≡ (if is_fold_at (Reserved word) then Some (combine_of (Reserved word))
+        else None) }
 {
     match combine(word)? {
         Combine::First => None,
@@ -52,7 +54,8 @@ fn fold(word: u8) -> Option<Combine>
 impl Reader {
     /// Whether the first token is a name of this text and may be it.
     pub(crate) fn may_text(&self, may: bool, text: &[u8], tokens: &[Sign]) -> bool
-        ensures { result ≡ begins (λ k. may && is_named text.now k) (plain self.now.names.items tokens.now) }
+        ensures { result ≡ begins (λ k. may && is_named text.now k)
+            (plain self.now.names.items tokens.now) }
     {
         match tokens {
             [] => false,
@@ -80,7 +83,8 @@ impl Reader {
         text: &[u8],
         tokens: &'a [Sign],
     ) -> Result<(Span, &'a [Sign]), Halt<'a>>
-        ensures { Gives self.now.names.items (λ x. (x.0, plain self.now.names.items x.1.now)) result (expect (Name text.now) (plain self.now.names.items tokens.now)) }
+        ensures { Gives self.now.names.items (λ x. (x.0, plain self.now.names.items x.1.now))
+            result (expect (Name text.now) (plain self.now.names.items tokens.now)) }
     {
         if !self.may_text(true, text, tokens) {
             return Err(Halt::Fault(Why::Unexpected, tokens));
@@ -91,7 +95,8 @@ impl Reader {
     /// A type and what follows it.
     #[tactic(auto, unfolding(vert_grammar::specs::Reading::type_at, vert_grammar::specs::Reading::single))]
     fn value_type<'a>(&self, tokens: &'a [Sign]) -> Result<(ValueType, &'a [Sign]), Halt<'a>>
-        ensures { Gives self.now.names.items (λ x. (x.0, plain self.now.names.items x.1.now)) result (type_at (plain self.now.names.items tokens.now)) }
+        ensures { Gives self.now.names.items (λ x. (x.0, plain self.now.names.items x.1.now))
+            result (type_at (plain self.now.names.items tokens.now)) }
     {
         if self.begins_word(words::INT, tokens) {
             return Ok((ValueType::Int, self.rest(tokens)));
@@ -105,7 +110,9 @@ impl Reader {
     /// How a slot combines, and what follows.
     #[tactic(auto, unfolding(vert_grammar::specs::Reading::single))]
     fn combine<'a>(&self, tokens: &'a [Sign]) -> Result<(Combine, &'a [Sign]), Halt<'a>>
-        ensures { Gives self.now.names.items (λ x. (x.0, plain self.now.names.items x.1.now)) result (single is_combine (λ s k. combine_of k) (plain self.now.names.items tokens.now)) }
+        ensures { Gives self.now.names.items (λ x. (x.0, plain self.now.names.items x.1.now))
+            result (single is_combine (λ s k. combine_of k)
+            (plain self.now.names.items tokens.now)) }
     {
         match tokens {
             [] => Err(Halt::Fault(Why::Unexpected, tokens)),
@@ -122,7 +129,9 @@ impl Reader {
     /// How a total combines, and what follows.
     #[tactic(auto, unfolding(vert_grammar::specs::Reading::single))]
     fn fold<'a>(&self, tokens: &'a [Sign]) -> Result<(Combine, &'a [Sign]), Halt<'a>>
-        ensures { Gives self.now.names.items (λ x. (x.0, plain self.now.names.items x.1.now)) result (single is_fold_at (λ s k. combine_of k) (plain self.now.names.items tokens.now)) }
+        ensures { Gives self.now.names.items (λ x. (x.0, plain self.now.names.items x.1.now))
+            result (single is_fold_at (λ s k. combine_of k)
+            (plain self.now.names.items tokens.now)) }
     {
         match tokens {
             [] => Err(Halt::Fault(Why::Unexpected, tokens)),
@@ -143,7 +152,9 @@ impl Reader {
         keyword: u8,
         tokens: &'a [Sign],
     ) -> Result<(Decl, &'a [Sign]), Halt<'a>>
-        ensures { Gives self.now.names.items (λ x. (view_declaration self.now.names.items x.0, plain self.now.names.items x.1.now)) result (declaration_at keyword 64 (plain self.now.names.items tokens.now)) }
+        ensures { Gives self.now.names.items (λ x.
+            (view_declaration self.now.names.items x.0, plain self.now.names.items x.1.now)) result
+            (declaration_at keyword 64 (plain self.now.names.items tokens.now)) }
     {
         let (_, tokens) = self.word(keyword, tokens)?;
         let (name, tokens) = self.name(tokens)?;
@@ -157,7 +168,9 @@ impl Reader {
     /// A slot and what follows it.
     #[tactic(auto, unfolding(vert_grammar::specs::Reading::slot_at))]
     fn slot<'a>(&self, tokens: &'a [Sign]) -> Result<(SlotDecl, &'a [Sign]), Halt<'a>>
-        ensures { Gives self.now.names.items (λ x. (view_slot self.now.names.items x.0, plain self.now.names.items x.1.now)) result (slot_at (plain self.now.names.items tokens.now)) }
+        ensures { Gives self.now.names.items (λ x.
+            (view_slot self.now.names.items x.0, plain self.now.names.items x.1.now)) result
+            (slot_at (plain self.now.names.items tokens.now)) }
     {
         let (_, tokens) = self.word(words::SLOT, tokens)?;
         let (name, tokens) = self.name(tokens)?;
@@ -170,7 +183,9 @@ impl Reader {
     /// A total and what follows it.
     #[tactic(auto, unfolding(vert_grammar::specs::Reading::total_at))]
     fn total<'a>(&self, tokens: &'a [Sign]) -> Result<(TotalDecl, &'a [Sign]), Halt<'a>>
-        ensures { Gives self.now.names.items (λ x. (view_total self.now.names.items x.0, plain self.now.names.items x.1.now)) result (total_at 64 (plain self.now.names.items tokens.now)) }
+        ensures { Gives self.now.names.items (λ x.
+            (view_total self.now.names.items x.0, plain self.now.names.items x.1.now)) result
+            (total_at 64 (plain self.now.names.items tokens.now)) }
     {
         let (_, tokens) = self.text(TOTAL, tokens)?;
         let (name, tokens) = self.name(tokens)?;
@@ -188,7 +203,12 @@ impl Reader {
         limit: usize,
         tokens: &'a [Sign],
     ) -> Result<(Vec<Decl>, &'a [Sign]), Halt<'a>>
-        ensures { Gives self.now.names.items (λ x. (map (view_declaration self.now.names.items) x.0.items, plain self.now.names.items x.1.now)) result (up_to (is_word keyword) (declaration_at keyword 64) limit (plain self.now.names.items tokens.now)) }
+        ensures { Gives self.now.names.items (λ x. (
+          map (view_declaration self.now.names.items) x.0.items,
+          plain self.now.names.items x.1.now,
+        )) result
+            (up_to (is_word keyword) (declaration_at keyword 64) limit
+            (plain self.now.names.items tokens.now)) }
     {
         let mut declarations = Vec::new(self.alloc);
         let mut tokens = tokens;
@@ -208,7 +228,9 @@ impl Reader {
         &self,
         tokens: &'a [Sign],
     ) -> Result<(Vec<SlotDecl>, &'a [Sign]), Halt<'a>>
-        ensures { Gives self.now.names.items (λ x. (map (view_slot self.now.names.items) x.0.items, plain self.now.names.items x.1.now)) result (up_to (is_word SLOT) slot_at 8 (plain self.now.names.items tokens.now)) }
+        ensures { Gives self.now.names.items (λ x.
+            (map (view_slot self.now.names.items) x.0.items, plain self.now.names.items x.1.now))
+            result (up_to (is_word SLOT) slot_at 8 (plain self.now.names.items tokens.now)) }
     {
         let mut slots = Vec::new(self.alloc);
         let mut tokens = tokens;
@@ -229,7 +251,10 @@ impl Reader {
         version: u8,
         tokens: &'a [Sign],
     ) -> Result<(Vec<TotalDecl>, &'a [Sign]), Halt<'a>>
-        ensures { Gives self.now.names.items (λ x. (map (view_total self.now.names.items) x.0.items, plain self.now.names.items x.1.now)) result (up_to (is_total version) (total_at 64) 4 (plain self.now.names.items tokens.now)) }
+        ensures { Gives self.now.names.items (λ x.
+            (map (view_total self.now.names.items) x.0.items, plain self.now.names.items x.1.now))
+            result (up_to (is_total version) (total_at 64) 4
+            (plain self.now.names.items tokens.now)) }
     {
         let mut totals = Vec::new(self.alloc);
         let mut tokens = tokens;

@@ -53,7 +53,9 @@ impl Reader {
         tokens: &'a [Sign],
     ) -> Result<(Expr, u8, &'a [Sign]), Halt<'a>>
         requires { room < 255 }
-        ensures read { Gives self.now.names.items (λ x. (view self.now.names.items x.0, plain self.now.names.items x.2.now)) result (tree_at (room + 1) 6 (plain self.now.names.items tokens.now)) }
+        ensures read { Gives self.now.names.items (λ x.
+            (view self.now.names.items x.0, plain self.now.names.items x.2.now)) result
+            (tree_at (room + 1) 6 (plain self.now.names.items tokens.now)) }
         ensures depth { IfOk result (λ x. x.1 ≡ depth (view self.now.names.items x.0)) }
         ensures fits { IfOk result (λ x. x.1 ≤ room + 1) }
     {
@@ -81,7 +83,9 @@ impl Reader {
     ) -> Result<(Expr, u8, &'a [Sign]), Halt<'a>>
         requires room { room < 255 }
         requires layer { layer ≤ 5 }
-        ensures read { Gives self.now.names.items (λ x. (view self.now.names.items x.0, plain self.now.names.items x.2.now)) result (tree_at (room + 1) layer (plain self.now.names.items tokens.now)) }
+        ensures read { Gives self.now.names.items (λ x.
+            (view self.now.names.items x.0, plain self.now.names.items x.2.now)) result
+            (tree_at (room + 1) layer (plain self.now.names.items tokens.now)) }
         ensures depth { IfOk result (λ x. x.1 ≡ depth (view self.now.names.items x.0)) }
         ensures fits { IfOk result (λ x. x.1 ≤ room + 1) }
     {
@@ -110,7 +114,9 @@ impl Reader {
     #[tactic(auto, using(crate::proofs::Steps::unary_step), unfolding(vert_grammar::specs::Reading::unary))]
     fn unary<'a>(&self, room: u8, tokens: &'a [Sign]) -> Result<(Expr, u8, &'a [Sign]), Halt<'a>>
         requires { room < 255 }
-        ensures read { Gives self.now.names.items (λ x. (view self.now.names.items x.0, plain self.now.names.items x.2.now)) result (tree_at (room + 1) 0 (plain self.now.names.items tokens.now)) }
+        ensures read { Gives self.now.names.items (λ x.
+            (view self.now.names.items x.0, plain self.now.names.items x.2.now)) result
+            (tree_at (room + 1) 0 (plain self.now.names.items tokens.now)) }
         ensures depth { IfOk result (λ x. x.1 ≡ depth (view self.now.names.items x.0)) }
         ensures fits { IfOk result (λ x. x.1 ≤ room + 1) }
     {
@@ -126,7 +132,9 @@ impl Reader {
     #[tactic(auto, unfolding(vert_grammar::specs::Reading::prefixed))]
     fn prefixed<'a>(&self, room: u8, tokens: &'a [Sign]) -> Result<(Expr, u8, &'a [Sign]), Halt<'a>>
         requires { room < 255 }
-        ensures read { Gives self.now.names.items (λ x. (view self.now.names.items x.0, plain self.now.names.items x.2.now)) result (prefixed room (tree_at room) (plain self.now.names.items tokens.now)) }
+        ensures read { Gives self.now.names.items (λ x.
+            (view self.now.names.items x.0, plain self.now.names.items x.2.now)) result
+            (prefixed room (tree_at room) (plain self.now.names.items tokens.now)) }
         ensures depth { IfOk result (λ x. x.1 ≡ depth (view self.now.names.items x.0)) }
         ensures fits { IfOk result (λ x. x.1 ≤ room + 1) }
     {
@@ -153,7 +161,9 @@ impl Reader {
     #[tactic(auto, using(crate::proofs::Steps::again))]
     fn negative<'a>(&self, room: u8, tokens: &'a [Sign]) -> Result<(Expr, u8, &'a [Sign]), Halt<'a>>
         requires { room < 255 }
-        ensures read { Gives self.now.names.items (λ x. (view self.now.names.items x.0, plain self.now.names.items x.2.now)) result (node room Negative (tree_at room 0) (plain self.now.names.items tokens.now)) }
+        ensures read { Gives self.now.names.items (λ x.
+            (view self.now.names.items x.0, plain self.now.names.items x.2.now)) result
+            (node room Negative (tree_at room 0) (plain self.now.names.items tokens.now)) }
         ensures depth { IfOk result (λ x. x.1 ≡ depth (view self.now.names.items x.0)) }
         ensures fits { IfOk result (λ x. x.1 ≤ room + 1) }
     {
@@ -169,7 +179,9 @@ impl Reader {
     #[tactic(auto, using(crate::proofs::Steps::again))]
     fn not<'a>(&self, room: u8, tokens: &'a [Sign]) -> Result<(Expr, u8, &'a [Sign]), Halt<'a>>
         requires { room < 255 }
-        ensures read { Gives self.now.names.items (λ x. (view self.now.names.items x.0, plain self.now.names.items x.2.now)) result (node room Not (tree_at room 0) (plain self.now.names.items tokens.now)) }
+        ensures read { Gives self.now.names.items (λ x.
+            (view self.now.names.items x.0, plain self.now.names.items x.2.now)) result
+            (node room Not (tree_at room 0) (plain self.now.names.items tokens.now)) }
         ensures depth { IfOk result (λ x. x.1 ≡ depth (view self.now.names.items x.0)) }
         ensures fits { IfOk result (λ x. x.1 ≤ room + 1) }
     {
@@ -185,7 +197,10 @@ impl Reader {
     #[tactic(auto, using(crate::proofs::Steps::again))]
     fn group<'a>(&self, room: u8, tokens: &'a [Sign]) -> Result<(Expr, u8, &'a [Sign]), Halt<'a>>
         requires { room < 255 }
-        ensures read { Gives self.now.names.items (λ x. (view self.now.names.items x.0, plain self.now.names.items x.2.now)) result (node room (λ s x. Group s x.0) (grouped (tree_at room)) (plain self.now.names.items tokens.now)) }
+        ensures read { Gives self.now.names.items (λ x.
+            (view self.now.names.items x.0, plain self.now.names.items x.2.now)) result
+            (node room (λ s x. Group s x.0) (grouped (tree_at room))
+            (plain self.now.names.items tokens.now)) }
         ensures depth { IfOk result (λ x. x.1 ≡ depth (view self.now.names.items x.0)) }
         ensures fits { IfOk result (λ x. x.1 ≤ room + 1) }
     {
@@ -202,7 +217,10 @@ impl Reader {
     #[tactic(auto, using(crate::proofs::Steps::least_by_pair))]
     fn least<'a>(&self, room: u8, tokens: &'a [Sign]) -> Result<(Expr, u8, &'a [Sign]), Halt<'a>>
         requires { room < 255 }
-        ensures read { Gives self.now.names.items (λ x. (view self.now.names.items x.0, plain self.now.names.items x.2.now)) result (node room (λ s x. Least s x.1.0 x.1.1.1.0) (two_of (tree_at room)) (plain self.now.names.items tokens.now)) }
+        ensures read { Gives self.now.names.items (λ x.
+            (view self.now.names.items x.0, plain self.now.names.items x.2.now)) result
+            (node room (λ s x. Least s x.1.0 x.1.1.1.0) (two_of (tree_at room))
+            (plain self.now.names.items tokens.now)) }
         ensures depth { IfOk result (λ x. x.1 ≡ depth (view self.now.names.items x.0)) }
         ensures fits { IfOk result (λ x. x.1 ≤ room + 1) }
     {
@@ -218,7 +236,10 @@ impl Reader {
     #[tactic(auto, using(crate::proofs::Steps::greatest_by_pair))]
     fn greatest<'a>(&self, room: u8, tokens: &'a [Sign]) -> Result<(Expr, u8, &'a [Sign]), Halt<'a>>
         requires { room < 255 }
-        ensures read { Gives self.now.names.items (λ x. (view self.now.names.items x.0, plain self.now.names.items x.2.now)) result (node room (λ s x. Greatest s x.1.0 x.1.1.1.0) (two_of (tree_at room)) (plain self.now.names.items tokens.now)) }
+        ensures read { Gives self.now.names.items (λ x.
+            (view self.now.names.items x.0, plain self.now.names.items x.2.now)) result
+            (node room (λ s x. Greatest s x.1.0 x.1.1.1.0) (two_of (tree_at room))
+            (plain self.now.names.items tokens.now)) }
         ensures depth { IfOk result (λ x. x.1 ≡ depth (view self.now.names.items x.0)) }
         ensures fits { IfOk result (λ x. x.1 ≤ room + 1) }
     {
@@ -240,8 +261,14 @@ impl Reader {
     ) -> Result<(Expr, Expr, u8, &'a [Sign]), Halt<'a>>
         requires low { 0 < room }
         requires high { room < 255 }
-        ensures read { Gives self.now.names.items (λ x. ((view self.now.names.items x.0, view self.now.names.items x.1), plain self.now.names.items x.3.now)) result (pair_at room (plain self.now.names.items tokens.now)) }
-        ensures depth { IfOk result (λ x. x.2 ≡ max (depth (view self.now.names.items x.0)) (depth (view self.now.names.items x.1))) }
+        ensures read { Gives self.now.names.items (λ x. (
+          (view self.now.names.items x.0, view self.now.names.items x.1),
+          plain self.now.names.items x.3.now,
+        )) result
+            (pair_at room (plain self.now.names.items tokens.now)) }
+        ensures depth { IfOk result (λ x.
+            x.2 ≡ max (depth (view self.now.names.items x.0))
+            (depth (view self.now.names.items x.1))) }
         ensures fits { IfOk result (λ x. x.2 ≤ room) }
     {
         let (_, tokens) = self.mark(marks::LEFT_PARENTHESIS, tokens)?;

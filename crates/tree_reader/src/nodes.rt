@@ -15,7 +15,8 @@ impl Reader {
     }
 
     pub(crate) fn make_negative(&self, span: Span, inner: Expr) -> Result<Expr, AllocError>
-        ensures { IfOk result (λ e. view self.now.names.items e ≡ Negative span (view self.now.names.items inner)) }
+        ensures { IfOk result (λ e.
+            view self.now.names.items e ≡ Negative span (view self.now.names.items inner)) }
     {
         Ok(Expr {
             span,
@@ -24,7 +25,8 @@ impl Reader {
     }
 
     pub(crate) fn make_not(&self, span: Span, inner: Expr) -> Result<Expr, AllocError>
-        ensures { IfOk result (λ e. view self.now.names.items e ≡ Not span (view self.now.names.items inner)) }
+        ensures { IfOk result (λ e.
+            view self.now.names.items e ≡ Not span (view self.now.names.items inner)) }
     {
         Ok(Expr {
             span,
@@ -33,7 +35,8 @@ impl Reader {
     }
 
     pub(crate) fn make_group(&self, span: Span, inner: Expr) -> Result<Expr, AllocError>
-        ensures { IfOk result (λ e. view self.now.names.items e ≡ Group span (view self.now.names.items inner)) }
+        ensures { IfOk result (λ e.
+            view self.now.names.items e ≡ Group span (view self.now.names.items inner)) }
     {
         Ok(Expr {
             span,
@@ -42,7 +45,9 @@ impl Reader {
     }
 
     pub(crate) fn make_least(&self, span: Span, left: Expr, right: Expr) -> Result<Expr, AllocError>
-        ensures { IfOk result (λ e. view self.now.names.items e ≡ Least span (view self.now.names.items left) (view self.now.names.items right)) }
+        ensures { IfOk result (λ e.
+            view self.now.names.items e
+            ≡ Least span (view self.now.names.items left) (view self.now.names.items right)) }
     {
         Ok(Expr {
             span,
@@ -56,7 +61,9 @@ impl Reader {
         left: Expr,
         right: Expr,
     ) -> Result<Expr, AllocError>
-        ensures { IfOk result (λ e. view self.now.names.items e ≡ Greatest span (view self.now.names.items left) (view self.now.names.items right)) }
+        ensures { IfOk result (λ e.
+            view self.now.names.items e
+            ≡ Greatest span (view self.now.names.items left) (view self.now.names.items right)) }
     {
         Ok(Expr {
             span,
@@ -66,7 +73,10 @@ impl Reader {
 
     /// An operator between its operands.
     pub(crate) fn make_pair(&self, op: BinOp, left: Expr, right: Expr) -> Result<Expr, AllocError>
-        ensures { IfOk result (λ e. view self.now.names.items e ≡ Pair (start (view self.now.names.items left)) op (view self.now.names.items left) (view self.now.names.items right)) }
+        ensures { IfOk result (λ e.
+            view self.now.names.items e
+            ≡ Pair (start (view self.now.names.items left)) op (view self.now.names.items left)
+            (view self.now.names.items right)) }
     {
         Ok(Expr {
             span: left.span,
@@ -81,7 +91,10 @@ impl Reader {
         held: Expr,
         otherwise: Expr,
     ) -> Result<Expr, AllocError>
-        ensures { IfOk result (λ e. view self.now.names.items e ≡ Choice (start (view self.now.names.items test)) (view self.now.names.items test) (view self.now.names.items held) (view self.now.names.items otherwise)) }
+        ensures { IfOk result (λ e.
+            view self.now.names.items e
+            ≡ Choice (start (view self.now.names.items test)) (view self.now.names.items test)
+            (view self.now.names.items held) (view self.now.names.items otherwise)) }
     {
         let span = test.span;
         let node = Node::Cond(self.boxed(test)?, self.boxed(held)?, self.boxed(otherwise)?);

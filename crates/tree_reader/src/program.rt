@@ -63,7 +63,9 @@ impl Reader {
     /// The version of the language, and what follows.
     #[tactic(auto, unfolding(vert_grammar::specs::Reading::single))]
     fn version<'a>(&self, tokens: &'a [Sign]) -> Result<(u8, &'a [Sign]), Halt<'a>>
-        ensures { Gives self.now.names.items (λ x. (x.0, plain self.now.names.items x.1.now)) result (single is_version_at (λ s k. number_in k) (plain self.now.names.items tokens.now)) }
+        ensures { Gives self.now.names.items (λ x. (x.0, plain self.now.names.items x.1.now))
+            result (single is_version_at (λ s k. number_in k)
+            (plain self.now.names.items tokens.now)) }
     {
         match tokens {
             [] => Err(Halt::Fault(Why::Unexpected, tokens)),
@@ -85,7 +87,10 @@ impl Reader {
     /// A mode with its place, and what follows.
     #[tactic(auto, unfolding(vert_grammar::specs::Reading::single))]
     fn mode<'a>(&self, tokens: &'a [Sign]) -> Result<(Span, Mode, &'a [Sign]), Halt<'a>>
-        ensures { Gives self.now.names.items (λ x. ((x.0, x.1), plain self.now.names.items x.2.now)) result (single {A = Span × Mode} is_mode (λ s k. (s, mode_of k)) (plain self.now.names.items tokens.now)) }
+        ensures { Gives self.now.names.items (λ x.
+            ((x.0, x.1), plain self.now.names.items x.2.now)) result
+            (single {A = Span × Mode} is_mode (λ s k. (s, mode_of k))
+            (plain self.now.names.items tokens.now)) }
     {
         let span = self.place(tokens);
         if self.begins_word(words::AUTO, tokens) {
@@ -103,7 +108,9 @@ impl Reader {
     /// The version, the mode and the limit, and what follows.
     #[tactic(auto, unfolding(vert_grammar::specs::Reading::header_at))]
     fn head<'a>(&self, tokens: &'a [Sign]) -> Result<(Head, &'a [Sign]), Halt<'a>>
-        ensures { Gives self.now.names.items (λ x. (view_head x.0, plain self.now.names.items x.1.now)) result (header_at (plain self.now.names.items tokens.now)) }
+        ensures { Gives self.now.names.items (λ x.
+            (view_head x.0, plain self.now.names.items x.1.now)) result
+            (header_at (plain self.now.names.items tokens.now)) }
     {
         let (_, tokens) = self.word(words::VERTEX, tokens)?;
         let (version, tokens) = self.version(tokens)?;
@@ -131,7 +138,9 @@ impl Reader {
         version: u8,
         tokens: &'a [Sign],
     ) -> Result<(Declared, &'a [Sign]), Halt<'a>>
-        ensures { Gives self.now.names.items (λ x. (view_declared self.now.names.items x.0, plain self.now.names.items x.1.now)) result (names_at version limits (plain self.now.names.items tokens.now)) }
+        ensures { Gives self.now.names.items (λ x.
+            (view_declared self.now.names.items x.0, plain self.now.names.items x.1.now)) result
+            (names_at version limits (plain self.now.names.items tokens.now)) }
     {
         let (fields, tokens) = self.declarations(words::FIELD, FIELDS, tokens)?;
         let (slots, tokens) = self.slots(tokens)?;
@@ -147,7 +156,9 @@ impl Reader {
     /// The start test and what follows.
     #[tactic(auto, unfolding(vert_grammar::specs::Reading::start_at))]
     fn start<'a>(&self, tokens: &'a [Sign]) -> Result<(Expr, &'a [Sign]), Halt<'a>>
-        ensures { Gives self.now.names.items (λ x. (view self.now.names.items x.0, plain self.now.names.items x.1.now)) result (start_at 64 (plain self.now.names.items tokens.now)) }
+        ensures { Gives self.now.names.items (λ x.
+            (view self.now.names.items x.0, plain self.now.names.items x.1.now)) result
+            (start_at 64 (plain self.now.names.items tokens.now)) }
     {
         let (_, tokens) = self.word(words::START, tokens)?;
         let (test, _, tokens) = self.ended(marks::SEMICOLON, DEPTH, tokens)?;
@@ -160,7 +171,10 @@ impl Reader {
         rights: Rights,
         tokens: &'a [Sign],
     ) -> Result<(Vec<Stmt>, Span, &'a [Sign]), Halt<'a>>
-        ensures { Gives self.now.names.items (λ x. ((view_block self.now.names.items x.0.items, x.1), plain self.now.names.items x.2.now)) result (both (block_at (plain_rights rights) 64) (the_mark RIGHT_BRACE) (plain self.now.names.items tokens.now)) }
+        ensures { Gives self.now.names.items (λ x.
+            ((view_block self.now.names.items x.0.items, x.1), plain self.now.names.items x.2.now))
+            result (both (block_at (plain_rights rights) 64) (the_mark RIGHT_BRACE)
+            (plain self.now.names.items tokens.now)) }
     {
         let (body, tokens) = self.block(rights, DEPTH, tokens)?;
         let (span, tokens) = self.mark(marks::RIGHT_BRACE, tokens)?;
@@ -169,7 +183,14 @@ impl Reader {
 
     /// The loop body and the tail of a dense block, and what follows.
     fn looped<'a>(&self, tokens: &'a [Sign]) -> Result<(Vec<Stmt>, Vec<Stmt>, &'a [Sign]), Halt<'a>>
-        ensures { Gives self.now.names.items (λ x. ((view_block self.now.names.items x.0.items, view_block self.now.names.items x.1.items), plain self.now.names.items x.2.now)) result (loop_at (plain self.now.names.items tokens.now)) }
+        ensures { Gives self.now.names.items (λ x. (
+          (
+            view_block self.now.names.items x.0.items,
+            view_block self.now.names.items x.1.items,
+          ),
+          plain self.now.names.items x.2.now,
+        )) result
+            (loop_at (plain self.now.names.items tokens.now)) }
     {
         let (_, tokens) = self.word(words::FOR, tokens)?;
         let (_, tokens) = self.word(words::U, tokens)?;
@@ -183,7 +204,9 @@ impl Reader {
     /// The dense block and what follows.
     #[tactic(auto, using(crate::proofs::Parted::dense_step))]
     fn dense<'a>(&self, tokens: &'a [Sign]) -> Result<(Dense, &'a [Sign]), Halt<'a>>
-        ensures { Gives self.now.names.items (λ x. (view_dense self.now.names.items x.0, plain self.now.names.items x.1.now)) result (dense_at limits (plain self.now.names.items tokens.now)) }
+        ensures { Gives self.now.names.items (λ x.
+            (view_dense self.now.names.items x.0, plain self.now.names.items x.1.now)) result
+            (dense_at limits (plain self.now.names.items tokens.now)) }
     {
         let (_, tokens) = self.word(words::DENSE, tokens)?;
         let (_, tokens) = self.word(words::WHEN, tokens)?;
@@ -202,7 +225,9 @@ impl Reader {
     /// The sparse block and what follows.
     #[tactic(auto, unfolding(vert_grammar::specs::Reading::sparse_at))]
     fn sparse<'a>(&self, tokens: &'a [Sign]) -> Result<(Sparse, &'a [Sign]), Halt<'a>>
-        ensures { Gives self.now.names.items (λ x. (view_sparse self.now.names.items x.0, plain self.now.names.items x.1.now)) result (sparse_at limits (plain self.now.names.items tokens.now)) }
+        ensures { Gives self.now.names.items (λ x.
+            (view_sparse self.now.names.items x.0, plain self.now.names.items x.1.now)) result
+            (sparse_at limits (plain self.now.names.items tokens.now)) }
     {
         let (_, tokens) = self.word(words::SPARSE, tokens)?;
         let (_, tokens) = self.word(words::WHEN, tokens)?;
@@ -220,7 +245,9 @@ impl Reader {
     /// The update block and what follows.
     #[tactic(auto, unfolding(vert_grammar::specs::Reading::update_at))]
     fn update<'a>(&self, tokens: &'a [Sign]) -> Result<(Vec<Stmt>, &'a [Sign]), Halt<'a>>
-        ensures { Gives self.now.names.items (λ x. (view_block self.now.names.items x.0.items, plain self.now.names.items x.1.now)) result (update_at 64 (plain self.now.names.items tokens.now)) }
+        ensures { Gives self.now.names.items (λ x.
+            (view_block self.now.names.items x.0.items, plain self.now.names.items x.1.now)) result
+            (update_at 64 (plain self.now.names.items tokens.now)) }
     {
         let (_, tokens) = self.word(words::UPDATE, tokens)?;
         let (_, tokens) = self.mark(marks::LEFT_BRACE, tokens)?;
@@ -231,7 +258,9 @@ impl Reader {
     /// The stop test and what follows.
     #[tactic(auto, unfolding(vert_grammar::specs::Reading::stop_at))]
     fn stop<'a>(&self, tokens: &'a [Sign]) -> Result<(Expr, &'a [Sign]), Halt<'a>>
-        ensures { Gives self.now.names.items (λ x. (view self.now.names.items x.0, plain self.now.names.items x.1.now)) result (stop_at 64 (plain self.now.names.items tokens.now)) }
+        ensures { Gives self.now.names.items (λ x.
+            (view self.now.names.items x.0, plain self.now.names.items x.1.now)) result
+            (stop_at 64 (plain self.now.names.items tokens.now)) }
     {
         let (_, tokens) = self.text(STOP, tokens)?;
         let (test, _, tokens) = self.ended(marks::SEMICOLON, DEPTH, tokens)?;
@@ -239,7 +268,10 @@ impl Reader {
     }
 
     fn maybe_dense<'a>(&self, tokens: &'a [Sign]) -> Result<(Option<Dense>, &'a [Sign]), Halt<'a>>
-        ensures { Gives self.now.names.items (λ x. (option_map (view_dense self.now.names.items) x.0, plain self.now.names.items x.1.now)) result (maybe (is_word word.DENSE) (dense_at limits) (plain self.now.names.items tokens.now)) }
+        ensures { Gives self.now.names.items (λ x.
+            (option_map (view_dense self.now.names.items) x.0, plain self.now.names.items x.1.now))
+            result (maybe (is_word word.DENSE) (dense_at limits)
+            (plain self.now.names.items tokens.now)) }
     {
         if !self.begins_word(words::DENSE, tokens) {
             return Ok((None, tokens));
@@ -249,7 +281,12 @@ impl Reader {
     }
 
     fn maybe_sparse<'a>(&self, tokens: &'a [Sign]) -> Result<(Option<Sparse>, &'a [Sign]), Halt<'a>>
-        ensures { Gives self.now.names.items (λ x. (option_map (view_sparse self.now.names.items) x.0, plain self.now.names.items x.1.now)) result (maybe (is_word word.SPARSE) (sparse_at limits) (plain self.now.names.items tokens.now)) }
+        ensures { Gives self.now.names.items (λ x. (
+          option_map (view_sparse self.now.names.items) x.0,
+          plain self.now.names.items x.1.now,
+        )) result
+            (maybe (is_word word.SPARSE) (sparse_at limits)
+            (plain self.now.names.items tokens.now)) }
     {
         if !self.begins_word(words::SPARSE, tokens) {
             return Ok((None, tokens));
@@ -264,7 +301,9 @@ impl Reader {
         version: u8,
         tokens: &'a [Sign],
     ) -> Result<(Option<Expr>, &'a [Sign]), Halt<'a>>
-        ensures { Gives self.now.names.items (λ x. (option_map (view self.now.names.items) x.0, plain self.now.names.items x.1.now)) result (maybe (is_stop version) (stop_at 64) (plain self.now.names.items tokens.now)) }
+        ensures { Gives self.now.names.items (λ x.
+            (option_map (view self.now.names.items) x.0, plain self.now.names.items x.1.now))
+            result (maybe (is_stop version) (stop_at 64) (plain self.now.names.items tokens.now)) }
     {
         if !self.may_text(version == 2, STOP, tokens) {
             return Ok((None, tokens));
@@ -279,7 +318,15 @@ impl Reader {
         version: u8,
         tokens: &'a [Sign],
     ) -> Result<(Vec<Stmt>, Option<Expr>, &'a [Sign]), Halt<'a>>
-        ensures { Gives self.now.names.items (λ x. ((view_block self.now.names.items x.0.items, option_map (view self.now.names.items) x.1), plain self.now.names.items x.2.now)) result (both (update_at 64) (maybe (is_stop version) (stop_at 64)) (plain self.now.names.items tokens.now)) }
+        ensures { Gives self.now.names.items (λ x. (
+          (
+            view_block self.now.names.items x.0.items,
+            option_map (view self.now.names.items) x.1,
+          ),
+          plain self.now.names.items x.2.now,
+        ))
+            result (both (update_at 64) (maybe (is_stop version) (stop_at 64))
+            (plain self.now.names.items tokens.now)) }
     {
         let (update, tokens) = self.update(tokens)?;
         let (stop, tokens) = self.maybe_stop(version, tokens)?;
@@ -292,7 +339,9 @@ impl Reader {
         version: u8,
         tokens: &'a [Sign],
     ) -> Result<(Later, &'a [Sign]), Halt<'a>>
-        ensures { Gives self.now.names.items (λ x. (view_later self.now.names.items x.0, plain self.now.names.items x.1.now)) result (later_at version (plain self.now.names.items tokens.now)) }
+        ensures { Gives self.now.names.items (λ x.
+            (view_later self.now.names.items x.0, plain self.now.names.items x.1.now)) result
+            (later_at version (plain self.now.names.items tokens.now)) }
     {
         let (sparse, tokens) = self.maybe_sparse(tokens)?;
         let (update, stop, tokens) = self.update_and_stop(version, tokens)?;
@@ -307,7 +356,9 @@ impl Reader {
     /// What stands behind the start test, and what follows it.
     #[tactic(auto, unfolding(vert_grammar::specs::Reading::blocks_at))]
     fn blocks<'a>(&self, version: u8, tokens: &'a [Sign]) -> Result<(Blocks, &'a [Sign]), Halt<'a>>
-        ensures { Gives self.now.names.items (λ x. (view_blocks self.now.names.items x.0, plain self.now.names.items x.1.now)) result (blocks_at version limits (plain self.now.names.items tokens.now)) }
+        ensures { Gives self.now.names.items (λ x.
+            (view_blocks self.now.names.items x.0, plain self.now.names.items x.1.now)) result
+            (blocks_at version limits (plain self.now.names.items tokens.now)) }
     {
         let (dense, tokens) = self.maybe_dense(tokens)?;
         let (later, tokens) = self.later_blocks(version, tokens)?;
@@ -323,7 +374,9 @@ impl Reader {
     /// A program without its names, and what follows it.
     #[tactic(auto, unfolding(vert_grammar::specs::Reading::program_at))]
     fn program<'a>(&self, tokens: &'a [Sign]) -> Result<(Program, &'a [Sign]), Halt<'a>>
-        ensures { Gives self.now.names.items (λ x. (view_named self.now.names.items x.0, plain self.now.names.items x.1.now)) result (program_at limits (plain self.now.names.items tokens.now)) }
+        ensures { Gives self.now.names.items (λ x.
+            (view_named self.now.names.items x.0, plain self.now.names.items x.1.now)) result
+            (program_at limits (plain self.now.names.items tokens.now)) }
     {
         let (head, tokens) = self.head(tokens)?;
         let (declared, tokens) = self.declared(head.version, tokens)?;
@@ -351,7 +404,8 @@ impl Reader {
     /// All of the tokens as a program without its names.
     #[tactic(auto, unfolding(vert_grammar::specs::Reading::all_of))]
     pub fn all<'a>(&self, tokens: &'a [Sign]) -> Result<Program, Halt<'a>>
-        ensures { Gives self.now.names.items (λ x. (view_named self.now.names.items x, [])) result (all_of limits (plain self.now.names.items tokens.now)) }
+        ensures { Gives self.now.names.items (λ x. (view_named self.now.names.items x, [])) result
+            (all_of limits (plain self.now.names.items tokens.now)) }
     {
         let (program, tokens) = self.program(tokens)?;
         match tokens {

@@ -76,7 +76,8 @@ impl Reader {
 
     /// What follows the first token.
     pub(crate) fn rest<'a>(&self, tokens: &'a [Sign]) -> &'a [Sign]
-        ensures { plain self.now.names.items result.now ≡ rest (plain self.now.names.items tokens.now) }
+        ensures { plain self.now.names.items result.now
+            ≡ rest (plain self.now.names.items tokens.now) }
     {
         match tokens {
             [] => tokens,
@@ -91,7 +92,8 @@ impl Reader {
         mark: u8,
         tokens: &'a [Sign],
     ) -> Result<(Span, &'a [Sign]), Halt<'a>>
-        ensures { Gives self.now.names.items (λ x. (x.0, plain self.now.names.items x.1.now)) result (the_mark mark (plain self.now.names.items tokens.now)) }
+        ensures { Gives self.now.names.items (λ x. (x.0, plain self.now.names.items x.1.now))
+            result (the_mark mark (plain self.now.names.items tokens.now)) }
     {
         if !self.begins_mark(mark, tokens) {
             return Err(Halt::Fault(Why::Unexpected, tokens));
@@ -106,7 +108,8 @@ impl Reader {
         word: u8,
         tokens: &'a [Sign],
     ) -> Result<(Span, &'a [Sign]), Halt<'a>>
-        ensures { Gives self.now.names.items (λ x. (x.0, plain self.now.names.items x.1.now)) result (the_word word (plain self.now.names.items tokens.now)) }
+        ensures { Gives self.now.names.items (λ x. (x.0, plain self.now.names.items x.1.now))
+            result (the_word word (plain self.now.names.items tokens.now)) }
     {
         if !self.begins_word(word, tokens) {
             return Err(Halt::Fault(Why::Unexpected, tokens));
@@ -117,7 +120,9 @@ impl Reader {
     /// A name, and what follows it.
     #[tactic(auto, unfolding(vert_grammar::specs::Reading::single))]
     pub(crate) fn name<'a>(&self, tokens: &'a [Sign]) -> Result<(Ident, &'a [Sign]), Halt<'a>>
-        ensures { Gives self.now.names.items (λ x. (view_name self.now.names.items x.0, plain self.now.names.items x.1.now)) result (name_at (plain self.now.names.items tokens.now)) }
+        ensures { Gives self.now.names.items (λ x.
+            (view_name self.now.names.items x.0, plain self.now.names.items x.1.now)) result
+            (name_at (plain self.now.names.items tokens.now)) }
     {
         match tokens {
             [] => Err(Halt::Fault(Why::Unexpected, tokens)),
@@ -141,7 +146,10 @@ impl Reader {
         &self,
         tokens: &'a [Sign],
     ) -> Result<(Span, Small, &'a [Sign]), Halt<'a>>
-        ensures { Gives self.now.names.items (λ x. ((x.0, x.1.value), plain self.now.names.items x.2.now)) result (single {A = Span × ℕ} is_number (λ s k. (s, number_in k)) (plain self.now.names.items tokens.now)) }
+        ensures { Gives self.now.names.items (λ x.
+            ((x.0, x.1.value), plain self.now.names.items x.2.now)) result
+            (single {A = Span × ℕ} is_number (λ s k. (s, number_in k))
+            (plain self.now.names.items tokens.now)) }
     {
         match tokens {
             [] => Err(Halt::Fault(Why::Unexpected, tokens)),

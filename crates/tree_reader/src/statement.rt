@@ -18,7 +18,10 @@ use vert_tree::{AssignOp, Expr, Stmt};
 /// An `if`, with or without its second block.
 #[tactic(auto, using(crate::proofs::Blocks::if_view))]
 fn make_if(span: Span, test: Expr, held: Vec<Stmt>, otherwise: Option<Vec<Stmt>>) -> Stmt
-    ensures { (names : List (String Global)) → view_statement names result ≡ if_of span (view names test) (view_block names held.items) (option_map (λ b. view_block names b.items) otherwise) }
+    ensures { (names : List (String Global)) →
+        view_statement names result
+        ≡ if_of span (view names test) (view_block names held.items)
+        (option_map (λ b. view_block names b.items) otherwise) }
 {
     Stmt::If(span, test, held, otherwise)
 }
@@ -31,7 +34,9 @@ impl Reader {
         depth: u8,
         tokens: &'a [Sign],
     ) -> Result<(Expr, Span, &'a [Sign]), Halt<'a>>
-        ensures { Gives self.now.names.items (λ x. ((view self.now.names.items x.0, x.1), plain self.now.names.items x.2.now)) result (ended_by mark depth (plain self.now.names.items tokens.now)) }
+        ensures { Gives self.now.names.items (λ x.
+            ((view self.now.names.items x.0, x.1), plain self.now.names.items x.2.now)) result
+            (ended_by mark depth (plain self.now.names.items tokens.now)) }
     {
         let (value, tokens) = self.nested(depth, tokens)?;
         let (span, tokens) = self.mark(mark, tokens)?;
@@ -41,7 +46,9 @@ impl Reader {
     /// An expression where so many nodes may be nested, and what follows it.
     #[tactic(auto, using(crate::proofs::Blocks::none_nested, crate::proofs::Steps::again))]
     fn nested<'a>(&self, depth: u8, tokens: &'a [Sign]) -> Result<(Expr, &'a [Sign]), Halt<'a>>
-        ensures { Gives self.now.names.items (λ x. (view self.now.names.items x.0, plain self.now.names.items x.1.now)) result (tree_at depth 6 (plain self.now.names.items tokens.now)) }
+        ensures { Gives self.now.names.items (λ x.
+            (view self.now.names.items x.0, plain self.now.names.items x.1.now)) result
+            (tree_at depth 6 (plain self.now.names.items tokens.now)) }
     {
         if depth == 0 {
             return Err(Halt::Fault(Why::TooDeep, tokens));
@@ -53,7 +60,8 @@ impl Reader {
     /// How an assignment changes its target, and what follows.
     #[tactic(auto, unfolding(vert_grammar::specs::Reading::op_at, vert_grammar::specs::Reading::single))]
     fn assign_op<'a>(&self, tokens: &'a [Sign]) -> Result<(AssignOp, &'a [Sign]), Halt<'a>>
-        ensures { Gives self.now.names.items (λ x. (x.0, plain self.now.names.items x.1.now)) result (op_at (plain self.now.names.items tokens.now)) }
+        ensures { Gives self.now.names.items (λ x. (x.0, plain self.now.names.items x.1.now))
+            result (op_at (plain self.now.names.items tokens.now)) }
     {
         if self.begins_word(words::MIN, tokens) {
             let (_, tokens) = self.mark(marks::ASSIGN, self.rest(tokens))?;
@@ -74,7 +82,9 @@ impl Reader {
 
     #[tactic(auto, unfolding(vert_grammar::specs::Reading::assign_at))]
     fn assign<'a>(&self, depth: u8, tokens: &'a [Sign]) -> Result<(Stmt, &'a [Sign]), Halt<'a>>
-        ensures { Gives self.now.names.items (λ x. (view_statement self.now.names.items x.0, plain self.now.names.items x.1.now)) result (assign_at depth (plain self.now.names.items tokens.now)) }
+        ensures { Gives self.now.names.items (λ x.
+            (view_statement self.now.names.items x.0, plain self.now.names.items x.1.now)) result
+            (assign_at depth (plain self.now.names.items tokens.now)) }
     {
         let (target, tokens) = self.name(tokens)?;
         let (op, tokens) = self.assign_op(tokens)?;
@@ -84,7 +94,9 @@ impl Reader {
 
     #[tactic(auto, unfolding(vert_grammar::specs::Reading::set_active_at))]
     fn set_active<'a>(&self, depth: u8, tokens: &'a [Sign]) -> Result<(Stmt, &'a [Sign]), Halt<'a>>
-        ensures { Gives self.now.names.items (λ x. (view_statement self.now.names.items x.0, plain self.now.names.items x.1.now)) result (set_active_at depth (plain self.now.names.items tokens.now)) }
+        ensures { Gives self.now.names.items (λ x.
+            (view_statement self.now.names.items x.0, plain self.now.names.items x.1.now)) result
+            (set_active_at depth (plain self.now.names.items tokens.now)) }
     {
         let (span, tokens) = self.word(words::ACTIVE, tokens)?;
         let (_, tokens) = self.mark(marks::ASSIGN, tokens)?;
@@ -94,7 +106,9 @@ impl Reader {
 
     #[tactic(auto, unfolding(vert_grammar::specs::Reading::emit_at))]
     fn emit<'a>(&self, depth: u8, tokens: &'a [Sign]) -> Result<(Stmt, &'a [Sign]), Halt<'a>>
-        ensures { Gives self.now.names.items (λ x. (view_statement self.now.names.items x.0, plain self.now.names.items x.1.now)) result (emit_at depth (plain self.now.names.items tokens.now)) }
+        ensures { Gives self.now.names.items (λ x.
+            (view_statement self.now.names.items x.0, plain self.now.names.items x.1.now)) result
+            (emit_at depth (plain self.now.names.items tokens.now)) }
     {
         let (span, tokens) = self.word(words::EMIT, tokens)?;
         let (slot, tokens) = self.name(tokens)?;
@@ -104,7 +118,9 @@ impl Reader {
 
     #[tactic(auto, unfolding(vert_grammar::specs::Reading::break_at))]
     fn break_<'a>(&self, tokens: &'a [Sign]) -> Result<(Stmt, &'a [Sign]), Halt<'a>>
-        ensures { Gives self.now.names.items (λ x. (view_statement self.now.names.items x.0, plain self.now.names.items x.1.now)) result (break_at (plain self.now.names.items tokens.now)) }
+        ensures { Gives self.now.names.items (λ x.
+            (view_statement self.now.names.items x.0, plain self.now.names.items x.1.now)) result
+            (break_at (plain self.now.names.items tokens.now)) }
     {
         let (span, tokens) = self.word(words::BREAK, tokens)?;
         let (_, tokens) = self.mark(marks::SEMICOLON, tokens)?;
@@ -123,7 +139,8 @@ impl Reader {
 
     /// Whether the first token is this word and may be it.
     fn may_word(&self, may: bool, word: u8, tokens: &[Sign]) -> bool
-        ensures { result ≡ begins (λ k. may && is_word word k) (plain self.now.names.items tokens.now) }
+        ensures { result ≡ begins (λ k. may && is_word word k)
+            (plain self.now.names.items tokens.now) }
     {
         match tokens {
             [] => false,
@@ -156,7 +173,9 @@ impl Reader {
         depth: u8,
         tokens: &'a [Sign],
     ) -> Result<(Stmt, &'a [Sign]), Halt<'a>>
-        ensures { Gives self.now.names.items (λ x. (view_statement self.now.names.items x.0, plain self.now.names.items x.1.now)) result (statement_at (plain_rights rights) depth (plain self.now.names.items tokens.now)) }
+        ensures { Gives self.now.names.items (λ x.
+            (view_statement self.now.names.items x.0, plain self.now.names.items x.1.now)) result
+            (statement_at (plain_rights rights) depth (plain self.now.names.items tokens.now)) }
     {
         if self.begins_word(words::IF, tokens) {
             return self.branch(rights, depth, tokens);
@@ -185,7 +204,9 @@ impl Reader {
         depth: u8,
         tokens: &'a [Sign],
     ) -> Result<(Stmt, &'a [Sign]), Halt<'a>>
-        ensures { Gives self.now.names.items (λ x. (view_statement self.now.names.items x.0, plain self.now.names.items x.1.now)) result (branch_at (plain_rights rights) depth (plain self.now.names.items tokens.now)) }
+        ensures { Gives self.now.names.items (λ x.
+            (view_statement self.now.names.items x.0, plain self.now.names.items x.1.now)) result
+            (branch_at (plain_rights rights) depth (plain self.now.names.items tokens.now)) }
     {
         if depth < 2 {
             return Err(Halt::Fault(Why::TooDeep, tokens));
@@ -205,7 +226,12 @@ impl Reader {
         depth: u8,
         tokens: &'a [Sign],
     ) -> Result<(Option<Vec<Stmt>>, &'a [Sign]), Halt<'a>>
-        ensures { Gives self.now.names.items (λ x. (option_map (λ b. view_block self.now.names.items b.items) x.0, plain self.now.names.items x.1.now)) result (else_of (statement_at (plain_rights rights) depth) (plain self.now.names.items tokens.now)) }
+        ensures { Gives self.now.names.items (λ x. (
+          option_map (λ b. view_block self.now.names.items b.items) x.0,
+          plain self.now.names.items x.1.now,
+        )) result
+            (else_of (statement_at (plain_rights rights) depth)
+            (plain self.now.names.items tokens.now)) }
     {
         if !self.begins_word(words::ELSE, tokens) {
             return Ok((None, tokens));
@@ -224,7 +250,10 @@ impl Reader {
         depth: u8,
         tokens: &'a [Sign],
     ) -> Result<(Vec<Stmt>, &'a [Sign]), Halt<'a>>
-        ensures { Gives self.now.names.items (λ x. (view_block self.now.names.items x.0.items, plain self.now.names.items x.1.now)) result (braced (statement_at (plain_rights rights) depth) (plain self.now.names.items tokens.now)) }
+        ensures { Gives self.now.names.items (λ x.
+            (view_block self.now.names.items x.0.items, plain self.now.names.items x.1.now)) result
+            (braced (statement_at (plain_rights rights) depth)
+            (plain self.now.names.items tokens.now)) }
     {
         let (_, tokens) = self.mark(marks::LEFT_BRACE, tokens)?;
         let (block, tokens) = self.statements(rights, depth, tokens)?;
@@ -240,7 +269,12 @@ impl Reader {
         depth: u8,
         tokens: &'a [Sign],
     ) -> Result<(Vec<Stmt>, &'a [Sign]), Halt<'a>>
-        ensures { Gives self.now.names.items (λ x. (map (view_statement self.now.names.items) x.0.items, plain self.now.names.items x.1.now)) result (many goes_on (statement_at (plain_rights rights) depth) (plain self.now.names.items tokens.now)) }
+        ensures { Gives self.now.names.items (λ x. (
+          map (view_statement self.now.names.items) x.0.items,
+          plain self.now.names.items x.1.now,
+        )) result
+            (many goes_on (statement_at (plain_rights rights) depth)
+            (plain self.now.names.items tokens.now)) }
     {
         let mut statements = Vec::new(self.alloc);
         let mut tokens = tokens;
@@ -260,7 +294,9 @@ impl Reader {
         depth: u8,
         tokens: &'a [Sign],
     ) -> Result<(Vec<Stmt>, &'a [Sign]), Halt<'a>>
-        ensures { Gives self.now.names.items (λ x. (view_block self.now.names.items x.0.items, plain self.now.names.items x.1.now)) result (block_at (plain_rights rights) depth (plain self.now.names.items tokens.now)) }
+        ensures { Gives self.now.names.items (λ x.
+            (view_block self.now.names.items x.0.items, plain self.now.names.items x.1.now)) result
+            (block_at (plain_rights rights) depth (plain self.now.names.items tokens.now)) }
     {
         self.statements(rights, depth, tokens)
     }

@@ -50,4 +50,5 @@ module _ (c d : Counts) (w : Within c d) where
   pub names_more : (list : List Instr) → list_names c list ≡ true → list_names d list ≡ true
   names_more [] h = refl
   names_more (i ∷ is) h =
-      both_true (named_more i (left_true (has_names c i) (list_names c is) h)) (names_more is (right_true (has_names c i) (list_names c is) h))
+      both_true (named_more i (left_true (has_names c i) (list_names c is) h))
+      (names_more is (right_true (has_names c i) (list_names c is) h))

@@ -53,12 +53,16 @@ module _ (b : Bool) (c : Counts) where
   all_named : (list : List Instr) → list_all (is_allowed b c) list ≡ true → list_names c list ≡ true
   all_named [] h = refl
   all_named (i ∷ is) h =
-      both_true (left_true (has_names c i) (breaks_where b i) (left_true (is_allowed b c i) (list_all (is_allowed b c) is) h)) (all_named is (right_true (is_allowed b c i) (list_all (is_allowed b c) is) h))
+      both_true (left_true (has_names c i) (breaks_where b i)
+      (left_true (is_allowed b c i) (list_all (is_allowed b c) is) h))
+      (all_named is (right_true (is_allowed b c i) (list_all (is_allowed b c) is) h))
 
   all_breaks : (list : List Instr) → list_all (is_allowed b c) list ≡ true → list_all (breaks_where b) list ≡ true
   all_breaks [] h = refl
   all_breaks (i ∷ is) h =
-      both_true (right_true (has_names c i) (breaks_where b i) (left_true (is_allowed b c i) (list_all (is_allowed b c) is) h)) (all_breaks is (right_true (is_allowed b c i) (list_all (is_allowed b c) is) h))
+      both_true (right_true (has_names c i) (breaks_where b i)
+      (left_true (is_allowed b c i) (list_all (is_allowed b c) is) h))
+      (all_breaks is (right_true (is_allowed b c i) (list_all (is_allowed b c) is) h))
 
 module _ (r : Rights) (c : Counts) (body : List Stmt) (placed : body_placed r c body ≡ true) where
   pub block_runs : (env : Env) → run_code (block_code body) env ≡ run body env
@@ -89,25 +93,30 @@ rights_of Tail = tail_rights
 rights_of SparseBody = sparse_rights
 rights_of UpdateBody = update_rights
 
-loop_placed : (c : Counts) (o : Option Dense) → option_all (dense_placed c) o ≡ true → body_placed loop_rights (record c { locals = lets_in o }) (loop_body o) ≡ true
+loop_placed : (c : Counts) (o : Option Dense) → option_all (dense_placed c) o ≡ true →
+    body_placed loop_rights (record c { locals = lets_in o }) (loop_body o) ≡ true
 loop_placed c None h = refl
 loop_placed c (Some d) h =
     let inner : Counts = record c { locals = length d.lets.items } in
     let lets = lets_placed c d.lets.items in
     let body = body_placed loop_rights inner d.body.items in
     let tail = body_placed tail_rights inner d.tail.items in
-    left_true body tail (right_true lets (body && tail) (right_true (expr_placed c d.when_test) (lets && (body && tail)) h))
+    left_true body tail (right_true lets (body && tail)
+    (right_true (expr_placed c d.when_test) (lets && (body && tail)) h))
 
-tail_placed : (c : Counts) (o : Option Dense) → option_all (dense_placed c) o ≡ true → body_placed tail_rights (record c { locals = lets_in o }) (tail_body o) ≡ true
+tail_placed : (c : Counts) (o : Option Dense) → option_all (dense_placed c) o ≡ true →
+    body_placed tail_rights (record c { locals = lets_in o }) (tail_body o) ≡ true
 tail_placed c None h = refl
 tail_placed c (Some d) h =
     let inner : Counts = record c { locals = length d.lets.items } in
     let lets = lets_placed c d.lets.items in
     let body = body_placed loop_rights inner d.body.items in
     let tail = body_placed tail_rights inner d.tail.items in
-    right_true body tail (right_true lets (body && tail) (right_true (expr_placed c d.when_test) (lets && (body && tail)) h))
+    right_true body tail (right_true lets (body && tail)
+    (right_true (expr_placed c d.when_test) (lets && (body && tail)) h))
 
-sparse_is_placed : (c : Counts) (o : Option Sparse) → option_all (sparse_placed c) o ≡ true → body_placed sparse_rights (record c { sends = sends_in o }) (sparse_body o) ≡ true
+sparse_is_placed : (c : Counts) (o : Option Sparse) → option_all (sparse_placed c) o ≡ true →
+    body_placed sparse_rights (record c { sends = sends_in o }) (sparse_body o) ≡ true
 sparse_is_placed c None h = refl
 sparse_is_placed c (Some s) h =
     let sends = list_all (λ d. expr_placed c d.value) s.sends.items in
@@ -120,7 +129,8 @@ loop_shallow (Some d) h =
     let lets = decls_shallow d.lets.items in
     let body = body_shallow d.body.items in
     let tail = body_shallow d.tail.items in
-    left_true body tail (right_true lets (body && tail) (right_true (expr_shallow d.when_test) (lets && (body && tail)) h))
+    left_true body tail (right_true lets (body && tail)
+    (right_true (expr_shallow d.when_test) (lets && (body && tail)) h))
 
 tail_shallow : (o : Option Dense) → option_all dense_shallow o ≡ true → body_shallow (tail_body o) ≡ true
 tail_shallow None h = refl
@@ -128,7 +138,8 @@ tail_shallow (Some d) h =
     let lets = decls_shallow d.lets.items in
     let body = body_shallow d.body.items in
     let tail = body_shallow d.tail.items in
-    right_true body tail (right_true lets (body && tail) (right_true (expr_shallow d.when_test) (lets && (body && tail)) h))
+    right_true body tail (right_true lets (body && tail)
+    (right_true (expr_shallow d.when_test) (lets && (body && tail)) h))
 
 sparse_is_shallow : (o : Option Sparse) → option_all sparse_shallow o ≡ true → body_shallow (sparse_body o) ≡ true
 sparse_is_shallow None h = refl
@@ -159,7 +170,8 @@ module _ (p : Program) (typed : is_typed p ≡ true) where
   placed_part = left_true (is_placed p) (is_kinded p && (is_limited p && (is_shallow p && names))) typed
 
   limits_part : (is_limited p && (is_shallow p && names)) ≡ true
-  limits_part = right_true (is_kinded p) (is_limited p && (is_shallow p && names)) (right_true (is_placed p) (is_kinded p && (is_limited p && (is_shallow p && names))) typed)
+  limits_part = right_true (is_kinded p) (is_limited p && (is_shallow p && names))
+      (right_true (is_placed p) (is_kinded p && (is_limited p && (is_shallow p && names))) typed)
 
   limited_part : is_limited p ≡ true
   limited_part = left_true (is_limited p) (is_shallow p && names) limits_part
@@ -184,13 +196,21 @@ module _ (p : Program) (typed : is_typed p ≡ true) where
       let rest = dense_ok && (sparse_ok && (update_ok && stop_ok)) in
       let start = expr_placed (row_counts p) p.start in
       let totals = list_all (λ t. expr_placed (row_counts p) t.value) p.totals.items in
-      right_true start rest (right_true totals (start && rest) (right_true (list_all (λ d. expr_placed no_counts d.value) p.fields.items) (totals && (start && rest)) placed_part))
+      right_true start rest (right_true totals (start && rest)
+      (right_true (list_all (λ d. expr_placed no_counts d.value) p.fields.items) (totals && (start && rest))
+      placed_part))
 
   pub block_placed : (block : Block) → body_placed (rights_of block) (counts_in p block) (statements_of p block) ≡ true
-  block_placed Loop = loop_placed (round_counts p) p.dense (left_true dense_ok (sparse_ok && (update_ok && stop_ok)) blocks_placed)
-  block_placed Tail = tail_placed (round_counts p) p.dense (left_true dense_ok (sparse_ok && (update_ok && stop_ok)) blocks_placed)
-  block_placed SparseBody = sparse_is_placed (round_counts p) p.sparse (left_true sparse_ok (update_ok && stop_ok) (right_true dense_ok (sparse_ok && (update_ok && stop_ok)) blocks_placed))
-  block_placed UpdateBody = left_true update_ok stop_ok (right_true sparse_ok (update_ok && stop_ok) (right_true dense_ok (sparse_ok && (update_ok && stop_ok)) blocks_placed))
+  block_placed Loop = loop_placed (round_counts p) p.dense
+      (left_true dense_ok (sparse_ok && (update_ok && stop_ok)) blocks_placed)
+  block_placed Tail = tail_placed (round_counts p) p.dense
+      (left_true dense_ok (sparse_ok && (update_ok && stop_ok)) blocks_placed)
+  block_placed SparseBody = sparse_is_placed (round_counts p) p.sparse
+      (left_true sparse_ok (update_ok && stop_ok)
+      (right_true dense_ok (sparse_ok && (update_ok && stop_ok)) blocks_placed))
+  block_placed UpdateBody = left_true update_ok stop_ok
+      (right_true sparse_ok (update_ok && stop_ok)
+      (right_true dense_ok (sparse_ok && (update_ok && stop_ok)) blocks_placed))
 
   abbrev dense_low : Bool
   dense_low = option_all dense_shallow p.dense
@@ -209,13 +229,20 @@ module _ (p : Program) (typed : is_typed p ≡ true) where
       let rest = dense_low && (sparse_low && (update_low && stop_low)) in
       let start = expr_shallow p.start in
       let totals = list_all (λ t. expr_shallow t.value) p.totals.items in
-      right_true start rest (right_true totals (start && rest) (right_true (decls_shallow p.fields.items) (totals && (start && rest)) shallow_part))
+      right_true start rest (right_true totals (start && rest)
+      (right_true (decls_shallow p.fields.items) (totals && (start && rest)) shallow_part))
 
   block_shallow : (block : Block) → body_shallow (statements_of p block) ≡ true
-  block_shallow Loop = loop_shallow p.dense (left_true dense_low (sparse_low && (update_low && stop_low)) blocks_shallow)
-  block_shallow Tail = tail_shallow p.dense (left_true dense_low (sparse_low && (update_low && stop_low)) blocks_shallow)
-  block_shallow SparseBody = sparse_is_shallow p.sparse (left_true sparse_low (update_low && stop_low) (right_true dense_low (sparse_low && (update_low && stop_low)) blocks_shallow))
-  block_shallow UpdateBody = left_true update_low stop_low (right_true sparse_low (update_low && stop_low) (right_true dense_low (sparse_low && (update_low && stop_low)) blocks_shallow))
+  block_shallow Loop = loop_shallow p.dense
+      (left_true dense_low (sparse_low && (update_low && stop_low)) blocks_shallow)
+  block_shallow Tail = tail_shallow p.dense
+      (left_true dense_low (sparse_low && (update_low && stop_low)) blocks_shallow)
+  block_shallow SparseBody = sparse_is_shallow p.sparse
+      (left_true sparse_low (update_low && stop_low)
+      (right_true dense_low (sparse_low && (update_low && stop_low)) blocks_shallow))
+  block_shallow UpdateBody = left_true update_low stop_low
+      (right_true sparse_low (update_low && stop_low)
+      (right_true dense_low (sparse_low && (update_low && stop_low)) blocks_shallow))
 
   abbrev few_fields : Bool
   few_fields = nat_le (length p.fields.items) 16
@@ -233,19 +260,28 @@ module _ (p : Program) (typed : is_typed p ≡ true) where
   sends_few = option_all (λ s. nat_le (length s.sends.items) 8) p.sparse
 
   fields_within : length p.fields.items ≤ 16
-  fields_within = leb-true (length p.fields.items) 16 (left_true few_fields (few_slots && (few_totals && (lets_few && sends_few))) (right_true (nat_le p.limit 10000) (few_fields && (few_slots && (few_totals && (lets_few && sends_few)))) limited_part))
+  fields_within = leb-true (length p.fields.items) 16
+      (left_true few_fields (few_slots && (few_totals && (lets_few && sends_few)))
+      (right_true (nat_le p.limit 10000) (few_fields && (few_slots && (few_totals && (lets_few && sends_few))))
+      limited_part))
 
   few_rest : (few_slots && (few_totals && (lets_few && sends_few))) ≡ true
-  few_rest = right_true few_fields (few_slots && (few_totals && (lets_few && sends_few))) (right_true (nat_le p.limit 10000) (few_fields && (few_slots && (few_totals && (lets_few && sends_few)))) limited_part)
+  few_rest = right_true few_fields (few_slots && (few_totals && (lets_few && sends_few)))
+      (right_true (nat_le p.limit 10000) (few_fields && (few_slots && (few_totals && (lets_few && sends_few))))
+      limited_part)
 
   slots_within : length p.slots.items ≤ 8
-  slots_within = leb-true (length p.slots.items) 8 (left_true few_slots (few_totals && (lets_few && sends_few)) few_rest)
+  slots_within = leb-true (length p.slots.items) 8
+      (left_true few_slots (few_totals && (lets_few && sends_few)) few_rest)
 
   totals_within : length p.totals.items ≤ 4
-  totals_within = leb-true (length p.totals.items) 4 (left_true few_totals (lets_few && sends_few) (right_true few_slots (few_totals && (lets_few && sends_few)) few_rest))
+  totals_within = leb-true (length p.totals.items) 4
+      (left_true few_totals (lets_few && sends_few)
+      (right_true few_slots (few_totals && (lets_few && sends_few)) few_rest))
 
   few_both : (lets_few && sends_few) ≡ true
-  few_both = right_true few_totals (lets_few && sends_few) (right_true few_slots (few_totals && (lets_few && sends_few)) few_rest)
+  few_both = right_true few_totals (lets_few && sends_few)
+      (right_true few_slots (few_totals && (lets_few && sends_few)) few_rest)
 
   lets_within : lets_in p.dense ≤ 8
   lets_within = few_lets p.dense (left_true lets_few sends_few few_both)
@@ -257,10 +293,38 @@ module _ (p : Program) (typed : is_typed p ≡ true) where
   none_within = omega arith
 
   block_within : (block : Block) → Within (counts_in p block) most
-  block_within Loop = record { fields = fields_within; locals = lets_within; sends = none_within; slots = slots_within; totals = totals_within; others = fields_within }
-  block_within Tail = record { fields = fields_within; locals = lets_within; sends = none_within; slots = slots_within; totals = totals_within; others = fields_within }
-  block_within SparseBody = record { fields = fields_within; locals = none_within; sends = sends_within; slots = slots_within; totals = totals_within; others = fields_within }
-  block_within UpdateBody = record { fields = fields_within; locals = none_within; sends = none_within; slots = slots_within; totals = totals_within; others = fields_within }
+  block_within Loop = record {
+    fields = fields_within;
+    locals = lets_within;
+    sends = none_within;
+    slots = slots_within;
+    totals = totals_within;
+    others = fields_within;
+  }
+  block_within Tail = record {
+    fields = fields_within;
+    locals = lets_within;
+    sends = none_within;
+    slots = slots_within;
+    totals = totals_within;
+    others = fields_within;
+  }
+  block_within SparseBody = record {
+    fields = fields_within;
+    locals = none_within;
+    sends = sends_within;
+    slots = slots_within;
+    totals = totals_within;
+    others = fields_within;
+  }
+  block_within UpdateBody = record {
+    fields = fields_within;
+    locals = none_within;
+    sends = none_within;
+    slots = slots_within;
+    totals = totals_within;
+    others = fields_within;
+  }
 
   list_fits : (block : Block) → is_list (rights_of block).breaks (block_code (statements_of p block)) ≡ true
   list_fits block =
@@ -269,10 +333,12 @@ module _ (p : Program) (typed : is_typed p ≡ true) where
       let c = counts_in p block in
       let l = block_level r c body (block_placed block) (block_shallow block) in
       both_true (eq-eqb (slice_index (heights 0 (block_code body)) 0) 0 l.entry)
-      (both_true l.level (both_true (names_more c most (block_within block) (block_code body) (block_named r c body (block_placed block))) (block_breaks r c body (block_placed block))))
+      (both_true l.level (both_true (names_more c most (block_within block) (block_code body)
+      (block_named r c body (block_placed block))) (block_breaks r c body (block_placed block))))
 
   pub code_valid : is_valid (code_of p) ≡ true
-  code_valid = both_true (list_fits Loop) (both_true (list_fits Tail) (both_true (list_fits SparseBody) (list_fits UpdateBody)))
+  code_valid = both_true (list_fits Loop) (both_true (list_fits Tail)
+      (both_true (list_fits SparseBody) (list_fits UpdateBody)))
 
   list_at : (block : Block) → slice_index_or (code_of p) (place_of block) [] ≡ block_code (statements_of p block)
   list_at Loop = refl
@@ -280,7 +346,8 @@ module _ (p : Program) (typed : is_typed p ≡ true) where
   list_at SparseBody = refl
   list_at UpdateBody = refl
 
-  pub code_names : (lists : List (List Instr)) → lists ≡ code_of p → (block : Block) → list_names (counts_in p block) (slice_index_or lists (place_of block) []) ≡ true
+  pub code_names : (lists : List (List Instr)) → lists ≡ code_of p → (block : Block) →
+      list_names (counts_in p block) (slice_index_or lists (place_of block) []) ≡ true
   code_names lists is block =
       let r = rights_of block in
       let c = counts_in p block in
@@ -289,7 +356,8 @@ module _ (p : Program) (typed : is_typed p ≡ true) where
       ∙ ap (list_names c) (list_at block)
       ∙ block_named r c body (block_placed block)
 
-  pub code_runs : (lists : List (List Instr)) → lists ≡ code_of p → (block : Block) (env : Env) → run_code (slice_index_or lists (place_of block) []) env ≡ run (statements_of p block) env
+  pub code_runs : (lists : List (List Instr)) → lists ≡ code_of p → (block : Block) (env : Env) →
+      run_code (slice_index_or lists (place_of block) []) env ≡ run (statements_of p block) env
   code_runs lists is block env =
       ap (λ (ls : List (List Instr)). run_code (slice_index_or ls (place_of block) []) env) is
       ∙ ap (λ (l : List Instr). run_code l env) (list_at block)

@@ -60,7 +60,8 @@ step Greatest place stack env = gives (int_max (top (under stack)) (top stack)) 
 step (ToLocal op i) place stack env = onward (under stack) (leaves (with_target (what.Local i) op (top stack) env))
 step (ToField op i) place stack env = onward (under stack) (leaves (with_target (what.Field i) op (top stack) env))
 step ToActive place stack env = onward (under stack) (leaves (record env { next_active = is_set (top stack) }))
-step (Emit i) place stack env = onward (under stack) (record (leaves env) { emitted = emission (what.Slot i) (top stack) })
+step (Emit i) place stack env = onward (under stack)
+    (record (leaves env) { emitted = emission (what.Slot i) (top stack) })
 step (Jump target) place stack env = record { over = passed place target; stack = stack; ran = leaves env }
 step (JumpUnless target) place stack env =
     record { over = if is_set (top stack) then 0 else passed place target; stack = under stack; ran = leaves env }

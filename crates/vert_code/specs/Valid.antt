@@ -42,11 +42,13 @@ heights place (i ∷ rest) = height_before (way_of i) place (heights (place + 1)
 -- a target lies above the place of its jump and at most at the end, where the stack has this height
 abbrev pub is_target : ℕ → ℕ → List ℕ → ℕ → Bool
 is_target place target behind height =
-    nat_lt place target && (nat_lt (passed place target) (length behind) && (slice_index behind (passed place target) == height))
+    nat_lt place target && (nat_lt (passed place target) (length behind)
+    && (slice_index behind (passed place target) == height))
 
 -- an instruction finds its operands, and each way from it has the height there
 abbrev pub leads_well : Way → ℕ → ℕ → List ℕ → Bool
-leads_well (Onward takes gives) place height behind = nat_le takes height && (slice_index behind 0 == height - takes + gives)
+leads_well (Onward takes gives) place height behind = nat_le takes height
+    && (slice_index behind 0 == height - takes + gives)
 leads_well (Leap target) place height behind = is_target place target behind height
 leads_well (Fork target) place height behind =
     nat_le 1 height && ((slice_index behind 0 == height - 1) && is_target place target behind (height - 1))
@@ -88,9 +90,11 @@ most = record { fields = 16; locals = 8; sends = 8; slots = 8; totals = 4; other
 -- a list that begins with an empty stack
 abbrev pub is_list : Bool → List Instr → Bool
 is_list may list =
-    (slice_index (heights 0 list) 0 == 0) && (is_level 0 list && (list_names most list && list_all (breaks_where may) list))
+    (slice_index (heights 0 list) 0 == 0) &&
+    (is_level 0 list && (list_names most list && list_all (breaks_where may) list))
 
 -- the four lists of a code, of which the first alone breaks
 abbrev pub is_valid : List (List Instr) → Bool
-is_valid (body ∷ tail ∷ sparse ∷ update ∷ []) = is_list true body && (is_list false tail && (is_list false sparse && is_list false update))
+is_valid (body ∷ tail ∷ sparse ∷ update ∷ []) = is_list true body
+    && (is_list false tail && (is_list false sparse && is_list false update))
 is_valid _ = false

@@ -11,7 +11,8 @@ use vert_tree::{Expr, Node, What};
 
 /// Appends the code of an expression, which leaves its value on the stack.
 pub(crate) fn write_expr(list: &mut Vec<Instr>, e: &Expr) -> Result<(), Want>
-    ensures { OnOk result (list.new.items ≡ list.old.items ++ expr_code e.now (length list.old.items)) }
+    ensures { OnOk result (list.new.items ≡ list.old.items
+        ++ expr_code e.now (length list.old.items)) }
 {
     match &e.node {
         Node::Int(x) => put(list, Instr::Push(*x)),

@@ -15,8 +15,10 @@ use vert_tree::{Program, Stmt};
 /// The code of a program.
 pub fn compile(alloc: Global, split: &Split) -> Result<Code, Want>
     ensures lists { IfOk result (λ code. lists_of code ≡ code_of split.now.program.program) }
-    ensures names { IfOk result (λ code. (block : Block) → Names split.now.program.program code block) }
-    ensures runs { IfOk result (λ code. (block : Block) → RunsAs split.now.program.program code block) }
+    ensures names { IfOk result (λ code. (block : Block) →
+        Names split.now.program.program code block) }
+    ensures runs { IfOk result (λ code. (block : Block) →
+        RunsAs split.now.program.program code block) }
 {
     let blocks = lists_for(alloc, &split.program.program)?;
     Ok(Code { blocks })

@@ -11,7 +11,8 @@ use vert_tree::{AssignOp, Expr, Stmt, What};
 
 #[cycle(statement)]
 fn write_stmt(list: &mut Vec<Instr>, stmt: &Stmt) -> Result<(), Want>
-    ensures { OnOk result (list.new.items ≡ list.old.items ++ stmt_code stmt.now (length list.old.items)) }
+    ensures { OnOk result (list.new.items ≡ list.old.items
+        ++ stmt_code stmt.now (length list.old.items)) }
 {
     match stmt {
         Stmt::Assign(target, op, value) => write_assignment(list, target.what, *op, value),
@@ -43,7 +44,8 @@ fn write_stmt(list: &mut Vec<Instr>, stmt: &Stmt) -> Result<(), Want>
 /// Appends the code of the statements of a block.
 #[cycle(statement)]
 pub(crate) fn write_body(list: &mut Vec<Instr>, body: &[Stmt]) -> Result<(), Want>
-    ensures { OnOk result (list.new.items ≡ list.old.items ++ body_code body.now (length list.old.items)) }
+    ensures { OnOk result (list.new.items ≡ list.old.items
+        ++ body_code body.now (length list.old.items)) }
 {
     for stmt in body {
         write_stmt(list, stmt)?;
@@ -57,7 +59,8 @@ fn write_assignment(
     op: AssignOp,
     value: &Expr,
 ) -> Result<(), Want>
-    ensures { OnOk result (list.new.items ≡ list.old.items ++ store target op (expr_code value.now) (length list.old.items)) }
+    ensures { OnOk result (list.new.items ≡ list.old.items
+        ++ store target op (expr_code value.now) (length list.old.items)) }
 {
     match target {
         What::Local(i) => {
@@ -73,7 +76,8 @@ fn write_assignment(
 }
 
 fn write_emission(list: &mut Vec<Instr>, slot: What, value: &Expr) -> Result<(), Want>
-    ensures { OnOk result (list.new.items ≡ list.old.items ++ emit slot (expr_code value.now) (length list.old.items)) }
+    ensures { OnOk result (list.new.items ≡ list.old.items
+        ++ emit slot (expr_code value.now) (length list.old.items)) }
 {
     match slot {
         What::Slot(i) => {

@@ -69,7 +69,8 @@ SameFrame-trans a b c p q = record {
 
 pub beside-trans : (a b c : Env) → SameFrame (beside a b) b → SameFrame (beside b c) c → SameFrame (beside a c) c
 beside-trans a b c p q = record {
-  counts = q.counts ∙ ap (λ k. let counts : Counts = record k { other_fields = length c.other_row.words.items } in counts) p.counts;
+  counts = q.counts ∙ ap (λ k. let counts : Counts = record k { other_fields = length c.other_row.words.items } in
+      counts) p.counts;
   id = q.id ∙ p.id;
   n = q.n ∙ p.n;
   round = q.round ∙ p.round;
@@ -87,7 +88,8 @@ beside-trans a b c p q = record {
 
 target_keeps : (w : What) (op : AssignOp) (x : ℤ) (env : Env) → SameFrame env (with_target w op x env)
 target_keeps (what.Field i) op x env = record {
-  counts = ap (λ n. record (counts_of env) { fields = n }) (length-set env.row.words.items i (assigned op (word_at env.row.words.items i) x));
+  counts = ap (λ n. record (counts_of env) { fields = n })
+      (length-set env.row.words.items i (assigned op (word_at env.row.words.items i) x));
   id = refl;
   n = refl;
   round = refl;
@@ -103,7 +105,8 @@ target_keeps (what.Field i) op x env = record {
   key = refl;
 }
 target_keeps (what.Local i) op x env = record {
-  counts = ap (λ n. record (counts_of env) { locals = n }) (length-set env.locals.items i (assigned op (word_at env.locals.items i) x));
+  counts = ap (λ n. record (counts_of env) { locals = n })
+      (length-set env.locals.items i (assigned op (word_at env.locals.items i) x));
   id = refl;
   n = refl;
   round = refl;
@@ -134,7 +137,8 @@ leaves_within r env = record {
   breaks = λ no. refl;
 }
 
-after_within : (r : Rights) (env : Env) (a b : Ran) → WithinRights r env a → WithinRights r a.env b → WithinRights r env (after a b)
+after_within : (r : Rights) (env : Env) (a b : Ran) → WithinRights r env a → WithinRights r a.env b →
+    WithinRights r env (after a b)
 after_within r env a b p q = record {
   fields = λ no. q.fields no ∙ p.fields no;
   locals = λ no. q.locals no ∙ p.locals no;
@@ -144,7 +148,8 @@ after_within r env a b p q = record {
   breaks = q.breaks;
 }
 
-target_within : (r : Rights) (c : Counts) (w : What) (op : AssignOp) (x : ℤ) (env : Env) → IsTrue (is_target r c w) → WithinRights r env (leaves (with_target w op x env))
+target_within : (r : Rights) (c : Counts) (w : What) (op : AssignOp) (x : ℤ) (env : Env) → IsTrue (is_target r c w) →
+    WithinRights r env (leaves (with_target w op x env))
 target_within r c (what.Field i) op x env h =
     let may : r.fields ≡ true = left_true r.fields (nat_lt i c.fields) h in
     record {
@@ -183,7 +188,8 @@ tame_nothing r = record { frame = SameFrame-refl; reads = λ env. refl; within =
 tame_under : (r : Rights) (more t : Bool) (f : Act) → Tame r t f → Tame r (more && t) f
 tame_under r more t f p = record { frame = p.frame; reads = p.reads; within = λ h. p.within (right_true more t h) }
 
-next_frame : (flow : Flow) (env : Env) (a b : Ran) → SameFrame env a.env → SameFrame a.env b.env → SameFrame env (by_flow flow a (after a b)).env
+next_frame : (flow : Flow) (env : Env) (a b : Ran) → SameFrame env a.env → SameFrame a.env b.env →
+    SameFrame env (by_flow flow a (after a b)).env
 next_frame Broke env a b p q = p
 next_frame Going env a b p q = SameFrame-trans env a.env b.env p q
 
@@ -191,34 +197,42 @@ pub next_reads : (flow : Flow) (a b : Ran) → a.reads ≡ [] → b.reads ≡ []
 next_reads Broke a b p q = p
 next_reads Going a b p q = ap (λ us. us ++ b.reads) p ∙ q
 
-next_within : (flow : Flow) (r : Rights) (env : Env) (a b : Ran) → WithinRights r env a → WithinRights r a.env b → WithinRights r env (by_flow flow a (after a b))
+next_within : (flow : Flow) (r : Rights) (env : Env) (a b : Ran) → WithinRights r env a → WithinRights r a.env b →
+    WithinRights r env (by_flow flow a (after a b))
 next_within Broke r env a b p q = p
 next_within Going r env a b p q = after_within r env a b p q
 
-tame_next : (r : Rights) (t u : Bool) (f g : Act) → Tame r t f → Tame r u g → Tame r (t && u) (λ env. followed_by (f env) g)
+tame_next : (r : Rights) (t u : Bool) (f g : Act) → Tame r t f → Tame r u g →
+    Tame r (t && u) (λ env. followed_by (f env) g)
 tame_next r t u f g p q = record {
   frame = λ env. next_frame (f env).flow env (f env) (g (f env).env) (p.frame env) (q.frame (f env).env);
   reads = λ env. next_reads (f env).flow (f env) (g (f env).env) (p.reads env) (q.reads (f env).env);
-  within = λ h env. next_within (f env).flow r env (f env) (g (f env).env) (p.within (left_true t u h) env) (q.within (right_true t u h) (f env).env);
+  within = λ h env. next_within (f env).flow r env (f env) (g (f env).env) (p.within (left_true t u h) env)
+      (q.within (right_true t u h) (f env).env);
 }
 
-choice_frame : (b : Bool) (f g : Act) (env : Env) → SameFrame env (f env).env → SameFrame env (g env).env → SameFrame env (if b then f env else g env).env
+choice_frame : (b : Bool) (f g : Act) (env : Env) → SameFrame env (f env).env → SameFrame env (g env).env →
+    SameFrame env (if b then f env else g env).env
 choice_frame true f g env p q = p
 choice_frame false f g env p q = q
 
-choice_reads : (b : Bool) (f g : Act) (env : Env) → (f env).reads ≡ [] → (g env).reads ≡ [] → (if b then f env else g env).reads ≡ []
+choice_reads : (b : Bool) (f g : Act) (env : Env) → (f env).reads ≡ [] → (g env).reads ≡ [] →
+    (if b then f env else g env).reads ≡ []
 choice_reads true f g env p q = p
 choice_reads false f g env p q = q
 
-choice_within : (b : Bool) (r : Rights) (f g : Act) (env : Env) → WithinRights r env (f env) → WithinRights r env (g env) → WithinRights r env (if b then f env else g env)
+choice_within : (b : Bool) (r : Rights) (f g : Act) (env : Env) → WithinRights r env (f env) →
+    WithinRights r env (g env) → WithinRights r env (if b then f env else g env)
 choice_within true r f g env p q = p
 choice_within false r f g env p q = q
 
-tame_choice : (r : Rights) (t u : Bool) (test : Env → Bool) (f g : Act) → Tame r t f → Tame r u g → Tame r (t && u) (λ env. if test env then f env else g env)
+tame_choice : (r : Rights) (t u : Bool) (test : Env → Bool) (f g : Act) → Tame r t f → Tame r u g →
+    Tame r (t && u) (λ env. if test env then f env else g env)
 tame_choice r t u test f g p q = record {
   frame = λ env. choice_frame (test env) f g env (p.frame env) (q.frame env);
   reads = λ env. choice_reads (test env) f g env (p.reads env) (q.reads env);
-  within = λ h env. choice_within (test env) r f g env (p.within (left_true t u h) env) (q.within (right_true t u h) env);
+  within = λ h env. choice_within (test env) r f g env (p.within (left_true t u h) env)
+      (q.within (right_true t u h) env);
 }
 
 -- ---- statements
@@ -232,16 +246,20 @@ module _ (r : Rights) (c : Counts) where
   abbrev below : Stmt-F Held → Stmt-F Stmt
   below y = map-Stmt Held Stmt (λ s. s.0) y
 
-  all_tame : (ss : List Held) → Tame r (list_all (λ b. b) (map (stmt_placed r c) (stmts ss))) (in_turn (map act_of (stmts ss)))
+  all_tame : (ss : List Held) → Tame r (list_all (λ b. b) (map (stmt_placed r c) (stmts ss)))
+      (in_turn (map act_of (stmts ss)))
   all_tame [] = tame_nothing r
   all_tame (s ∷ ss) =
-      tame_next r (stmt_placed r c s.0) (list_all (λ b. b) (map (stmt_placed r c) (stmts ss))) (act_of s.0) (in_turn (map act_of (stmts ss))) s.1 (all_tame ss)
+      tame_next r (stmt_placed r c s.0) (list_all (λ b. b) (map (stmt_placed r c) (stmts ss))) (act_of s.0)
+      (in_turn (map act_of (stmts ss))) s.1 (all_tame ss)
 
-  level_tame : (y : Stmt-F Held) → Tame r (level_placed r c (map-Stmt Stmt Bool (stmt_placed r c) (below y))) (act_step (map-Stmt Stmt Act act_of (below y)))
+  level_tame : (y : Stmt-F Held) → Tame r (level_placed r c (map-Stmt Stmt Bool (stmt_placed r c) (below y)))
+      (act_step (map-Stmt Stmt Act act_of (below y)))
   level_tame (level.Assign t op e) = record {
     frame = λ env. target_keeps t.what op (value_of e env) env;
     reads = λ env. refl;
-    within = λ h env. target_within r c t.what op (value_of e env) env (left_true (is_target r c t.what) (expr_placed c e) h);
+    within = λ h env. target_within r c t.what op (value_of e env) env
+        (left_true (is_target r c t.what) (expr_placed c e) h);
   }
   level_tame (level.SetActive at e) = record {
     frame = λ env. record {
@@ -273,10 +291,12 @@ module _ (r : Rights) (c : Counts) where
   }
   level_tame (level.If at test held None) =
       tame_under r (expr_placed c test) _ _
-      (tame_choice r _ true (λ env. is_set (value_of test env)) (in_turn (map act_of (stmts held.items))) leaves (all_tame held.items) (tame_nothing r))
+      (tame_choice r _ true (λ env. is_set (value_of test env)) (in_turn (map act_of (stmts held.items))) leaves
+      (all_tame held.items) (tame_nothing r))
   level_tame (level.If at test held (Some body)) =
       tame_under r (expr_placed c test) _ _
-      (tame_choice r _ _ (λ env. is_set (value_of test env)) (in_turn (map act_of (stmts held.items))) (in_turn (map act_of (stmts body.items))) (all_tame held.items) (all_tame body.items))
+      (tame_choice r _ _ (λ env. is_set (value_of test env)) (in_turn (map act_of (stmts held.items)))
+      (in_turn (map act_of (stmts body.items))) (all_tame held.items) (all_tame body.items))
   level_tame (level.Emit at slot e) = record {
     frame = SameFrame-refl;
     reads = λ env. refl;
@@ -308,25 +328,36 @@ module _ (r : Rights) (c : Counts) where
   act_tame = ind-Stmt (λ s. Tame r (stmt_placed r c s) (act_of s)) (λ x y is.
       subst (λ z. Tame r (stmt_placed r c (roll-Stmt z)) (act_of (roll-Stmt z))) is
       (subst (λ t. Tame r t (act_of (roll-Stmt (below y)))) (sym (fold-roll-Stmt Bool (level_placed r c) (below y)))
-      (subst (Tame r (level_placed r c (map-Stmt Stmt Bool (stmt_placed r c) (below y)))) (sym (fold-roll-Stmt Act act_step (below y)))
+      (subst (Tame r (level_placed r c (map-Stmt Stmt Bool (stmt_placed r c) (below y))))
+      (sym (fold-roll-Stmt Act act_step (below y)))
       (level_tame y))))
 
   run_tame : (body : List Stmt) → Tame r (body_placed r c body) (run body)
   run_tame [] = tame_nothing r
-  run_tame (s ∷ ss) = tame_next r (stmt_placed r c s) (body_placed r c ss) (act_of s) (run ss) (act_tame s) (run_tame ss)
+  run_tame (s ∷ ss) = tame_next r (stmt_placed r c s) (body_placed r c ss) (act_of s) (run ss) (act_tame s)
+      (run_tame ss)
 
   pub run_within : (body : List Stmt) (env : Env) → IsTrue (body_placed r c body) → WithinRights r env (run body env)
   run_within body env h = (run_tame body).within h env
 
   -- the loop has the rights of its body
-  pub loop_within : (s : Scene) (body : List Stmt) (members : List Edge) (env : Env) → IsTrue (body_placed r c body) → WithinRights r env (loop s body members env)
+  pub loop_within : (s : Scene) (body : List Stmt) (members : List Edge) (env : Env) → IsTrue (body_placed r c body) →
+      WithinRights r env (loop s body members env)
   loop_within s body [] env h = leaves_within r env
   loop_within s body (e ∷ es) env h =
       let one = member_act s body e env in
-      next_within one.flow r env one (loop s body es one.env) (at_one (run_within body (at_member s e env) h)) (loop_within s body es one.env h)
+      next_within one.flow r env one (loop s body es one.env) (at_one (run_within body (at_member s e env) h))
+      (loop_within s body es one.env h)
     where
       at_one : {ran : Ran} → WithinRights r (at_member s e env) ran → WithinRights r env (reading (source e) ran)
-      at_one p = record { fields = p.fields; locals = p.locals; touched = p.touched; active = p.active; emits = p.emits; breaks = p.breaks }
+      at_one p = record {
+        fields = p.fields;
+        locals = p.locals;
+        touched = p.touched;
+        active = p.active;
+        emits = p.emits;
+        breaks = p.breaks;
+      }
 
 abbrev no_rights : Rights
 no_rights = record { locals = false; fields = false; active = false; emits = false; breaks = false }
@@ -338,17 +369,20 @@ run_keeps body env = (run_tame no_rights no_counts body).frame env
 pub run_reads : (body : List Stmt) (env : Env) → (run body env).reads ≡ []
 run_reads body env = (run_tame no_rights no_counts body).reads env
 
-next_beside : (flow : Flow) (env : Env) (a b : Ran) → SameFrame (beside env a.env) a.env → SameFrame (beside a.env b.env) b.env →
+next_beside : (flow : Flow) (env : Env) (a b : Ran) → SameFrame (beside env a.env) a.env →
+    SameFrame (beside a.env b.env) b.env →
     SameFrame (beside env (by_flow flow a (after a b)).env) (by_flow flow a (after a b)).env
 next_beside Broke env a b p q = p
 next_beside Going env a b p q = beside-trans env a.env b.env p q
 
 -- a loop keeps the frame but for the neighbour that it is at
-pub loop_keeps : (s : Scene) (body : List Stmt) (members : List Edge) (env : Env) → SameFrame (beside env (loop s body members env).env) (loop s body members env).env
+pub loop_keeps : (s : Scene) (body : List Stmt) (members : List Edge) (env : Env) →
+    SameFrame (beside env (loop s body members env).env) (loop s body members env).env
 loop_keeps s body [] env = SameFrame-refl env
 loop_keeps s body (e ∷ es) env =
     let one = member_act s body e env in
-    next_beside one.flow env one (loop s body es one.env) (at_one (run_keeps body (at_member s e env))) (loop_keeps s body es one.env)
+    next_beside one.flow env one (loop s body es one.env) (at_one (run_keeps body (at_member s e env)))
+    (loop_keeps s body es one.env)
   where
     at_one : {left : Env} → SameFrame (at_member s e env) left → SameFrame (beside env left) left
     at_one {left} p = record {

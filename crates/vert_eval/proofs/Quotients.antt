@@ -25,7 +25,8 @@ abs_fits : (x : ℤ) → FitsSigned w64 x → unsigned_abs x < 2 ^ 64
 abs_fits (pos a) f = omega (arith, f.sfits)
 abs_fits (negsuc a) f = omega (arith, f.sfits)
 
-pub div_wraps : (x y : ℤ) → FitsSigned w64 x → cast_signed w64 (cast_unsigned w64 (int_div x y)) ≡ int_wrap w64 (int_div x y)
+pub div_wraps : (x y : ℤ) → FitsSigned w64 x → cast_signed w64 (cast_unsigned w64 (int_div x y))
+    ≡ int_wrap w64 (int_div x y)
 div_wraps x y f = cast_is_wrap (int_div x y) (omega (arith, abs_div x y, abs_fits x f))
 
 pub quotient_is :
@@ -38,7 +39,8 @@ pub quotient_is :
     cast_signed w64 (cast_unsigned w64 r) ≡ quotient x y
 quotient_is x y r fx fy fr set e =
     to_z-of_z w64 r fr
-    ∙ (e ∙ ap (λ a. int_wrapping_div w64 a (cast_signed w64 (cast_unsigned w64 y))) (to_z-of_z w64 x fx) ∙ ap (int_wrapping_div w64 x) (to_z-of_z w64 y fy))
+    ∙ (e ∙ ap (λ a. int_wrapping_div w64 a (cast_signed w64 (cast_unsigned w64 y))) (to_z-of_z w64 x fx)
+    ∙ ap (int_wrapping_div w64 x) (to_z-of_z w64 y fy))
     ∙ (div_wraps x y fx ∙ sym (chosen y set))
   where
     chosen : (d : ℤ) → (cast_unsigned w64 d ≡ 0 → ⊥) → quotient x d ≡ int_wrap w64 (int_div x d)

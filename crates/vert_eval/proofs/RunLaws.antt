@@ -20,14 +20,17 @@ followed-Broke r next broke = ap (λ f. by_flow f r (after r (next r.env))) brok
 
 pub after_assoc : (a b c : Ran) → after a (after b c) ≡ after (after a b) c
 after_assoc a b c =
-    ap (λ es. record c { emitted = es; reads = a.reads ++ (b.reads ++ c.reads) }) (sym (append_assoc a.emitted b.emitted c.emitted))
-    ∙ ap (λ us. record c { emitted = (a.emitted ++ b.emitted) ++ c.emitted; reads = us }) (sym (append_assoc a.reads b.reads c.reads))
+    ap (λ es. record c { emitted = es; reads = a.reads ++ (b.reads ++ c.reads) })
+    (sym (append_assoc a.emitted b.emitted c.emitted))
+    ∙ ap (λ us. record c { emitted = (a.emitted ++ b.emitted) ++ c.emitted; reads = us })
+    (sym (append_assoc a.reads b.reads c.reads))
 
 pub after_followed : (a : Ran) (env : Env) (es : List Emission) (us : List ℕ) (flow : Flow) (next : Act) →
     let r : Ran = record { env = env; emitted = es; reads = us; flow = flow } in
     after a (followed_by r next) ≡ followed_by (after a r) next
 after_followed a env es us Broke next = refl
-after_followed a env es us Going next = after_assoc a (record { env = env; emitted = es; reads = us; flow = Going }) (next env)
+after_followed a env es us Going next = after_assoc a (record { env = env; emitted = es; reads = us; flow = Going })
+    (next env)
 
 pub followed_assoc : (env : Env) (es : List Emission) (us : List ℕ) (flow : Flow) (f g : Act) →
     let r : Ran = record { env = env; emitted = es; reads = us; flow = flow } in
@@ -41,11 +44,13 @@ by_next : (r : Ran) (f g : Act) → ((e : Env) → f e ≡ g e) → followed_by 
 by_next r f g same = ap (λ x. by_flow r.flow r (after r x)) (same r.env)
 
 -- the first part, and then the second unless the first broke
-pub in_turn-append : (first second : List Act) (env : Env) → in_turn (first ++ second) env ≡ followed_by (in_turn first env) (in_turn second)
+pub in_turn-append : (first second : List Act) (env : Env) →
+    in_turn (first ++ second) env ≡ followed_by (in_turn first env) (in_turn second)
 in_turn-append [] second env = refl
 in_turn-append (act ∷ rest) second env =
     let r = act env in
-    by_next r (λ e. in_turn (rest ++ second) e) (λ e. followed_by (in_turn rest e) (in_turn second)) (in_turn-append rest second)
+    by_next r (λ e. in_turn (rest ++ second) e) (λ e. followed_by (in_turn rest e) (in_turn second))
+    (in_turn-append rest second)
     ∙ followed_assoc r.env r.emitted r.reads r.flow (in_turn rest) (in_turn second)
 
 -- the law of split loops
@@ -60,10 +65,12 @@ pub loop-parts : (s : Scene) (body : List Stmt) (part : ℕ → List Edge) (numb
 loop-parts s body part [] env = refl
 loop-parts s body part (m ∷ ms) env =
     loop-append s body (part m) (flat_map part ms) env
-    ∙ by_next (loop s body (part m) env) (loop s body (flat_map part ms)) (in_turn (map (λ k. loop s body (part k)) ms)) (loop-parts s body part ms)
+    ∙ by_next (loop s body (part m) env) (loop s body (flat_map part ms))
+    (in_turn (map (λ k. loop s body (part k)) ms)) (loop-parts s body part ms)
 
 -- the act at a place, and those behind it
-module _ {X : Type 0} (act : X → Act) (xs : List X) (i : ℕ) (x : X) (env : Env) (lt : i < length xs) (is : x ≡ get_or xs i x) where
+module _ {X : Type 0} (act : X → Act) (xs : List X) (i : ℕ) (x : X) (env : Env) (lt : i < length xs)
+    (is : x ≡ get_or xs i x) where
   turn_at : in_turn (map act (drop i xs)) env ≡ followed_by (act x env) (in_turn (map act (drop (i + 1) xs)))
   turn_at =
       ap (λ ys. in_turn (map act ys) env) (drop-cons xs i x lt)

@@ -54,7 +54,12 @@ abbrev pub members_of : Graph → ℕ → List Edge
 members_of g v = neighbours_of g.vertices g.ends g.edges v
 
 abbrev pub neighbour_of : Graph → ℕ → ℤ → Neighbour
-neighbour_of g u weight = record { id = record { 0 = u }; weight = weight; indeg = indegree g u; outdeg = outdegree g u }
+neighbour_of g u weight = record {
+  id = record { 0 = u };
+  weight = weight;
+  indeg = indegree g u;
+  outdeg = outdegree g u;
+}
 
 -- the environment of a vertex with these values of the slots
 abbrev pub env_at : Scene → ℕ → List (Option ℤ) → Env
@@ -80,11 +85,15 @@ env_at s v slots = record {
 -- the lets, in order
 abbrev pub with_lets : List Decl → Env → Env
 with_lets [] env = env
-with_lets (d ∷ ds) env = with_lets ds (record env { locals = record { items = env.locals.items ++ value_of d.value env ∷ [] } })
+with_lets (d ∷ ds) env = with_lets ds (record env
+    { locals = record { items = env.locals.items ++ value_of d.value env ∷ [] } })
 
 -- the environment at a member of the neighbours
 abbrev pub at_member : Scene → Edge → Env → Env
-at_member s e env = record env { other = neighbour_of s.graph (source e) e.weight; other_row = row_at s.rows (source e) }
+at_member s e env = record env {
+  other = neighbour_of s.graph (source e) e.weight;
+  other_row = row_at s.rows (source e);
+}
 
 -- a run that read a vertex first
 abbrev pub reading : ℕ → Ran → Ran
@@ -129,7 +138,8 @@ received s sparse e sender env =
 abbrev pub emitted_over : Scene → List Combine → Sparse → Env → Edge → List Emission
 emitted_over s ops sparse env e =
     let sender = sender_at s ops (source e) in
-    if sender.row.active && is_set (value_of sparse.when_test sender) then (received s sparse e sender env).emitted else []
+    if sender.row.active && is_set (value_of sparse.when_test sender) then (received s sparse e sender env).emitted
+    else []
 
 -- a sparse round at a vertex, which reads nothing
 abbrev pub sparse_at : Scene → List Combine → Sparse → List Edge → Act
@@ -150,7 +160,8 @@ slot_ops p = map (λ s. s.op) p.slots.items
 abbrev pub gathered : Program → Ruling → Scene → ℕ → Ran
 gathered p ruling.Stop s v = leaves (env_at s v (no_values (slot_ops p)))
 gathered p ruling.Dense s v = dense_part s p.dense (members_of s.graph v) (env_at s v (no_values (slot_ops p)))
-gathered p ruling.Sparse s v = sparse_part s (slot_ops p) p.sparse (members_of s.graph v) (env_at s v (no_values (slot_ops p)))
+gathered p ruling.Sparse s v = sparse_part s (slot_ops p) p.sparse (members_of s.graph v)
+    (env_at s v (no_values (slot_ops p)))
 
 -- the row after the update block, whose flag is the one last assigned
 abbrev pub updated : List Stmt → Env → Row

@@ -55,9 +55,17 @@ noted _ i touched = bit_or touched (2 ^ i)
 
 abbrev pub with_target : What → AssignOp → ℤ → Env → Env
 with_target (what.Field i) op x env =
-    record env { row = record env.row { words = with_item env.row.words i (assigned op (word_at env.row.words.items i) x) } }
+    record env {
+      row = record env.row {
+        words = with_item env.row.words i
+            (assigned op (word_at env.row.words.items i) x);
+      };
+    }
 with_target (what.Local i) op x env =
-    record env { locals = with_item env.locals i (assigned op (word_at env.locals.items i) x); touched = noted op i env.touched }
+    record env {
+      locals = with_item env.locals i (assigned op (word_at env.locals.items i) x);
+      touched = noted op i env.touched;
+    }
 with_target _ op x env = env
 
 abbrev pub emission : What → ℤ → List Emission
@@ -73,7 +81,8 @@ acts_of (Some acts) = acts.items
 abbrev pub act_step : Stmt-F Act → Act
 act_step (Assign target op e) env = leaves (with_target target.what op (value_of e env) env)
 act_step (SetActive _ e) env = leaves (record env { next_active = is_set (value_of e env) })
-act_step (If _ test held otherwise) env = if is_set (value_of test env) then in_turn held.items env else in_turn (acts_of otherwise) env
+act_step (If _ test held otherwise) env = if is_set (value_of test env) then in_turn held.items env
+    else in_turn (acts_of otherwise) env
 act_step (Emit _ slot e) env = record (leaves env) { emitted = emission slot.what (value_of e env) }
 act_step (Break _) env = record (leaves env) { flow = Broke }
 

@@ -20,7 +20,13 @@ pub record Job : Type 0 where
   pub draws : ℕ
 
 abbrev pub scene_of : Job → ℕ → List Row → List ℤ → Scene
-scene_of job round rows totals = record { graph = job.graph; draws = job.draws; round = round; rows = rows; totals = totals }
+scene_of job round rows totals = record {
+  graph = job.graph;
+  draws = job.draws;
+  round = round;
+  rows = rows;
+  totals = totals;
+}
 
 -- the environment of a vertex that has this row
 abbrev pub with_row : Row → Env → Env
@@ -30,7 +36,10 @@ with_row row env = record env { row = row; other_row = row }
 abbrev pub first_row : Job → ℕ → Row
 first_row job v =
     let env = env_at (scene_of job 0 [] []) v [] in
-    let row : Row = record { words = record { items = map (λ d. value_of d.value env) job.program.fields.items }; active = false } in
+    let row : Row = record {
+      words = record { items = map (λ d. value_of d.value env) job.program.fields.items };
+      active = false;
+    } in
     record row { active = is_set (value_of job.program.start (with_row row env)) }
 
 abbrev pub first_rows : Job → List Row
@@ -75,7 +84,8 @@ abbrev pub ruling_after : Job → ℕ → List Row → List ℤ → Ruling
 ruling_after job round rows totals =
     if stops_after job round totals
     then ruling.Stop
-    else ruling_of (active_vertices rows) (active_edges job.graph rows) (length job.graph.edges) (round + 1) job.program.limit job.program.mode
+    else ruling_of (active_vertices rows) (active_edges job.graph rows) (length job.graph.edges) (round + 1)
+    job.program.limit job.program.mode
 
 -- what stands before the round that follows this one
 abbrev pub standing_after : Job → ℕ → List Row → Standing
@@ -111,7 +121,11 @@ abbrev pub scene_before : Job → ℕ → Standing → Scene
 scene_before job round s = scene_of job round s.rows s.totals
 
 abbrev pub played_at : Job → ℕ → Standing → Played
-played_at job round s = record { round = round; before = s; reads = reads_of job.program s.ruling (scene_before job round s) }
+played_at job round s = record {
+  round = round;
+  before = s;
+  reads = reads_of job.program s.ruling (scene_before job round s);
+}
 
 -- the rows after a round, and what stands then
 abbrev pub next_standing : Job → ℕ → Standing → Standing

@@ -11,7 +11,8 @@ use Rattle.vert_eval.specs.Rounds.{Scene, loop}
 -- second in the environment that the first left
 abbrev pub SplitsInTwo : Scene → List Stmt → Type 0
 SplitsInTwo s body =
-    (first second : List Edge) (env : Env) → loop s body (first ++ second) env ≡ followed_by (loop s body first env) (loop s body second)
+    (first second : List Edge) (env : Env) →
+    loop s body (first ++ second) env ≡ followed_by (loop s body first env) (loop s body second)
 
 -- the loop over parts, each with a number, is the loops over them in turn
 abbrev pub SplitsInParts : Scene → List Stmt → Type 0

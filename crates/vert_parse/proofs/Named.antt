@@ -17,13 +17,19 @@ use Rattle.vert_parse.proofs.Within.{program_within}
 abbrev Names : Type 0
 Names = List (String Global)
 
-pub have_places : (names used start : Names) (p : Program) → start ≡ [] → texts_in used ≡ enter_all (texts_in start) (program_names (view_named names p)) → program_all (has_place names used) p ≡ true
-have_places names used start p none e = sym (program_within (is_entered used) names p) ∙ all_entered used (texts_in start) (program_names (view_named names p)) e
+pub have_places : (names used start : Names) (p : Program) → start ≡ [] →
+    texts_in used ≡ enter_all (texts_in start) (program_names (view_named names p)) →
+    program_all (has_place names used) p ≡ true
+have_places names used start p none e = sym (program_within (is_entered used) names p)
+    ∙ all_entered used (texts_in start) (program_names (view_named names p)) e
 
-pub same_program : (names used : Names) (before after : Program) → after.names.items ≡ used → view_named used after ≡ view_named names before → view_program after ≡ view_named names before
+pub same_program : (names used : Names) (before after : Program) → after.names.items ≡ used →
+    view_named used after ≡ view_named names before → view_program after ≡ view_named names before
 same_program names used before after at same = ap (λ l. view_named l after) at ∙ same
 
-pub is_named : (names used start : Names) (before after : Program) → start ≡ [] → texts_in used ≡ enter_all (texts_in start) (program_names (view_named names before)) → after.names.items ≡ used → view_named used after ≡ view_named names before
+pub is_named : (names used start : Names) (before after : Program) → start ≡ [] →
+    texts_in used ≡ enter_all (texts_in start) (program_names (view_named names before)) → after.names.items ≡ used →
+    view_named used after ≡ view_named names before
     → program_all (is_fresh (length used)) after ≡ true → IsNamed after
 unfolding enter_all
 is_named names used start before after none e at same fresh = record {

@@ -17,14 +17,16 @@ use Rattle.vert_parse.proofs.Adding.{enter_both, enter_more, enter_none}
 use Rattle.tree_reader.proofs.Blocks.{if_view}
 
 -- ---- a name
-pub named_turn : (a b e : Texts) (text : List ℕ) (more : Texts) → b ≡ enter a text → e ≡ enter_all b more → e ≡ enter_all a (text ∷ more)
+pub named_turn : (a b e : Texts) (text : List ℕ) (more : Texts) → b ≡ enter a text → e ≡ enter_all b more →
+    e ≡ enter_all a (text ∷ more)
 named_turn a b e text more f g = g ∙ ap (λ t. enter_all t more) f ∙ sym (enter_more a text more)
 
 pub only_name : (a b : Texts) (text : List ℕ) → b ≡ enter a text → b ≡ enter_all a (text ∷ [])
 only_name a b text f = named_turn a b b text [] f (sym (enter_none b))
 
 -- ---- the items of a list
-pub through_map : {X Y : Type 0} (f : Y → Texts) (g : X → Y) (xs : List X) → flat_map (λ d. f (g d)) xs ≡ flat_map f (map g xs)
+pub through_map : {X Y : Type 0} (f : Y → Texts) (g : X → Y) (xs : List X) →
+    flat_map (λ d. f (g d)) xs ≡ flat_map f (map g xs)
 through_map f g [] = refl
 through_map f g (x ∷ xs) = ap (λ t. f (g x) ++ t) (through_map f g xs)
 
@@ -32,15 +34,19 @@ module _ {X : Type 0} (f : X → Texts) where
   drop_turn : (xs : List X) (i : ℕ) (d : X) → i < length xs → drop i xs ≡ get_or xs i d ∷ drop (i + 1) xs
   drop_turn xs i d lt = rw (add-one, drop-cons xs i d) refl
 
-  pub list_at : (xs : List X) (i : ℕ) (d : X) → i < length xs → (a b : Texts) → b ≡ enter_all a (f (get_or xs i d)) → enter_all b (flat_map f (drop (i + 1) xs)) ≡ enter_all a (flat_map f (drop i xs))
+  pub list_at : (xs : List X) (i : ℕ) (d : X) → i < length xs → (a b : Texts) → b ≡ enter_all a (f (get_or xs i d)) →
+      enter_all b (flat_map f (drop (i + 1) xs)) ≡ enter_all a (flat_map f (drop i xs))
   list_at xs i d lt a b e =
       let after = flat_map f (drop (i + 1) xs) in
-      ap (λ t. enter_all t after) e ∙ sym (enter_both a (f (get_or xs i d)) after) ∙ ap (λ l. enter_all a (flat_map f l)) (sym (drop_turn xs i d lt))
+      ap (λ t. enter_all t after) e ∙ sym (enter_both a (f (get_or xs i d)) after)
+      ∙ ap (λ l. enter_all a (flat_map f l)) (sym (drop_turn xs i d lt))
 
-  pub list_turn : (xs : List X) (i : ℕ) (d : X) → i < length xs → d ≡ get_or xs i d → (a b : Texts) → b ≡ enter_all a (f d) → enter_all b (flat_map f (drop (i + 1) xs)) ≡ enter_all a (flat_map f (drop i xs))
+  pub list_turn : (xs : List X) (i : ℕ) (d : X) → i < length xs → d ≡ get_or xs i d → (a b : Texts) →
+      b ≡ enter_all a (f d) → enter_all b (flat_map f (drop (i + 1) xs)) ≡ enter_all a (flat_map f (drop i xs))
   list_turn xs i d lt is a b e = list_at xs i d lt a b (e ∙ ap (λ y. enter_all a (f y)) is)
 
-  pub list_end : (xs : List X) (i : ℕ) → length xs ≤ i → (a b : Texts) → enter_all b (flat_map f (drop i xs)) ≡ enter_all a (flat_map f xs) → b ≡ enter_all a (flat_map f xs)
+  pub list_end : (xs : List X) (i : ℕ) → length xs ≤ i → (a b : Texts) →
+      enter_all b (flat_map f (drop i xs)) ≡ enter_all a (flat_map f xs) → b ≡ enter_all a (flat_map f xs)
   list_end xs i le a b h = sym (enter_none b) ∙ ap (λ l. enter_all b (flat_map f l)) (sym (drop_all i xs le)) ∙ h
 
 module _ (names : List (String Global)) where
@@ -51,18 +57,25 @@ module _ (names : List (String Global)) where
   block_is [] = refl
   block_is (x ∷ xs) = ap (λ t. names_of x ++ t) (block_is xs)
 
-  pub block_turn : (xs : List Stmt) (i : ℕ) (d : Stmt) → i < length xs → d ≡ get_or xs i d → (a b : Texts) → b ≡ enter_all a (statement_names (view_statement names d))
-      → enter_all b (block_names (view_block names (drop (i + 1) xs))) ≡ enter_all a (block_names (view_block names (drop i xs)))
+  pub block_turn : (xs : List Stmt) (i : ℕ) (d : Stmt) → i < length xs → d ≡ get_or xs i d → (a b : Texts) →
+      b ≡ enter_all a (statement_names (view_statement names d))
+      → enter_all b (block_names (view_block names (drop (i + 1) xs)))
+      ≡ enter_all a (block_names (view_block names (drop i xs)))
   block_turn xs i d lt is a b e =
-      ap (enter_all b) (block_is (drop (i + 1) xs)) ∙ list_turn names_of xs i d lt is a b e ∙ ap (enter_all a) (sym (block_is (drop i xs)))
+      ap (enter_all b) (block_is (drop (i + 1) xs)) ∙ list_turn names_of xs i d lt is a b e
+      ∙ ap (enter_all a) (sym (block_is (drop i xs)))
 
-  pub block_end : (xs : List Stmt) (i : ℕ) → length xs ≤ i → (a b : Texts) → enter_all b (block_names (view_block names (drop i xs))) ≡ enter_all a (block_names (view_block names xs)) → b ≡ enter_all a (block_names (view_block names xs))
+  pub block_end : (xs : List Stmt) (i : ℕ) → length xs ≤ i → (a b : Texts) →
+      enter_all b (block_names (view_block names (drop i xs))) ≡ enter_all a (block_names (view_block names xs)) →
+      b ≡ enter_all a (block_names (view_block names xs))
   block_end xs i le a b h =
-      list_end names_of xs i le a b (ap (enter_all b) (sym (block_is (drop i xs))) ∙ h ∙ ap (enter_all a) (block_is xs)) ∙ ap (enter_all a) (sym (block_is xs))
+      list_end names_of xs i le a b (ap (enter_all b) (sym (block_is (drop i xs))) ∙ h
+      ∙ ap (enter_all a) (block_is xs)) ∙ ap (enter_all a) (sym (block_is xs))
 
   -- ---- an `if`
   pub if_turn :
-      (s : Span) (test : Expr) (held : Vec Stmt) (otherwise : Option (Vec Stmt)) (stmt : Stmt) (body : List Stmt) (o a b : Texts) →
+      (s : Span) (test : Expr) (held : Vec Stmt) (otherwise : Option (Vec Stmt)) (stmt : Stmt) (body : List Stmt)
+      (o a b : Texts) →
       stmt ≡ statements.If s test held otherwise → otherwise ≡ None → body ≡ held.items →
       a ≡ enter_all o (tree_names (view names test)) →
       b ≡ enter_all a (block_names (view_block names body)) →
@@ -78,7 +91,8 @@ module _ (names : List (String Global)) where
       ∙ ap (λ x. at (view_statement names x)) (sym is)
 
   pub if_else_turn :
-      (s : Span) (test : Expr) (held : Vec Stmt) (otherwise : Option (Vec Stmt)) (other : Vec Stmt) (stmt : Stmt) (body rest : List Stmt) (o a b e : Texts) →
+      (s : Span) (test : Expr) (held : Vec Stmt) (otherwise : Option (Vec Stmt)) (other : Vec Stmt) (stmt : Stmt)
+      (body rest : List Stmt) (o a b e : Texts) →
       stmt ≡ statements.If s test held otherwise → otherwise ≡ Some other → body ≡ held.items → rest ≡ other.items →
       a ≡ enter_all o (tree_names (view names test)) →
       b ≡ enter_all a (block_names (view_block names body)) →

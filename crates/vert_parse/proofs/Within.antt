@@ -52,7 +52,8 @@ module _ (q : List ℕ → Bool) (names : List (String Global)) where
   node_within s (nodes.Neg' _ t inner) = node_within t inner
   node_within s (nodes.Not' _ t inner) = node_within t inner
   node_within s (nodes.Binary' op _ t left _ u right) = two _ _ _ _ (node_within t left) (node_within u right)
-  node_within s (nodes.Cond' _ t test _ u held _ v otherwise) = two _ _ _ _ (node_within t test) (two _ _ _ _ (node_within u held) (node_within v otherwise))
+  node_within s (nodes.Cond' _ t test _ u held _ v otherwise) = two _ _ _ _ (node_within t test)
+      (two _ _ _ _ (node_within u held) (node_within v otherwise))
   node_within s (nodes.Least' _ t left _ u right) = two _ _ _ _ (node_within t left) (node_within u right)
   node_within s (nodes.Greatest' _ t left _ u right) = two _ _ _ _ (node_within t left) (node_within u right)
   node_within s (nodes.Group' _ t inner) = node_within t inner
@@ -73,7 +74,8 @@ module _ (q : List ℕ → Bool) (names : List (String Global)) where
   abbrev below : Stmt-F Held → Stmt-F Stmt
   below y = map-Stmt Held Stmt (λ s. s.0) y
 
-  row_within : (ss : List Held) → list_all q (block_names (view_block names (stmts ss))) ≡ list_all (λ b. b) (map (stmt_all p) (stmts ss))
+  row_within : (ss : List Held) → list_all q (block_names (view_block names (stmts ss)))
+      ≡ list_all (λ b. b) (map (stmt_all p) (stmts ss))
   row_within [] = refl
   row_within (s ∷ ss) = two _ _ _ _ s.1 (row_within ss)
 
@@ -102,11 +104,13 @@ module _ (q : List ℕ → Bool) (names : List (String Global)) where
   body_within (s ∷ ss) = two _ _ _ _ (stmt_within s) (body_within ss)
 
   -- ---- declarations and blocks
-  list_within : {X Y : Type 0} (f : X → Y) (g : Y → Texts) (r : X → Bool) → ((x : X) → list_all q (g (f x)) ≡ r x) → (xs : List X) → list_all q (flat_map g (map f xs)) ≡ list_all r xs
+  list_within : {X Y : Type 0} (f : X → Y) (g : Y → Texts) (r : X → Bool) → ((x : X) → list_all q (g (f x)) ≡ r x) →
+      (xs : List X) → list_all q (flat_map g (map f xs)) ≡ list_all r xs
   list_within f g r h [] = refl
   list_within f g r h (x ∷ xs) = two _ _ _ _ (h x) (list_within f g r h xs)
 
-  given_within : {X Y : Type 0} (f : X → Y) (g : Y → Texts) (r : X → Bool) → ((x : X) → list_all q (g (f x)) ≡ r x) → (o : Option X) → list_all q (given_names g (option_map f o)) ≡ option_all r o
+  given_within : {X Y : Type 0} (f : X → Y) (g : Y → Texts) (r : X → Bool) → ((x : X) → list_all q (g (f x)) ≡ r x) →
+      (o : Option X) → list_all q (given_names g (option_map f o)) ≡ option_all r o
   given_within f g r h None = refl
   given_within f g r h (Some x) = h x
 
@@ -119,14 +123,17 @@ module _ (q : List ℕ → Bool) (names : List (String Global)) where
   total_within : (d : TotalDecl) → list_all q (total_names (view_total names d)) ≡ total_all p d
   total_within d = ap (λ b. p d.name && b) (expr_within d.value)
 
-  decls_within : (ds : List Decl) → list_all q (flat_map declaration_names (map (view_declaration names) ds)) ≡ list_all (decl_all p) ds
+  decls_within : (ds : List Decl) → list_all q (flat_map declaration_names (map (view_declaration names) ds))
+      ≡ list_all (decl_all p) ds
   decls_within = list_within (view_declaration names) declaration_names (decl_all p) decl_within
 
   dense_within : (d : Dense) → list_all q (dense_names (view_dense names d)) ≡ dense_all p d
-  dense_within d = two _ _ _ _ (expr_within d.when_test) (two _ _ _ _ (decls_within d.lets.items) (two _ _ _ _ (body_within d.body.items) (body_within d.tail.items)))
+  dense_within d = two _ _ _ _ (expr_within d.when_test)
+      (two _ _ _ _ (decls_within d.lets.items) (two _ _ _ _ (body_within d.body.items) (body_within d.tail.items)))
 
   sparse_within : (d : Sparse) → list_all q (sparse_names (view_sparse names d)) ≡ sparse_all p d
-  sparse_within d = two _ _ _ _ (expr_within d.when_test) (two _ _ _ _ (decls_within d.sends.items) (body_within d.body.items))
+  sparse_within d = two _ _ _ _ (expr_within d.when_test)
+      (two _ _ _ _ (decls_within d.sends.items) (body_within d.body.items))
 
   pub program_within : (d : Program) → list_all q (program_names (view_named names d)) ≡ program_all p d
   program_within d =
@@ -136,4 +143,5 @@ module _ (q : List ℕ → Bool) (names : List (String Global)) where
       (two _ _ _ _ (expr_within d.start)
       (two _ _ _ _ (given_within (view_dense names) dense_names (dense_all p) dense_within d.dense)
       (two _ _ _ _ (given_within (view_sparse names) sparse_names (sparse_all p) sparse_within d.sparse)
-      (two _ _ _ _ (body_within d.update.items) (given_within (view names) tree_names (expr_all p) expr_within d.stop)))))))
+      (two _ _ _ _ (body_within d.update.items)
+      (given_within (view names) tree_names (expr_all p) expr_within d.stop)))))))

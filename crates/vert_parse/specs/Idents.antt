@@ -62,7 +62,8 @@ module _ (p : Ident → Bool) where
   total_all d = p d.name && expr_all d.value
 
   abbrev pub dense_all : Dense → Bool
-  dense_all d = expr_all d.when_test && (list_all decl_all d.lets.items && (body_all d.body.items && body_all d.tail.items))
+  dense_all d = expr_all d.when_test && (list_all decl_all d.lets.items
+      && (body_all d.body.items && body_all d.tail.items))
 
   abbrev pub sparse_all : Sparse → Bool
   sparse_all d = expr_all d.when_test && (list_all decl_all d.sends.items && body_all d.body.items)

@@ -29,7 +29,8 @@ fn enter(
     names: &[String],
     used: &mut IndexSet<String>,
 ) -> Result<(), ParseFault>
-    ensures entered { OnOk result (texts_in used.new.keys ≡ enter (texts_in used.old.keys) (text_of names.now name.now.name)) }
+    ensures entered { OnOk result (texts_in used.new.keys
+        ≡ enter (texts_in used.old.keys) (text_of names.now name.now.name)) }
     ensures want { IfErr result (λ fault. fault ≡ ParseFault.Want) }
 {
     let text = text_of(names, name.name);
@@ -47,7 +48,8 @@ fn enter_expr(
     names: &[String],
     used: &mut IndexSet<String>,
 ) -> Result<(), ParseFault>
-    ensures entered { OnOk result (texts_in used.new.keys ≡ enter_all (texts_in used.old.keys) (tree_names (view names.now expr.now))) }
+    ensures entered { OnOk result (texts_in used.new.keys
+        ≡ enter_all (texts_in used.old.keys) (tree_names (view names.now expr.now))) }
     ensures want { IfErr result (λ fault. fault ≡ ParseFault.Want) }
 {
     match &expr.node {
@@ -88,7 +90,8 @@ fn enter_stmt(
     names: &[String],
     used: &mut IndexSet<String>,
 ) -> Result<(), ParseFault>
-    ensures entered { OnOk result (texts_in used.new.keys ≡ enter_all (texts_in used.old.keys) (statement_names (view_statement names.now stmt.now))) }
+    ensures entered { OnOk result (texts_in used.new.keys
+        ≡ enter_all (texts_in used.old.keys) (statement_names (view_statement names.now stmt.now))) }
     ensures want { IfErr result (λ fault. fault ≡ ParseFault.Want) }
 {
     match stmt {
@@ -123,7 +126,8 @@ fn enter_body(
     names: &[String],
     used: &mut IndexSet<String>,
 ) -> Result<(), ParseFault>
-    ensures entered { OnOk result (texts_in used.new.keys ≡ enter_all (texts_in used.old.keys) (block_names (view_block names.now body.now))) }
+    ensures entered { OnOk result (texts_in used.new.keys
+        ≡ enter_all (texts_in used.old.keys) (block_names (view_block names.now body.now))) }
     ensures want { IfErr result (λ fault. fault ≡ ParseFault.Want) }
 {
     'body: for stmt in body {
@@ -138,7 +142,9 @@ fn enter_decls(
     names: &[String],
     used: &mut IndexSet<String>,
 ) -> Result<(), ParseFault>
-    ensures entered { OnOk result (texts_in used.new.keys ≡ enter_all (texts_in used.old.keys) (flat_map declaration_names (map (view_declaration names.now) decls.now))) }
+    ensures entered { OnOk result (texts_in used.new.keys
+        ≡ enter_all (texts_in used.old.keys)
+        (flat_map declaration_names (map (view_declaration names.now) decls.now))) }
     ensures want { IfErr result (λ fault. fault ≡ ParseFault.Want) }
 {
     'decls: for decl in decls {
@@ -155,7 +161,8 @@ fn enter_slot(
     names: &[String],
     used: &mut IndexSet<String>,
 ) -> Result<(), ParseFault>
-    ensures entered { OnOk result (texts_in used.new.keys ≡ enter_all (texts_in used.old.keys) (slot_names (view_slot names.now slot.now))) }
+    ensures entered { OnOk result (texts_in used.new.keys
+        ≡ enter_all (texts_in used.old.keys) (slot_names (view_slot names.now slot.now))) }
     ensures want { IfErr result (λ fault. fault ≡ ParseFault.Want) }
 {
     enter(alloc, &slot.name, names, used)?;
@@ -168,7 +175,9 @@ fn enter_slots(
     names: &[String],
     used: &mut IndexSet<String>,
 ) -> Result<(), ParseFault>
-    ensures entered { OnOk result (texts_in used.new.keys ≡ enter_all (texts_in used.old.keys) (flat_map slot_names (map (view_slot names.now) slots.now))) }
+    ensures entered { OnOk result (texts_in used.new.keys
+        ≡ enter_all (texts_in used.old.keys)
+        (flat_map slot_names (map (view_slot names.now) slots.now))) }
     ensures want { IfErr result (λ fault. fault ≡ ParseFault.Want) }
 {
     'slots: for slot in slots {
@@ -183,7 +192,9 @@ fn enter_totals(
     names: &[String],
     used: &mut IndexSet<String>,
 ) -> Result<(), ParseFault>
-    ensures entered { OnOk result (texts_in used.new.keys ≡ enter_all (texts_in used.old.keys) (flat_map total_names (map (view_total names.now) totals.now))) }
+    ensures entered { OnOk result (texts_in used.new.keys
+        ≡ enter_all (texts_in used.old.keys)
+        (flat_map total_names (map (view_total names.now) totals.now))) }
     ensures want { IfErr result (λ fault. fault ≡ ParseFault.Want) }
 {
     'totals: for total in totals {
@@ -199,7 +210,8 @@ fn enter_dense(
     names: &[String],
     used: &mut IndexSet<String>,
 ) -> Result<(), ParseFault>
-    ensures entered { OnOk result (texts_in used.new.keys ≡ enter_all (texts_in used.old.keys) (dense_names (view_dense names.now dense.now))) }
+    ensures entered { OnOk result (texts_in used.new.keys
+        ≡ enter_all (texts_in used.old.keys) (dense_names (view_dense names.now dense.now))) }
     ensures want { IfErr result (λ fault. fault ≡ ParseFault.Want) }
 {
     enter_expr(alloc, &dense.when_test, names, used)?;
@@ -215,7 +227,8 @@ fn enter_sparse(
     names: &[String],
     used: &mut IndexSet<String>,
 ) -> Result<(), ParseFault>
-    ensures entered { OnOk result (texts_in used.new.keys ≡ enter_all (texts_in used.old.keys) (sparse_names (view_sparse names.now sparse.now))) }
+    ensures entered { OnOk result (texts_in used.new.keys
+        ≡ enter_all (texts_in used.old.keys) (sparse_names (view_sparse names.now sparse.now))) }
     ensures want { IfErr result (λ fault. fault ≡ ParseFault.Want) }
 {
     enter_expr(alloc, &sparse.when_test, names, used)?;
@@ -230,7 +243,9 @@ fn enter_maybe_dense(
     names: &[String],
     used: &mut IndexSet<String>,
 ) -> Result<(), ParseFault>
-    ensures entered { OnOk result (texts_in used.new.keys ≡ enter_all (texts_in used.old.keys) (given_names dense_names (option_map (view_dense names.now) dense.now))) }
+    ensures entered { OnOk result (texts_in used.new.keys
+        ≡ enter_all (texts_in used.old.keys)
+        (given_names dense_names (option_map (view_dense names.now) dense.now))) }
     ensures want { IfErr result (λ fault. fault ≡ ParseFault.Want) }
 {
     match dense {
@@ -245,7 +260,9 @@ fn enter_maybe_sparse(
     names: &[String],
     used: &mut IndexSet<String>,
 ) -> Result<(), ParseFault>
-    ensures entered { OnOk result (texts_in used.new.keys ≡ enter_all (texts_in used.old.keys) (given_names sparse_names (option_map (view_sparse names.now) sparse.now))) }
+    ensures entered { OnOk result (texts_in used.new.keys
+        ≡ enter_all (texts_in used.old.keys)
+        (given_names sparse_names (option_map (view_sparse names.now) sparse.now))) }
     ensures want { IfErr result (λ fault. fault ≡ ParseFault.Want) }
 {
     match sparse {
@@ -260,7 +277,9 @@ fn enter_maybe_stop(
     names: &[String],
     used: &mut IndexSet<String>,
 ) -> Result<(), ParseFault>
-    ensures entered { OnOk result (texts_in used.new.keys ≡ enter_all (texts_in used.old.keys) (given_names tree_names (option_map (view names.now) stop.now))) }
+    ensures entered { OnOk result (texts_in used.new.keys
+        ≡ enter_all (texts_in used.old.keys)
+        (given_names tree_names (option_map (view names.now) stop.now))) }
     ensures want { IfErr result (λ fault. fault ≡ ParseFault.Want) }
 {
     match stop {
@@ -276,7 +295,8 @@ pub(crate) fn enter_program(
     names: &[String],
     used: &mut IndexSet<String>,
 ) -> Result<(), ParseFault>
-    ensures entered { OnOk result (texts_in used.new.keys ≡ enter_all (texts_in used.old.keys) (program_names (view_named names.now program.now))) }
+    ensures entered { OnOk result (texts_in used.new.keys
+        ≡ enter_all (texts_in used.old.keys) (program_names (view_named names.now program.now))) }
     ensures want { IfErr result (λ fault. fault ≡ ParseFault.Want) }
 {
     enter_decls(alloc, &program.fields, names, used)?;

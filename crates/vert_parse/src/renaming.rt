@@ -114,9 +114,11 @@ fn rename_decl(decl: &mut Decl, names: &[String], used: &IndexSet<String>)
 }
 
 fn rename_decls(decls: &mut Vec<Decl>, names: &[String], used: &IndexSet<String>)
-    requires places { IsTrue (list_all (decl_all (has_place names.now used.now.keys)) decls.old.items) }
+    requires places { IsTrue (list_all (decl_all (has_place names.now used.now.keys))
+        decls.old.items) }
     requires few { length used.now.keys ≤ 2 ^ 32 }
-    ensures same { map (view_declaration used.now.keys) decls.new.items ≡ map (view_declaration names.now) decls.old.items }
+    ensures same { map (view_declaration used.now.keys) decls.new.items
+        ≡ map (view_declaration names.now) decls.old.items }
     ensures fresh { IsTrue (list_all (decl_all (is_fresh (length used.now.keys))) decls.new.items) }
 {
     for i in 0..decls.len() {
@@ -134,9 +136,11 @@ fn rename_slot(slot: &mut SlotDecl, names: &[String], used: &IndexSet<String>)
 }
 
 fn rename_slots(slots: &mut Vec<SlotDecl>, names: &[String], used: &IndexSet<String>)
-    requires places { IsTrue (list_all (slot_all (has_place names.now used.now.keys)) slots.old.items) }
+    requires places { IsTrue (list_all (slot_all (has_place names.now used.now.keys))
+        slots.old.items) }
     requires few { length used.now.keys ≤ 2 ^ 32 }
-    ensures same { map (view_slot used.now.keys) slots.new.items ≡ map (view_slot names.now) slots.old.items }
+    ensures same { map (view_slot used.now.keys) slots.new.items
+        ≡ map (view_slot names.now) slots.old.items }
     ensures fresh { IsTrue (list_all (slot_all (is_fresh (length used.now.keys))) slots.new.items) }
 {
     for i in 0..slots.len() {
@@ -155,10 +159,13 @@ fn rename_total(total: &mut TotalDecl, names: &[String], used: &IndexSet<String>
 }
 
 fn rename_totals(totals: &mut Vec<TotalDecl>, names: &[String], used: &IndexSet<String>)
-    requires places { IsTrue (list_all (total_all (has_place names.now used.now.keys)) totals.old.items) }
+    requires places { IsTrue (list_all (total_all (has_place names.now used.now.keys))
+        totals.old.items) }
     requires few { length used.now.keys ≤ 2 ^ 32 }
-    ensures same { map (view_total used.now.keys) totals.new.items ≡ map (view_total names.now) totals.old.items }
-    ensures fresh { IsTrue (list_all (total_all (is_fresh (length used.now.keys))) totals.new.items) }
+    ensures same { map (view_total used.now.keys) totals.new.items
+        ≡ map (view_total names.now) totals.old.items }
+    ensures fresh { IsTrue (list_all (total_all (is_fresh (length used.now.keys)))
+        totals.new.items) }
 {
     for i in 0..totals.len() {
         rename_total(&mut totals[i], names, used);
@@ -191,7 +198,8 @@ fn rename_sparse(sparse: &mut Sparse, names: &[String], used: &IndexSet<String>)
 fn rename_maybe_dense(dense: &mut Option<Dense>, names: &[String], used: &IndexSet<String>)
     requires places { IsTrue (option_all (dense_all (has_place names.now used.now.keys)) dense.old) }
     requires few { length used.now.keys ≤ 2 ^ 32 }
-    ensures same { option_map (view_dense used.now.keys) dense.new ≡ option_map (view_dense names.now) dense.old }
+    ensures same { option_map (view_dense used.now.keys) dense.new
+        ≡ option_map (view_dense names.now) dense.old }
     ensures fresh { IsTrue (option_all (dense_all (is_fresh (length used.now.keys))) dense.new) }
 {
     match dense {
@@ -201,9 +209,11 @@ fn rename_maybe_dense(dense: &mut Option<Dense>, names: &[String], used: &IndexS
 }
 
 fn rename_maybe_sparse(sparse: &mut Option<Sparse>, names: &[String], used: &IndexSet<String>)
-    requires places { IsTrue (option_all (sparse_all (has_place names.now used.now.keys)) sparse.old) }
+    requires places { IsTrue (option_all (sparse_all (has_place names.now used.now.keys))
+        sparse.old) }
     requires few { length used.now.keys ≤ 2 ^ 32 }
-    ensures same { option_map (view_sparse used.now.keys) sparse.new ≡ option_map (view_sparse names.now) sparse.old }
+    ensures same { option_map (view_sparse used.now.keys) sparse.new
+        ≡ option_map (view_sparse names.now) sparse.old }
     ensures fresh { IsTrue (option_all (sparse_all (is_fresh (length used.now.keys))) sparse.new) }
 {
     match sparse {

@@ -12,14 +12,18 @@ use Rattle.vert_tree.specs.Printed.{printed_opening, printed_statement, printed_
 use Rattle.vert_tree.specs.Views.{view, view_statement, view_block}
 use Rattle.vert_tree.proofs.Rows.{view-If, view-If_else}
 
-block_more : (names : List (String Global)) (ss : List Stmt) (s : Stmt) → printed_block (view_block names (ss ++ s ∷ [])) ≡ printed_block (view_block names ss) ++ printed_statement (view_statement names s)
+block_more : (names : List (String Global)) (ss : List Stmt) (s : Stmt) →
+    printed_block (view_block names (ss ++ s ∷ [])) ≡ printed_block (view_block names ss)
+    ++ printed_statement (view_statement names s)
 block_more names [] s = append-nil (printed_statement (view_statement names s))
 block_more names (x ∷ ss) s =
     ap (λ l. printed_statement (view_statement names x) ++ l) (block_more names ss s)
-    ∙ sym (append_assoc (printed_statement (view_statement names x)) (printed_block (view_block names ss)) (printed_statement (view_statement names s)))
+    ∙ sym (append_assoc (printed_statement (view_statement names x)) (printed_block (view_block names ss))
+    (printed_statement (view_statement names s)))
 
 -- one more statement is printed
-pub one_more : (names : List (String Global)) (all ss : List Stmt) (s : Stmt) (a b c : List ℕ) → all ≡ ss ++ s ∷ [] → b ≡ a ++ printed_block (view_block names ss) → c ≡ b ++ printed_statement (view_statement names s)
+pub one_more : (names : List (String Global)) (all ss : List Stmt) (s : Stmt) (a b c : List ℕ) → all ≡ ss ++ s ∷ [] →
+    b ≡ a ++ printed_block (view_block names ss) → c ≡ b ++ printed_statement (view_statement names s)
     → c ≡ a ++ printed_block (view_block names all)
 one_more names all ss s a b c e f g =
     g ∙ ap (λ l. l ++ printed_statement (view_statement names s)) f
@@ -27,20 +31,29 @@ one_more names all ss s a b c e f g =
     ∙ ap (λ l. a ++ l) (sym (ap (λ x. printed_block (view_block names x)) e ∙ block_more names ss s))
 
 -- an `if` without `else`
-pub if_text : (names : List (String Global)) (statement : Stmt) (s : Span) (test : Expr) (held : Vec Stmt) (otherwise : Option (Vec Stmt)) → statement ≡ statements.If s test held otherwise → otherwise ≡ None
-    → printed_statement (view_statement names statement) ≡ printed_opening (codes "if ") (view names test) ++ (printed_block (view_block names held.items) ++ codes "}\n")
+pub if_text : (names : List (String Global)) (statement : Stmt) (s : Span) (test : Expr) (held : Vec Stmt)
+    (otherwise : Option (Vec Stmt)) → statement ≡ statements.If s test held otherwise → otherwise ≡ None
+    → printed_statement (view_statement names statement) ≡ printed_opening (codes "if ") (view names test)
+    ++ (printed_block (view_block names held.items) ++ codes "}\n")
 if_text names statement s test held otherwise e f =
-    ap (λ x. printed_statement (view_statement names x)) (e ∙ ap (λ o. statements.If s test held o) f) ∙ ap printed_statement (view-If names s test held)
+    ap (λ x. printed_statement (view_statement names x)) (e ∙ ap (λ o. statements.If s test held o) f)
+    ∙ ap printed_statement (view-If names s test held)
 
 -- an `if` with `else`
-pub if_else_text : (names : List (String Global)) (statement : Stmt) (s : Span) (test : Expr) (held : Vec Stmt) (otherwise : Option (Vec Stmt)) (others : Vec Stmt) → statement ≡ statements.If s test held otherwise → otherwise ≡ Some others
+pub if_else_text : (names : List (String Global)) (statement : Stmt) (s : Span) (test : Expr) (held : Vec Stmt)
+    (otherwise : Option (Vec Stmt)) (others : Vec Stmt) → statement ≡ statements.If s test held otherwise →
+    otherwise ≡ Some others
     → printed_statement (view_statement names statement)
-    ≡ printed_opening (codes "if ") (view names test) ++ (printed_block (view_block names held.items) ++ (codes "}\nelse {\n" ++ (printed_block (view_block names others.items) ++ codes "}\n")))
+    ≡ printed_opening (codes "if ") (view names test)
+    ++ (printed_block (view_block names held.items)
+    ++ (codes "}\nelse {\n" ++ (printed_block (view_block names others.items) ++ codes "}\n")))
 if_else_text names statement s test held otherwise others e f =
-    ap (λ x. printed_statement (view_statement names x)) (e ∙ ap (λ o. statements.If s test held o) f) ∙ ap printed_statement (view-If_else names s test held others)
+    ap (λ x. printed_statement (view_statement names x)) (e ∙ ap (λ o. statements.If s test held o) f)
+    ∙ ap printed_statement (view-If_else names s test held others)
 
 -- one more of a list is printed
-pub more_of : {A B : Type 0} (f : B → List ℕ) (v : A → B) (all xs : List A) (x : A) (a b c : List ℕ) → all ≡ xs ++ x ∷ [] → b ≡ a ++ flat_map f (map v xs) → c ≡ b ++ f (v x) → c ≡ a ++ flat_map f (map v all)
+pub more_of : {A B : Type 0} (f : B → List ℕ) (v : A → B) (all xs : List A) (x : A) (a b c : List ℕ) →
+    all ≡ xs ++ x ∷ [] → b ≡ a ++ flat_map f (map v xs) → c ≡ b ++ f (v x) → c ≡ a ++ flat_map f (map v all)
 more_of f v all xs x a b c e g h =
     h ∙ ap (λ l. l ++ f (v x)) g ∙ flat_map_more f a (map v xs) (v x)
     ∙ ap (λ l. a ++ flat_map f l) (sym (ap (map v) e ∙ map-append v xs (x ∷ [])))
@@ -50,6 +63,7 @@ pub ahead : (a b x rest d : List ℕ) → b ≡ a ++ x → d ≡ b ++ rest → d
 ahead a b x rest d e f = f ∙ ap (λ l. l ++ rest) e ∙ append_assoc a x rest
 
 -- a last text that may not be written
-pub at_last : {T E : Type 0} (r : Result T E) (was now x : List ℕ) → now ≡ cond (is_ok r) (was ++ x) was → OnOk r (now ≡ was ++ x)
+pub at_last : {T E : Type 0} (r : Result T E) (was now x : List ℕ) → now ≡ cond (is_ok r) (was ++ x) was →
+    OnOk r (now ≡ was ++ x)
 at_last (Ok t) was now x e = e
 at_last (Err t) was now x e = tt

@@ -11,7 +11,8 @@ use Rattle.vert_tree.specs.declared.statement.Stmt as statements
 use Rattle.vert_tree.specs.Trees.{Statement, If, IfElse, Statements, End, More}
 use Rattle.vert_tree.specs.Views.{view, view_statement, view_row, view_block}
 
-pub row_view : (names : List (String Global)) (n : _) (row : Row_of-Stmt n) → view_row names row ≡ view_block names (items-the_row-Stmt n row)
+pub row_view : (names : List (String Global)) (n : _) (row : Row_of-Stmt n) →
+    view_row names row ≡ view_block names (items-the_row-Stmt n row)
 row_view names n end_of-Stmt = refl
 row_view names n (more_of-Stmt s rest) = ap (More (view_statement names s)) (row_view names _ rest)
 
@@ -24,15 +25,19 @@ abbrev pub otherwise_of : Stmt → (n : Count) × Row_of-Stmt n
 otherwise_of (If' s test m held (Some' k row)) = (_, row)
 otherwise_of _ = (_, end_of-Stmt)
 
-pub view-If : (names : List (String Global)) (s : Span) (test : Expr) (held : Vec Stmt) → view_statement names (statements.If s test held None) ≡ If s (view names test) (view_block names held.items)
+pub view-If : (names : List (String Global)) (s : Span) (test : Expr) (held : Vec Stmt) →
+    view_statement names (statements.If s test held None) ≡ If s (view names test) (view_block names held.items)
 view-If names s test held =
     let b = held_of (statements.If s test held None) in
     ap (If s (view names test)) (row_view names b.0 b.1 ∙ ap (view_block names) (items_hidden-the_row-Stmt-0 held))
 
 pub view-If_else : (names : List (String Global)) (s : Span) (test : Expr) (held otherwise : Vec Stmt)
-    → view_statement names (statements.If s test held (Some otherwise)) ≡ IfElse s (view names test) (view_block names held.items) (view_block names otherwise.items)
+    → view_statement names (statements.If s test held (Some otherwise))
+    ≡ IfElse s (view names test) (view_block names held.items) (view_block names otherwise.items)
 view-If_else names s test held otherwise =
     let b = held_of (statements.If s test held (Some otherwise)) in
     let o = otherwise_of (statements.If s test held (Some otherwise)) in
-    ap (λ t. IfElse s (view names test) t (view_row names o.1)) (row_view names b.0 b.1 ∙ ap (view_block names) (items_hidden-the_row-Stmt-0 held))
-    ∙ ap (IfElse s (view names test) (view_block names held.items)) (row_view names o.0 o.1 ∙ ap (view_block names) (items_hidden-the_row-Stmt-0 otherwise))
+    ap (λ t. IfElse s (view names test) t (view_row names o.1)) (row_view names b.0 b.1
+    ∙ ap (view_block names) (items_hidden-the_row-Stmt-0 held))
+    ∙ ap (IfElse s (view names test) (view_block names held.items)) (row_view names o.0 o.1
+    ∙ ap (view_block names) (items_hidden-the_row-Stmt-0 otherwise))

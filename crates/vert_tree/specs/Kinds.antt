@@ -87,11 +87,14 @@ node_kind k (Draw at tag) = Some kind.Int
 node_kind k (Neg' _ _ a) = kind_where (has_kind kind.Int (node_kind k a)) kind.Int
 node_kind k (Not' _ _ a) = kind_where (has_kind kind.Bool (node_kind k a)) kind.Bool
 node_kind k (Binary' op _ _ a _ _ b) =
-    kind_where (has_kind (operand_kind op) (node_kind k a) && has_kind (operand_kind op) (node_kind k b)) (outcome_kind op)
+    kind_where (has_kind (operand_kind op) (node_kind k a) && has_kind (operand_kind op) (node_kind k b))
+    (outcome_kind op)
 node_kind k (Cond' _ _ test _ _ a _ _ b) =
     if has_kind kind.Bool (node_kind k test) then same_kind (node_kind k a) (node_kind k b) else None
-node_kind k (Least' _ _ a _ _ b) = kind_where (has_kind kind.Int (node_kind k a) && has_kind kind.Int (node_kind k b)) kind.Int
-node_kind k (Greatest' _ _ a _ _ b) = kind_where (has_kind kind.Int (node_kind k a) && has_kind kind.Int (node_kind k b)) kind.Int
+node_kind k (Least' _ _ a _ _ b) = kind_where (has_kind kind.Int (node_kind k a) && has_kind kind.Int (node_kind k b))
+    kind.Int
+node_kind k (Greatest' _ _ a _ _ b) = kind_where
+    (has_kind kind.Int (node_kind k a) && has_kind kind.Int (node_kind k b)) kind.Int
 node_kind k (Group' _ _ a) = node_kind k a
 
 abbrev pub expr_has : Kinds → ValueType → Expr → Bool
@@ -106,7 +109,8 @@ assign_typed _ target value = has_kind kind.Int target && has_kind kind.Int valu
 abbrev pub level_typed : Kinds → Stmt-F Bool → Bool
 level_typed k (Assign target op e) = assign_typed op (name_kind k target.what) (node_kind k e.node)
 level_typed k (SetActive _ e) = expr_has k kind.Bool e
-level_typed k (If _ test held otherwise) = expr_has k kind.Bool test && (all_true held.items && all_true (tests_of otherwise))
+level_typed k (If _ test held otherwise) = expr_has k kind.Bool test
+    && (all_true held.items && all_true (tests_of otherwise))
 level_typed k (Emit _ slot e) = expr_has k kind.Int e
 level_typed k (Break _) = true
 
@@ -127,11 +131,13 @@ lets_typed k (d ∷ ds) = expr_has k d.kind d.value && lets_typed (record k { lo
 abbrev pub dense_typed : Kinds → Dense → Bool
 dense_typed k d =
     let inner = record k { locals = kinds_of d.lets.items } in
-    expr_has k kind.Bool d.when_test && (lets_typed k d.lets.items && (body_typed inner d.body.items && body_typed inner d.tail.items))
+    expr_has k kind.Bool d.when_test && (lets_typed k d.lets.items
+    && (body_typed inner d.body.items && body_typed inner d.tail.items))
 
 abbrev pub sparse_typed : Kinds → Sparse → Bool
 sparse_typed k s =
-    expr_has k kind.Bool s.when_test && (list_all (λ d. expr_has k d.kind d.value) s.sends.items && body_typed (record k { sends = kinds_of s.sends.items }) s.body.items)
+    expr_has k kind.Bool s.when_test && (list_all (λ d. expr_has k d.kind d.value) s.sends.items
+    && body_typed (record k { sends = kinds_of s.sends.items }) s.body.items)
 
 -- the types where no let and no send is named
 abbrev pub field_kinds : Program → Kinds

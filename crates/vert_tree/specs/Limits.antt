@@ -51,7 +51,8 @@ depths_of (Some depths) = depths.items
 abbrev pub level_depth : Stmt-F ℕ → ℕ
 level_depth (Assign target op e) = node_depth e.node
 level_depth (SetActive _ e) = node_depth e.node
-level_depth (If _ test held otherwise) = max (node_depth test.node) (max (deepest held.items) (deepest (depths_of otherwise))) + 1
+level_depth (If _ test held otherwise) = max (node_depth test.node)
+    (max (deepest held.items) (deepest (depths_of otherwise))) + 1
 level_depth (Emit _ slot e) = node_depth e.node
 level_depth (Break _) = 0
 
@@ -68,7 +69,8 @@ abbrev pub decls_shallow : List Decl → Bool
 decls_shallow ds = list_all (λ d. expr_shallow d.value) ds
 
 abbrev pub dense_shallow : Dense → Bool
-dense_shallow d = expr_shallow d.when_test && (decls_shallow d.lets.items && (body_shallow d.body.items && body_shallow d.tail.items))
+dense_shallow d = expr_shallow d.when_test
+    && (decls_shallow d.lets.items && (body_shallow d.body.items && body_shallow d.tail.items))
 
 abbrev pub sparse_shallow : Sparse → Bool
 sparse_shallow s = expr_shallow s.when_test && (decls_shallow s.sends.items && body_shallow s.body.items)

@@ -108,7 +108,8 @@ all_true tests = list_all (λ b. b) tests
 abbrev pub level_placed : Rights → Counts → Stmt-F Bool → Bool
 level_placed r c (Assign target op e) = is_target r c target.what && expr_placed c e
 level_placed r c (SetActive _ e) = r.active && expr_placed c e
-level_placed r c (If _ test held otherwise) = expr_placed c test && (all_true held.items && all_true (tests_of otherwise))
+level_placed r c (If _ test held otherwise) = expr_placed c test
+    && (all_true held.items && all_true (tests_of otherwise))
 level_placed r c (Emit _ slot e) = r.emits && (is_slot c slot.what && expr_placed c e)
 level_placed r c (Break _) = r.breaks
 
@@ -129,7 +130,14 @@ no_counts = record { fields = 0; locals = 0; sends = 0; slots = 0; totals = 0; o
 
 -- the places for start and for the expressions of totals
 abbrev pub row_counts : Program → Counts
-row_counts p = record { fields = length p.fields.items; locals = 0; sends = 0; slots = 0; totals = 0; other_fields = length p.fields.items }
+row_counts p = record {
+  fields = length p.fields.items;
+  locals = 0;
+  sends = 0;
+  slots = 0;
+  totals = 0;
+  other_fields = length p.fields.items;
+}
 
 -- the places for the expressions and blocks of a round, but for lets and sends
 abbrev pub round_counts : Program → Counts
@@ -149,11 +157,13 @@ stop_counts p = record no_counts { totals = length p.totals.items }
 abbrev pub dense_placed : Counts → Dense → Bool
 dense_placed c d =
     let inner = record c { locals = length d.lets.items } in
-    expr_placed c d.when_test && (lets_placed c d.lets.items && (body_placed loop_rights inner d.body.items && body_placed tail_rights inner d.tail.items))
+    expr_placed c d.when_test && (lets_placed c d.lets.items
+    && (body_placed loop_rights inner d.body.items && body_placed tail_rights inner d.tail.items))
 
 abbrev pub sparse_placed : Counts → Sparse → Bool
 sparse_placed c s =
-    expr_placed c s.when_test && (list_all (λ d. expr_placed c d.value) s.sends.items && body_placed sparse_rights (record c { sends = length s.sends.items }) s.body.items)
+    expr_placed c s.when_test && (list_all (λ d. expr_placed c d.value) s.sends.items
+    && body_placed sparse_rights (record c { sends = length s.sends.items }) s.body.items)
 
 abbrev pub option_all : {X : Type 0} → (X → Bool) → Option X → Bool
 option_all test None = true

@@ -32,7 +32,8 @@ abbrev mutual
   plain_statement (Assign target op value) = Assign (plain_name target) op (plain value)
   plain_statement (SetActive s value) = SetActive nowhere (plain value)
   plain_statement (If s test held) = If nowhere (plain test) (plain_block held)
-  plain_statement (IfElse s test held otherwise) = IfElse nowhere (plain test) (plain_block held) (plain_block otherwise)
+  plain_statement (IfElse s test held otherwise) = IfElse nowhere (plain test) (plain_block held)
+      (plain_block otherwise)
   plain_statement (Emit s slot value) = Emit nowhere (plain_name slot) (plain value)
   plain_statement (Break s) = Break nowhere
 
@@ -50,7 +51,12 @@ abbrev pub plain_total : TotalDeclaration → TotalDeclaration
 plain_total d = record { name = plain_name d.name; op = d.op; value = plain d.value }
 
 abbrev pub plain_dense : DenseBlock → DenseBlock
-plain_dense d = record { test = plain d.test; lets = map plain_declaration d.lets; body = plain_block d.body; tail = plain_block d.tail }
+plain_dense d = record {
+  test = plain d.test;
+  lets = map plain_declaration d.lets;
+  body = plain_block d.body;
+  tail = plain_block d.tail;
+}
 
 abbrev pub plain_sparse : SparseBlock → SparseBlock
 plain_sparse d = record { test = plain d.test; sends = map plain_declaration d.sends; body = plain_block d.body }

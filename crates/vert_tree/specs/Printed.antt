@@ -82,9 +82,12 @@ printed_tree (Draw s at number) = codes "draw ( " ++ (decimal number ++ codes " 
 printed_tree (Negative s inner) = codes "- " ++ printed_tree inner
 printed_tree (Not s inner) = codes "! " ++ printed_tree inner
 printed_tree (Pair s op left right) = printed_tree left ++ (operator_text op ++ printed_tree right)
-printed_tree (Choice s test held otherwise) = printed_tree test ++ (codes "? " ++ (printed_tree held ++ (codes ": " ++ printed_tree otherwise)))
-printed_tree (Least s left right) = codes "min ( " ++ (printed_tree left ++ (codes ", " ++ (printed_tree right ++ codes ") ")))
-printed_tree (Greatest s left right) = codes "max ( " ++ (printed_tree left ++ (codes ", " ++ (printed_tree right ++ codes ") ")))
+printed_tree (Choice s test held otherwise) = printed_tree test
+    ++ (codes "? " ++ (printed_tree held ++ (codes ": " ++ printed_tree otherwise)))
+printed_tree (Least s left right) = codes "min ( "
+    ++ (printed_tree left ++ (codes ", " ++ (printed_tree right ++ codes ") ")))
+printed_tree (Greatest s left right) = codes
+    "max ( " ++ (printed_tree left ++ (codes ", " ++ (printed_tree right ++ codes ") ")))
 printed_tree (Group s inner) = codes "( " ++ (printed_tree inner ++ codes ") ")
 
 -- a test behind its keyword, before a block
@@ -102,7 +105,8 @@ abbrev mutual
   printed_statement (Assign target op value) = target.text ++ (codes " " ++ printed_line (assign_text op) value)
   printed_statement (SetActive s value) = printed_line (codes "active = ") value
   printed_statement (If s test held) = printed_opening (codes "if ") test ++ (printed_block held ++ codes "}\n")
-  printed_statement (IfElse s test held otherwise) = printed_opening (codes "if ") test ++ (printed_block held ++ (codes "}\nelse {\n" ++ (printed_block otherwise ++ codes "}\n")))
+  printed_statement (IfElse s test held otherwise) = printed_opening (codes "if ") test
+      ++ (printed_block held ++ (codes "}\nelse {\n" ++ (printed_block otherwise ++ codes "}\n")))
   printed_statement (Emit s slot value) = codes "emit " ++ (slot.text ++ printed_line (codes " ") value)
   printed_statement (Break s) = codes "break ;\n"
 
@@ -114,23 +118,28 @@ abbrev mutual
 
 -- a field, a let or a send, behind its keyword
 abbrev pub printed_declaration : List ℕ → Declaration → List ℕ
-printed_declaration keyword d = keyword ++ (d.name.text ++ (codes " : " ++ (type_text d.kind ++ printed_line (codes "= ") d.value)))
+printed_declaration keyword d = keyword ++
+    (d.name.text ++ (codes " : " ++ (type_text d.kind ++ printed_line (codes "= ") d.value)))
 
 abbrev pub printed_slot : SlotDeclaration → List ℕ
 printed_slot d = codes "slot " ++ (d.name.text ++ (codes " : " ++ (combine_text d.op ++ codes ";\n")))
 
 abbrev pub printed_total : TotalDeclaration → List ℕ
-printed_total d = codes "total " ++ (d.name.text ++ (codes " : " ++ (combine_text d.op ++ printed_line (codes "= ") d.value)))
+printed_total d = codes "total " ++ (d.name.text
+    ++ (codes " : " ++ (combine_text d.op ++ printed_line (codes "= ") d.value)))
 
 abbrev pub printed_loop : Statements → List ℕ
 printed_loop body = codes "for u {\n" ++ (printed_block body ++ codes "}\n")
 
 abbrev pub printed_dense : DenseBlock → List ℕ
 printed_dense d =
-    printed_opening (codes "dense when ") d.test ++ (flat_map (printed_declaration (codes "let ")) d.lets ++ (printed_loop d.body ++ (printed_block d.tail ++ codes "}\n")))
+    printed_opening (codes "dense when ") d.test
+    ++ (flat_map (printed_declaration (codes "let ")) d.lets
+    ++ (printed_loop d.body ++ (printed_block d.tail ++ codes "}\n")))
 
 abbrev pub printed_sparse : SparseBlock → List ℕ
-printed_sparse d = printed_opening (codes "sparse when ") d.test ++ (flat_map (printed_declaration (codes "send ")) d.sends ++ (printed_block d.body ++ codes "}\n"))
+printed_sparse d = printed_opening (codes "sparse when ") d.test
+    ++ (flat_map (printed_declaration (codes "send ")) d.sends ++ (printed_block d.body ++ codes "}\n"))
 
 -- what may be missing
 abbrev pub printed_maybe : {A : Type 0} → (A → List ℕ) → Option A → List ℕ
@@ -140,7 +149,9 @@ printed_maybe f (Some x) = f x
 -- ---- programs
 
 abbrev pub printed_header : ℕ → Mode → ℕ → List ℕ
-printed_header version mode limit = codes "vertex " ++ (decimal version ++ (codes " ;\nmode " ++ (mode_text mode ++ (codes ";\nlimit " ++ (decimal limit ++ codes " ;\n")))))
+printed_header version mode limit = codes "vertex "
+    ++ (decimal version ++ (codes " ;\nmode "
+    ++ (mode_text mode ++ (codes ";\nlimit " ++ (decimal limit ++ codes " ;\n")))))
 
 abbrev pub printed_update : Statements → List ℕ
 printed_update body = codes "update {\n" ++ (printed_block body ++ codes "}\n")
@@ -149,10 +160,12 @@ printed_update body = codes "update {\n" ++ (printed_block body ++ codes "}\n")
 abbrev pub printed_blocks : ProgramTree → List ℕ
 printed_blocks p =
     printed_maybe printed_dense p.dense
-    ++ (printed_maybe printed_sparse p.sparse ++ (printed_update p.update ++ printed_maybe (printed_line (codes "stop ")) p.stop))
+    ++ (printed_maybe printed_sparse p.sparse
+    ++ (printed_update p.update ++ printed_maybe (printed_line (codes "stop ")) p.stop))
 
 abbrev pub printed : ProgramTree → List ℕ
 printed p =
     printed_header p.version p.mode p.limit
     ++ (flat_map (printed_declaration (codes "field ")) p.fields
-    ++ (flat_map printed_slot p.slots ++ (flat_map printed_total p.totals ++ (printed_line (codes "start ") p.start ++ printed_blocks p))))
+    ++ (flat_map printed_slot p.slots ++ (flat_map printed_total p.totals
+    ++ (printed_line (codes "start ") p.start ++ printed_blocks p))))

@@ -99,10 +99,12 @@ abbrev pub decls_read : Readable → List Decl → Bool
 decls_read r ds = list_all (λ d. expr_read r d.value) ds
 
 abbrev pub dense_read : Dense → Bool
-dense_read d = expr_read in_tests d.when_test && (decls_read in_tests d.lets.items && (body_read in_loop d.body.items && body_read in_tests d.tail.items))
+dense_read d = expr_read in_tests d.when_test
+    && (decls_read in_tests d.lets.items && (body_read in_loop d.body.items && body_read in_tests d.tail.items))
 
 abbrev pub sparse_read : Sparse → Bool
-sparse_read s = expr_read in_tests s.when_test && (decls_read in_tests s.sends.items && body_read in_sparse s.body.items)
+sparse_read s = expr_read in_tests s.when_test
+    && (decls_read in_tests s.sends.items && body_read in_sparse s.body.items)
 
 -- every word and slot is read where it may be
 abbrev pub is_readable : Program → Bool
@@ -137,7 +139,9 @@ send_names (Some s) = names_of s.sends.items
 -- no name is declared twice
 abbrev pub declares_once : Program → Bool
 declares_once p =
-    all_differ (names_of p.fields.items ++ (map (λ s. s.name.name) p.slots.items ++ (map (λ t. t.name.name) p.totals.items ++ (let_names p.dense ++ send_names p.sparse))))
+    all_differ (names_of p.fields.items ++
+    (map (λ s. s.name.name) p.slots.items
+    ++ (map (λ t. t.name.name) p.totals.items ++ (let_names p.dense ++ send_names p.sparse))))
 
 -- a total is a sum, a least or a greatest
 abbrev pub is_total_op : Combine → Bool

@@ -89,7 +89,8 @@ abbrev mutual
   statement_depth (Assign target op value) = depth value
   statement_depth (SetActive s value) = depth value
   statement_depth (If s test held) = suc (max (depth test) (block_depth held))
-  statement_depth (IfElse s test held otherwise) = suc (max (depth test) (max (block_depth held) (block_depth otherwise)))
+  statement_depth (IfElse s test held otherwise) = suc
+      (max (depth test) (max (block_depth held) (block_depth otherwise)))
   statement_depth (Emit s slot value) = depth value
   statement_depth (Break s) = 0
 

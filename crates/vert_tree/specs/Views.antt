@@ -43,7 +43,8 @@ view_node names s (nodes.Draw at number) = Draw s at number
 view_node names s (nodes.Neg' _ t inner) = Negative s (view_node names t inner)
 view_node names s (nodes.Not' _ t inner) = Not s (view_node names t inner)
 view_node names s (nodes.Binary' op _ t left _ u right) = Pair s op (view_node names t left) (view_node names u right)
-view_node names s (nodes.Cond' _ t test _ u held _ v otherwise) = Choice s (view_node names t test) (view_node names u held) (view_node names v otherwise)
+view_node names s (nodes.Cond' _ t test _ u held _ v otherwise) = Choice s (view_node names t test)
+    (view_node names u held) (view_node names v otherwise)
 view_node names s (nodes.Least' _ t left _ u right) = Least s (view_node names t left) (view_node names u right)
 view_node names s (nodes.Greatest' _ t left _ u right) = Greatest s (view_node names t left) (view_node names u right)
 view_node names s (nodes.Group' _ t inner) = Group s (view_node names t inner)
@@ -60,7 +61,8 @@ abbrev mutual
   pub view_statement : List (String Global) → Stmt → Statement
   view_statement names (statements.Assign target op value) = Assign (view_name names target) op (view names value)
   view_statement names (statements.SetActive s value) = SetActive s (view names value)
-  view_statement names (statements.If' s test _ held otherwise) = if_of s (view names test) (view_row names held) (view_held names otherwise)
+  view_statement names (statements.If' s test _ held otherwise) = if_of s (view names test) (view_row names held)
+      (view_held names otherwise)
   view_statement names (statements.Emit s slot value) = Emit s (view_name names slot) (view names value)
   view_statement names (statements.Break s) = Break s
 
@@ -95,7 +97,11 @@ view_dense names d = record {
 }
 
 abbrev pub view_sparse : List (String Global) → Sparse → SparseBlock
-view_sparse names d = record { test = view names d.when_test; sends = map (view_declaration names) d.sends.items; body = view_block names d.body.items }
+view_sparse names d = record {
+  test = view names d.when_test;
+  sends = map (view_declaration names) d.sends.items;
+  body = view_block names d.body.items;
+}
 
 -- a program with its names
 abbrev pub view_program : Program → ProgramTree

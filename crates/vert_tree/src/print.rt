@@ -58,7 +58,8 @@ pub fn print_block(out: &mut String, names: &[String], statements: &[Stmt]) -> R
 }
 
 fn print_parts(out: &mut String, program: &Program) -> Result<(), AllocError>
-    ensures { OnOk result (string_bytes out.new ≡ string_bytes out.old ++ printed (view_program program.now)) }
+    ensures { OnOk result (string_bytes out.new ≡ string_bytes out.old
+        ++ printed (view_program program.now)) }
 {
     let names = program.names.as_slice();
     print_header(out, program)?;
@@ -70,7 +71,8 @@ fn print_parts(out: &mut String, program: &Program) -> Result<(), AllocError>
 }
 
 fn print_header(out: &mut String, program: &Program) -> Result<(), AllocError>
-    ensures { OnOk result (string_bytes out.new ≡ string_bytes out.old ++ printed_header program.now.version program.now.mode program.now.limit) }
+    ensures { OnOk result (string_bytes out.new ≡ string_bytes out.old
+        ++ printed_header program.now.version program.now.mode program.now.limit) }
 {
     let mode = mode_word(program.mode);
     write!(
@@ -82,7 +84,8 @@ fn print_header(out: &mut String, program: &Program) -> Result<(), AllocError>
 
 // All that stands behind `start`.
 fn print_blocks(out: &mut String, program: &Program) -> Result<(), AllocError>
-    ensures { OnOk result (string_bytes out.new ≡ string_bytes out.old ++ printed_blocks (view_program program.now)) }
+    ensures { OnOk result (string_bytes out.new ≡ string_bytes out.old
+        ++ printed_blocks (view_program program.now)) }
 {
     let names = program.names.as_slice();
     print_dense_if(out, names, program)?;
@@ -95,7 +98,8 @@ fn print_blocks(out: &mut String, program: &Program) -> Result<(), AllocError>
 }
 
 fn print_dense_if(out: &mut String, names: &[String], program: &Program) -> Result<(), AllocError>
-    ensures { OnOk result (string_bytes out.new ≡ string_bytes out.old ++ printed_maybe printed_dense (option_map (view_dense names.now) program.now.dense)) }
+    ensures { OnOk result (string_bytes out.new ≡ string_bytes out.old
+        ++ printed_maybe printed_dense (option_map (view_dense names.now) program.now.dense)) }
 {
     match &program.dense {
         Some(dense) => print_dense(out, names, dense),
@@ -104,7 +108,8 @@ fn print_dense_if(out: &mut String, names: &[String], program: &Program) -> Resu
 }
 
 fn print_sparse_if(out: &mut String, names: &[String], program: &Program) -> Result<(), AllocError>
-    ensures { OnOk result (string_bytes out.new ≡ string_bytes out.old ++ printed_maybe printed_sparse (option_map (view_sparse names.now) program.now.sparse)) }
+    ensures { OnOk result (string_bytes out.new ≡ string_bytes out.old
+        ++ printed_maybe printed_sparse (option_map (view_sparse names.now) program.now.sparse)) }
 {
     match &program.sparse {
         Some(sparse) => print_sparse(out, names, sparse),

@@ -28,9 +28,11 @@ module _ (names : List (String Global)) where
   abbrev entry : Typed → Entry
   entry t = record { name = view_name names t.name; kind = t.kind }
 
-  define_from : (sort : ℕ → What) (i : ℕ) (ts : List Typed) → map (define names) (items_from sort i ts) ≡ placed_from sort i (map entry ts)
+  define_from : (sort : ℕ → What) (i : ℕ) (ts : List Typed) → map (define names) (items_from sort i ts)
+      ≡ placed_from sort i (map entry ts)
   define_from sort i [] = refl
-  define_from sort i (t ∷ ts) = ap (λ ds. define names (record { name = t.name; meaning = record { what = sort i; kind = t.kind } }) ∷ ds) (define_from sort (i + 1) ts)
+  define_from sort i (t ∷ ts) = ap (λ ds. define names
+      (record { name = t.name; meaning = record { what = sort i; kind = t.kind } }) ∷ ds) (define_from sort (i + 1) ts)
 
   enter_from : (sort : ℕ → What) (i : ℕ) (ts : List Typed) → map (enter names) (items_from sort i ts) ≡ map entry ts
   enter_from sort i [] = refl
@@ -52,12 +54,15 @@ module _ (names : List (String Global)) where
   lets_are None = refl
   lets_are (Some b) = refl
 
-  sends_are : (o : Option Sparse) → map (view_declaration names) (sends_in o) ≡ sends_of (option_map (view_sparse names) o)
+  sends_are : (o : Option Sparse) → map (view_declaration names) (sends_in o)
+      ≡ sends_of (option_map (view_sparse names) o)
   sends_are None = refl
   sends_are (Some b) = refl
 
   -- a list of five parts, part by part
-  pub five : {X Y : Type 0} (f : X → Y) (a b c d e : List X) (a' b' c' d' e' : List Y) → map f a ≡ a' → map f b ≡ b' → map f c ≡ c' → map f d ≡ d' → map f e ≡ e' → map f (a ++ (b ++ (c ++ (d ++ e)))) ≡ a' ++ (b' ++ (c' ++ (d' ++ e')))
+  pub five : {X Y : Type 0} (f : X → Y) (a b c d e : List X) (a' b' c' d' e' : List Y) → map f a ≡ a' → map f b ≡ b' →
+      map f c ≡ c' → map f d ≡ d' → map f e ≡ e' → map f (a ++ (b ++ (c ++ (d ++ e)))) ≡ a'
+      ++ (b' ++ (c' ++ (d' ++ e')))
   five f a b c d e a' b' c' d' e' p q r s t =
       map-append f a (b ++ (c ++ (d ++ e)))
       ∙ ap (λ l. l ++ map f (b ++ (c ++ (d ++ e)))) p
@@ -69,11 +74,17 @@ pub definitions_are : (p : Program) → map (define p.names.items) (all_items p)
 definitions_are p =
     let names = p.names.items in
     five names (define names) _ _ _ _ _ _ _ _ _ _
-    (define_from names what.Field 0 (map typed_decl p.fields.items) ∙ ap (placed_from what.Field 0) (decls_entered names p.fields.items))
-    (define_from names what.Slot 0 (map typed_slot p.slots.items) ∙ ap (placed_from what.Slot 0) (slots_entered names p.slots.items))
-    (define_from names what.Total 0 (map typed_total p.totals.items) ∙ ap (placed_from what.Total 0) (totals_entered names p.totals.items))
-    (define_from names what.Local 0 (map typed_decl (lets_in p.dense)) ∙ ap (placed_from what.Local 0) (decls_entered names (lets_in p.dense) ∙ ap entries (lets_are names p.dense)))
-    (define_from names what.Send 0 (map typed_decl (sends_in p.sparse)) ∙ ap (placed_from what.Send 0) (decls_entered names (sends_in p.sparse) ∙ ap entries (sends_are names p.sparse)))
+    (define_from names what.Field 0 (map typed_decl p.fields.items)
+    ∙ ap (placed_from what.Field 0) (decls_entered names p.fields.items))
+    (define_from names what.Slot 0 (map typed_slot p.slots.items)
+    ∙ ap (placed_from what.Slot 0) (slots_entered names p.slots.items))
+    (define_from names what.Total 0 (map typed_total p.totals.items)
+    ∙ ap (placed_from what.Total 0) (totals_entered names p.totals.items))
+    (define_from names what.Local 0 (map typed_decl (lets_in p.dense))
+    ∙ ap (placed_from what.Local 0) (decls_entered names (lets_in p.dense) ∙ ap entries (lets_are names p.dense)))
+    (define_from names what.Send 0 (map typed_decl (sends_in p.sparse))
+    ∙ ap (placed_from what.Send 0) (decls_entered names (sends_in p.sparse)
+    ∙ ap entries (sends_are names p.sparse)))
 
 pub entries_are : (p : Program) → map (enter p.names.items) (all_items p) ≡ all_entries (view_program p)
 entries_are p =
@@ -82,21 +93,27 @@ entries_are p =
     (enter_from names what.Field 0 (map typed_decl p.fields.items) ∙ decls_entered names p.fields.items)
     (enter_from names what.Slot 0 (map typed_slot p.slots.items) ∙ slots_entered names p.slots.items)
     (enter_from names what.Total 0 (map typed_total p.totals.items) ∙ totals_entered names p.totals.items)
-    (enter_from names what.Local 0 (map typed_decl (lets_in p.dense)) ∙ (decls_entered names (lets_in p.dense) ∙ ap entries (lets_are names p.dense)))
-    (enter_from names what.Send 0 (map typed_decl (sends_in p.sparse)) ∙ (decls_entered names (sends_in p.sparse) ∙ ap entries (sends_are names p.sparse)))
+    (enter_from names what.Local 0 (map typed_decl (lets_in p.dense))
+    ∙ (decls_entered names (lets_in p.dense) ∙ ap entries (lets_are names p.dense)))
+    (enter_from names what.Send 0 (map typed_decl (sends_in p.sparse))
+    ∙ (decls_entered names (sends_in p.sparse) ∙ ap entries (sends_are names p.sparse)))
 
 -- ---- what a text stands for is declared
 abbrev pub kinds_in : List Entry → List ValueType
 kinds_in es = map (λ e. e.kind) es
 
-pub stands_for-append : (a b : List Defined) (text : List ℕ) → stands_for (a ++ b) text ≡ or_else (stands_for a text) (stands_for b text)
+pub stands_for-append : (a b : List Defined) (text : List ℕ) →
+    stands_for (a ++ b) text ≡ or_else (stands_for a text) (stands_for b text)
 stands_for-append [] b text = refl
 stands_for-append (d ∷ a) b text =
-    elim (bytes_eq d.text text) as (λ t. (if t then Some d.meaning else stands_for (a ++ b) text) ≡ or_else (if t then Some d.meaning else stands_for a text) (stands_for b text))
+    elim (bytes_eq d.text text) as (λ t. (if t then Some d.meaning else stands_for (a ++ b) text)
+    ≡ or_else (if t then Some d.meaning else stands_for a text) (stands_for b text))
     [ true ↦ refl | false ↦ stands_for-append a b text ]
 
 -- in a list from this place on
-in_part : (sort : ℕ → What) (i : ℕ) (es : List Entry) (text : List ℕ) (m : Meaning) → stands_for (placed_from sort i es) text ≡ Some m → (j : ℕ) × (m.what ≡ sort (i + j)) × (slice_get (kinds_in es) j ≡ Some m.kind)
+in_part : (sort : ℕ → What) (i : ℕ) (es : List Entry) (text : List ℕ) (m : Meaning) →
+    stands_for (placed_from sort i es) text ≡ Some m → (j : ℕ) × (m.what ≡ sort (i + j)) ×
+    (slice_get (kinds_in es) j ≡ Some m.kind)
 in_part sort i [] text m h = cc
 in_part sort i (e ∷ es) text m h =
     let here : Meaning = record { what = sort i; kind = e.kind } in
@@ -117,7 +134,8 @@ either : (a b : Option Meaning) (m : Meaning) → or_else a b ≡ Some m → (a 
 either (Some x) b m h = inl h
 either None b m h = inr h
 
-totals_are_ints : (ts : List TotalDeclaration) (j : ℕ) (k : ValueType) → slice_get (kinds_in (total_entries ts)) j ≡ Some k → k ≡ kind.Int
+totals_are_ints : (ts : List TotalDeclaration) (j : ℕ) (k : ValueType) → slice_get (kinds_in (total_entries ts)) j
+    ≡ Some k → k ≡ kind.Int
 totals_are_ints [] j k h = cc
 totals_are_ints (t ∷ ts) zero k h = cc
 totals_are_ints (t ∷ ts) (suc j) k h = totals_are_ints ts j k h
@@ -132,10 +150,12 @@ module _ (t : ProgramTree) where
   abbrev send_kinds : List ValueType
   send_kinds = kinds_in (entries (sends_of t.sparse))
 
-  at_what : (m : Meaning) (w : What) → m.what ≡ w → IsListed field_kinds let_kinds send_kinds w m.kind → IsListed field_kinds let_kinds send_kinds m.what m.kind
+  at_what : (m : Meaning) (w : What) → m.what ≡ w → IsListed field_kinds let_kinds send_kinds w m.kind →
+      IsListed field_kinds let_kinds send_kinds m.what m.kind
   at_what m w is h = subst (λ x. IsListed field_kinds let_kinds send_kinds x m.kind) (sym is) h
 
-  pub all_listed : (text : List ℕ) (m : Meaning) → dictionary t text ≡ Some m → IsListed field_kinds let_kinds send_kinds m.what m.kind
+  pub all_listed : (text : List ℕ) (m : Meaning) → dictionary t text ≡ Some m →
+      IsListed field_kinds let_kinds send_kinds m.what m.kind
   all_listed text m h =
       let A = placed_from what.Field 0 (entries t.fields) in
       let B = placed_from what.Slot 0 (slot_entries t.slots) in
@@ -143,14 +163,20 @@ module _ (t : ProgramTree) where
       let D = placed_from what.Local 0 (entries (lets_of t.dense)) in
       let E = placed_from what.Send 0 (entries (sends_of t.sparse)) in
       elim (either _ _ m (sym (stands_for-append A (B ++ (C ++ (D ++ E))) text) ∙ h)) [
-        | inl f ↦ (let r = in_part what.Field 0 (entries t.fields) text m f in at_what m (what.Field r.0) (r.1 ∙ ap what.Field (zero-add r.0)) r.2)
+        | inl f ↦ (let r = in_part what.Field 0 (entries t.fields) text m f in
+            at_what m (what.Field r.0) (r.1 ∙ ap what.Field (zero-add r.0)) r.2)
         | inr g ↦ (elim (either _ _ m (sym (stands_for-append B (C ++ (D ++ E)) text) ∙ g)) [
-          | inl f ↦ (let r = in_part what.Slot 0 (slot_entries t.slots) text m f in at_what m (what.Slot r.0) (r.1 ∙ ap what.Slot (zero-add r.0)) tt)
+          | inl f ↦ (let r = in_part what.Slot 0 (slot_entries t.slots) text m f in
+              at_what m (what.Slot r.0) (r.1 ∙ ap what.Slot (zero-add r.0)) tt)
           | inr g ↦ (elim (either _ _ m (sym (stands_for-append C (D ++ E) text) ∙ g)) [
-            | inl f ↦ (let r = in_part what.Total 0 (total_entries t.totals) text m f in at_what m (what.Total r.0) (r.1 ∙ ap what.Total (zero-add r.0)) (totals_are_ints t.totals r.0 m.kind r.2))
+            | inl f ↦ (let r = in_part what.Total 0 (total_entries t.totals) text m f in
+                at_what m (what.Total r.0) (r.1 ∙ ap what.Total (zero-add r.0))
+                (totals_are_ints t.totals r.0 m.kind r.2))
             | inr g ↦ (elim (either _ _ m (sym (stands_for-append D E text) ∙ g)) [
-              | inl f ↦ (let r = in_part what.Local 0 (entries (lets_of t.dense)) text m f in at_what m (what.Local r.0) (r.1 ∙ ap what.Local (zero-add r.0)) r.2)
-              | inr f ↦ (let r = in_part what.Send 0 (entries (sends_of t.sparse)) text m f in at_what m (what.Send r.0) (r.1 ∙ ap what.Send (zero-add r.0)) r.2)
+              | inl f ↦ (let r = in_part what.Local 0 (entries (lets_of t.dense)) text m f in
+                  at_what m (what.Local r.0) (r.1 ∙ ap what.Local (zero-add r.0)) r.2)
+              | inr f ↦ (let r = in_part what.Send 0 (entries (sends_of t.sparse)) text m f in
+                  at_what m (what.Send r.0) (r.1 ∙ ap what.Send (zero-add r.0)) r.2)
             ])
           ])
         ])

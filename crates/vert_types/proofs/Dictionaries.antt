@@ -22,12 +22,15 @@ apart_rest : (name : String Global) (names : List (String Global)) → AreApart 
 apart_rest name names apart i j p q e =
     let same : suc i ≡ suc j = apart (suc i) (suc j) (omega arith) (omega arith) e in omega arith
 
-pub beside_at : (names : List (String Global)) (ms : List (Option Meaning)) → length ms ≡ length names → AreApart names → (i : ℕ) → i < length names → get_or ms i None ≡ beside names ms (text_of names i)
+pub beside_at : (names : List (String Global)) (ms : List (Option Meaning)) → length ms ≡ length names →
+    AreApart names → (i : ℕ) → i < length names → get_or ms i None ≡ beside names ms (text_of names i)
 beside_at [] ms wide apart i lt = absurd (omega arith)
 beside_at (name ∷ names) [] wide apart i lt = absurd (omega arith)
-beside_at (name ∷ names) (m ∷ ms) wide apart zero lt = ap (λ b. if b then m else beside names ms (string_bytes name)) (sym (bytes_eq-refl (string_bytes name)))
+beside_at (name ∷ names) (m ∷ ms) wide apart zero lt = ap (λ b. if b then m else beside names ms (string_bytes name))
+    (sym (bytes_eq-refl (string_bytes name)))
 beside_at (name ∷ names) (m ∷ ms) wide apart (suc i) lt =
     let other : bytes_eq (string_bytes name) (text_of names i) ≡ false =
-    is_false _ (λ h. let same : zero ≡ suc i = apart zero (suc i) (omega arith) lt ((bytes_eq-Decides (string_bytes name) (text_of names i)).0 h) in omega arith) in
+    is_false _ (λ h. let same : zero ≡ suc i = apart zero (suc i) (omega arith) lt
+    ((bytes_eq-Decides (string_bytes name) (text_of names i)).0 h) in omega arith) in
     beside_at names ms (omega arith) (apart_rest name names apart) i (omega arith)
     ∙ ap (λ b. if b then m else beside names ms (text_of names i)) (sym other)

@@ -29,7 +29,8 @@ module _ {X : Type 0} (p : X → Bool) where
   all_at (x ∷ xs) zero d lt h = (and_parts (p x) (list_all p xs) h).0
   all_at (x ∷ xs) (suc i) d lt h = all_at xs i d (omega arith) (and_parts (p x) (list_all p xs) h).1
 
-  pub all_with : (xs : List X) (i : ℕ) (x : X) → i < length xs → list_all p (take i xs) ≡ true → p x ≡ true → list_all p (take (i + 1) (set xs i x)) ≡ true
+  pub all_with : (xs : List X) (i : ℕ) (x : X) → i < length xs → list_all p (take i xs) ≡ true → p x ≡ true →
+      list_all p (take (i + 1) (set xs i x)) ≡ true
   all_with xs i x lt before here =
       ap (list_all p) (take_more_set xs i x lt) ∙ list_all-append p (take i xs) (x ∷ [])
       ∙ and_from (list_all p (take i xs)) (p x && true) before (and_from (p x) true here refl)
@@ -43,35 +44,46 @@ module _ {X : Type 0} (xs ys : List X) (i : ℕ) (x : X) where
   pub unvisited_after :
       (length xs ≡ length ys) × ((k : ℕ) (d : X) → i ≤ k → get_or xs k d ≡ get_or ys k d) →
       (length (set xs i x) ≡ length ys) × ((k : ℕ) (d : X) → i + 1 ≤ k → get_or (set xs i x) k d ≡ get_or ys k d)
-  unvisited_after h =
-      (length-set xs i x ∙ h.0, λ k d le. let other : k ≡ i → ⊥ = λ e. omega arith in get_or-set_other xs i k x d other ∙ h.1 k d (omega arith))
+  unvisited_after h = (
+    length-set xs i x ∙ h.0,
+    λ k d le. let other : k ≡ i → ⊥ = λ e. omega arith in
+        get_or-set_other xs i k x d other ∙ h.1 k d (omega arith),
+  )
 
 module _ {X Y : Type 0} (f : X → Y) where
   -- a write of what tells the same
-  pub map_set : (xs : List X) (i : ℕ) (x d : X) → i < length xs → f x ≡ f (get_or xs i d) → map f (set xs i x) ≡ map f xs
+  pub map_set : (xs : List X) (i : ℕ) (x d : X) → i < length xs → f x ≡ f (get_or xs i d) →
+      map f (set xs i x) ≡ map f xs
   map_set [] i x d lt same = absurd (omega arith)
   map_set (y ∷ ys) zero x d lt same = ap (λ s. s ∷ map f ys) same
   map_set (y ∷ ys) (suc i) x d lt same = ap (λ l. f y ∷ l) (map_set ys i x d (omega arith) same)
 
 -- ---- statements
-pub view_set : (names : List (String Global)) (xs : List Stmt) (i : ℕ) (x d : Stmt) → i < length xs → view_statement names x ≡ view_statement names (get_or xs i d) → view_block names (set xs i x) ≡ view_block names xs
+pub view_set : (names : List (String Global)) (xs : List Stmt) (i : ℕ) (x d : Stmt) → i < length xs →
+    view_statement names x ≡ view_statement names (get_or xs i d) → view_block names (set xs i x) ≡ view_block names xs
 view_set names [] i x d lt same = absurd (omega arith)
 view_set names (y ∷ ys) zero x d lt same = ap (λ s. More s (view_block names ys)) same
-view_set names (y ∷ ys) (suc i) x d lt same = ap (More (view_statement names y)) (view_set names ys i x d (omega arith) same)
+view_set names (y ∷ ys) (suc i) x d lt same = ap (More (view_statement names y))
+    (view_set names ys i x d (omega arith) same)
 
 -- an `if` as its parts
-if_as : (names : List (String Global)) (s : Span) (test : Expr) (held : Vec Stmt) (otherwise : Option (Vec Stmt)) → view_statement names (statements.If s test held otherwise) ≡ if_of s (view names test) (view_block names held.items) (option_map (λ b. view_block names b.items) otherwise)
+if_as : (names : List (String Global)) (s : Span) (test : Expr) (held : Vec Stmt) (otherwise : Option (Vec Stmt)) →
+    view_statement names (statements.If s test held otherwise)
+    ≡ if_of s (view names test) (view_block names held.items) (option_map (λ b. view_block names b.items) otherwise)
 if_as names s test held None = view-If names s test held
 if_as names s test held (Some otherwise) = view-If_else names s test held otherwise
 
 pub if_same :
-    (names : List (String Global)) (s s' : Span) (test test' : Expr) (held held' : Vec Stmt) (otherwise otherwise' : Option (Vec Stmt)) (stmt : Stmt) →
-    stmt ≡ statements.If s test held otherwise → s' ≡ s → view names test' ≡ view names test → view_block names held'.items ≡ view_block names held.items →
+    (names : List (String Global)) (s s' : Span) (test test' : Expr) (held held' : Vec Stmt)
+    (otherwise otherwise' : Option (Vec Stmt)) (stmt : Stmt) →
+    stmt ≡ statements.If s test held otherwise → s' ≡ s → view names test' ≡ view names test →
+    view_block names held'.items ≡ view_block names held.items →
     option_map (λ b. view_block names b.items) otherwise' ≡ option_map (λ b. view_block names b.items) otherwise →
     view_statement names (statements.If s' test' held' otherwise') ≡ view_statement names stmt
 if_same names s s' test test' held held' otherwise otherwise' stmt is at tests helds others =
     if_as names s' test' held' otherwise'
-    ∙ ap (λ x. if_of x (view names test') (view_block names held'.items) (option_map (λ b. view_block names b.items) otherwise')) at
+    ∙ ap (λ x. if_of x (view names test') (view_block names held'.items)
+    (option_map (λ b. view_block names b.items) otherwise')) at
     ∙ ap (λ x. if_of s x (view_block names held'.items) (option_map (λ b. view_block names b.items) otherwise')) tests
     ∙ ap (λ x. if_of s (view names test) x (option_map (λ b. view_block names b.items) otherwise')) helds
     ∙ ap (if_of s (view names test) (view_block names held.items)) others
@@ -81,11 +93,15 @@ if_same names s s' test test' held held' otherwise otherwise' stmt is at tests h
 module _ (w : ℕ → Option What) where
   pub if_filled :
       (s : Span) (test : Expr) (held : Vec Stmt) (otherwise : Option (Vec Stmt)) →
-      expr_filled w test ≡ true → body_filled w held.items ≡ true → option_all (λ b. body_filled w b.items) otherwise ≡ true →
+      expr_filled w test ≡ true → body_filled w held.items ≡ true → option_all (λ b. body_filled w b.items) otherwise
+      ≡ true →
       stmt_filled w (statements.If s test held otherwise) ≡ true
   if_filled s test held None tests helds others =
-      ap (stmt_filled w) (sym (rolls-If s test held None)) ∙ fold-roll-Stmt Bool (level_filled w) (level.If s test held None)
+      ap (stmt_filled w) (sym (rolls-If s test held None))
+      ∙ fold-roll-Stmt Bool (level_filled w) (level.If s test held None)
       ∙ and_from _ _ tests (and_from _ _ (list_all-map (λ b. b) (stmt_filled w) held.items ∙ helds) refl)
   if_filled s test held (Some otherwise) tests helds others =
-      ap (stmt_filled w) (sym (rolls-If s test held (Some otherwise))) ∙ fold-roll-Stmt Bool (level_filled w) (level.If s test held (Some otherwise))
-      ∙ and_from _ _ tests (and_from _ _ (list_all-map (λ b. b) (stmt_filled w) held.items ∙ helds) (list_all-map (λ b. b) (stmt_filled w) otherwise.items ∙ others))
+      ap (stmt_filled w) (sym (rolls-If s test held (Some otherwise)))
+      ∙ fold-roll-Stmt Bool (level_filled w) (level.If s test held (Some otherwise))
+      ∙ and_from _ _ tests (and_from _ _ (list_all-map (λ b. b) (stmt_filled w) held.items ∙ helds)
+      (list_all-map (λ b. b) (stmt_filled w) otherwise.items ∙ others))

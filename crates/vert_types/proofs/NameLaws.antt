@@ -54,23 +54,29 @@ module _ (names : List (String Global)) where
       let text = text_of names number in
       let A : List Finding = if is_text_among text before then fault declared_before e.name.span else [] in
       let B : List Finding = twice (text ∷ before) (map (enter names) items) in
-      let new : is_text_among text before ≡ false = not_twice (is_text_among text before) e.name.span (none_left A B h) in
+      let new : is_text_among text before ≡ false =
+      not_twice (is_text_among text before) e.name.span (none_left A B h) in
       let more = once items (text ∷ before) (none_right A B h) in
       let alone : is_among number (numbers items) ≡ false =
-      is_false _ (λ is. let none = more.fresh number is in never (sym none ∙ ap (λ b. b || is_text_among text before) (bytes_eq-refl text))) in
+      is_false _ (λ is. let none = more.fresh number is in
+      never (sym none ∙ ap (λ b. b || is_text_among text before) (bytes_eq-refl text))) in
       record {
         differ = and_from _ _ (ap not alone) more.differ;
         fresh = λ n is.
             let Goal : Type 0 = is_text_among (text_of names n) before ≡ false in
-            let cases : (b : Bool) → (n == number) ≡ b → (if b then true else is_among n (numbers items)) ≡ true → Goal =
+            let cases : (b : Bool) → (n == number) ≡ b → (if b then true else is_among n (numbers items)) ≡ true →
+            Goal =
             λ b. elim b as (λ c. (n == number) ≡ c → (if c then true else is_among n (numbers items)) ≡ true → Goal) [
-              | true ↦ (λ same is. ap (λ m. is_text_among (text_of names m) before) ((Decides-eqb n number).0 same) ∙ new)
-              | false ↦ (λ other is. or_right (bytes_eq text (text_of names n)) (is_text_among (text_of names n) before) (more.fresh n is))
+              | true ↦ (λ same is. ap (λ m. is_text_among (text_of names m) before) ((Decides-eqb n number).0 same)
+                  ∙ new)
+              | false ↦ (λ other is. or_right (bytes_eq text (text_of names n))
+                  (is_text_among (text_of names n) before) (more.fresh n is))
             ] in
             cases (n == number) refl is;
       }
 
-  numbers_from : (sort : ℕ → What) (i : ℕ) (ts : List Typed) → numbers (items_from sort i ts) ≡ map (λ t. t.name.name) ts
+  numbers_from : (sort : ℕ → What) (i : ℕ) (ts : List Typed) →
+      numbers (items_from sort i ts) ≡ map (λ t. t.name.name) ts
   numbers_from sort i [] = refl
   numbers_from sort i (t ∷ ts) = ap (λ l. t.name.name ∷ l) (numbers_from sort (i + 1) ts)
 
@@ -97,13 +103,17 @@ module _ (names : List (String Global)) where
 pub once_declared : (p : Program) → twice [] (all_entries (view_program p)) ≡ [] → declares_once p ≡ true
 once_declared p h =
     let names = p.names.items in
-    let all : numbers (all_items p) ≡ names_of p.fields.items ++ (map (λ s. s.name.name) p.slots.items ++ (map (λ t. t.name.name) p.totals.items ++ (let_names p.dense ++ send_names p.sparse))) =
+    let all : numbers (all_items p) ≡ names_of p.fields.items
+    ++ (map (λ s. s.name.name) p.slots.items
+    ++ (map (λ t. t.name.name) p.totals.items ++ (let_names p.dense ++ send_names p.sparse))) =
     five names (λ (e : Item). e.name.name) _ _ _ _ _ _ _ _ _ _
     (numbers_from names what.Field 0 (map typed_decl p.fields.items) ∙ decl_numbers names p.fields.items)
     (numbers_from names what.Slot 0 (map typed_slot p.slots.items) ∙ slot_numbers names p.slots.items)
     (numbers_from names what.Total 0 (map typed_total p.totals.items) ∙ total_numbers names p.totals.items)
-    (numbers_from names what.Local 0 (map typed_decl (lets_in p.dense)) ∙ (decl_numbers names (lets_in p.dense) ∙ lets_named names p.dense))
-    (numbers_from names what.Send 0 (map typed_decl (sends_in p.sparse)) ∙ (decl_numbers names (sends_in p.sparse) ∙ sends_named names p.sparse)) in
+    (numbers_from names what.Local 0 (map typed_decl (lets_in p.dense))
+    ∙ (decl_numbers names (lets_in p.dense) ∙ lets_named names p.dense))
+    (numbers_from names what.Send 0 (map typed_decl (sends_in p.sparse))
+    ∙ (decl_numbers names (sends_in p.sparse) ∙ sends_named names p.sparse)) in
     sym (ap all_differ all) ∙ (once names (all_items p) [] (ap (twice []) (entries_are p) ∙ h)).differ
 
 -- ---- known
@@ -111,7 +121,8 @@ known_append : (n : ℕ) (a b : List Item) → AreKnown n a → AreKnown n b →
 known_append n [] b p q = q
 known_append n (e ∷ a) b p q = (p.0, known_append n a b p.1 q)
 
-known_from : {X : Type 0} (n : ℕ) (sort : ℕ → What) (i : ℕ) (typed : X → Typed) (xs : List X) → list_all (λ x. name_known n (typed x).name) xs ≡ true → AreKnown n (items_from sort i (map typed xs))
+known_from : {X : Type 0} (n : ℕ) (sort : ℕ → What) (i : ℕ) (typed : X → Typed) (xs : List X) →
+    list_all (λ x. name_known n (typed x).name) xs ≡ true → AreKnown n (items_from sort i (map typed xs))
 known_from n sort i typed [] h = tt
 known_from n sort i typed (x ∷ xs) h =
     let f = and_parts (name_known n (typed x).name) (list_all (λ x. name_known n (typed x).name) xs) h in
@@ -123,7 +134,8 @@ items_known p h =
     known_append n _ _ (known_from n what.Field 0 typed_decl p.fields.items h.fields)
     (known_append n _ _ (known_from n what.Slot 0 typed_slot p.slots.items h.slots)
     (known_append n _ _ (known_from n what.Total 0 typed_total p.totals.items h.totals)
-    (known_append n _ _ (known_from n what.Local 0 typed_decl (lets_in p.dense) h.lets) (known_from n what.Send 0 typed_decl (sends_in p.sparse) h.sends))))
+    (known_append n _ _ (known_from n what.Local 0 typed_decl (lets_in p.dense) h.lets)
+    (known_from n what.Send 0 typed_decl (sends_in p.sparse) h.sends))))
 
 decls_named : (n : ℕ) (ds : List Decl) → decls_known n ds ≡ true → list_all (λ e. name_known n e.name) ds ≡ true
 decls_named n [] h = refl
@@ -143,23 +155,27 @@ at_most a b h = elim (leb_tells a b) [ inl t ↦ t.1 | inr f ↦ absurd (never (
 few : {X Y : Type 0} (f : X → Y) (xs : List X) (n : ℕ) → nat_le (length (map f xs)) n ≡ true → length xs ≤ n
 few f xs n h = at_most (length xs) n (ap (λ l. nat_le l n) (sym (length-map xs f)) ∙ h)
 
-lets_known : (n : ℕ) (o : Option Dense) → option_all (dense_known n) o ≡ true → list_all (λ e. name_known n e.name) (lets_in o) ≡ true
+lets_known : (n : ℕ) (o : Option Dense) → option_all (dense_known n) o ≡ true →
+    list_all (λ e. name_known n e.name) (lets_in o) ≡ true
 lets_known n None h = refl
 lets_known n (Some b) h =
     let f = and_parts (expr_known n b.when_test) _ h in
     decls_named n b.lets.items (and_parts (decls_known n b.lets.items) _ f.1).0
 
-sends_known : (n : ℕ) (o : Option Sparse) → option_all (sparse_known n) o ≡ true → list_all (λ e. name_known n e.name) (sends_in o) ≡ true
+sends_known : (n : ℕ) (o : Option Sparse) → option_all (sparse_known n) o ≡ true →
+    list_all (λ e. name_known n e.name) (sends_in o) ≡ true
 sends_known n None h = refl
 sends_known n (Some b) h =
     let f = and_parts (expr_known n b.when_test) _ h in
     decls_named n b.sends.items (and_parts (decls_known n b.sends.items) _ f.1).0
 
-few_lets : (names : List (String Global)) (o : Option Dense) → option_all (λ b. nat_le (length b.lets) 8) (option_map (view_dense names) o) ≡ true → length (lets_in o) ≤ 8
+few_lets : (names : List (String Global)) (o : Option Dense) →
+    option_all (λ b. nat_le (length b.lets) 8) (option_map (view_dense names) o) ≡ true → length (lets_in o) ≤ 8
 few_lets names None h = omega arith
 few_lets names (Some b) h = few (view_declaration names) b.lets.items 8 h
 
-few_sends : (names : List (String Global)) (o : Option Sparse) → option_all (λ b. nat_le (length b.sends) 8) (option_map (view_sparse names) o) ≡ true → length (sends_in o) ≤ 8
+few_sends : (names : List (String Global)) (o : Option Sparse) →
+    option_all (λ b. nat_le (length b.sends) 8) (option_map (view_sparse names) o) ≡ true → length (sends_in o) ≤ 8
 few_sends names None h = omega arith
 few_sends names (Some b) h = few (view_declaration names) b.sends.items 8 h
 

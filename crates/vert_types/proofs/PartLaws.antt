@@ -45,7 +45,8 @@ front_get (x ∷ a) b (suc i) lt = front_get a b i (omega arith)
 pub no_less : (n i : ℕ) → n ≡ 0 → nat_lt i n ≡ true → ⊥
 no_less n i none lt = let below : i < n = (Decides-ltb i n).0 lt in omega arith
 
-module _ (d : Dictionary) (names : List (String Global)) (fields lets sends : List ValueType) (listed : (text : List ℕ) (m : Meaning) → d text ≡ Some m → IsListed fields lets sends m.what m.kind) where
+module _ (d : Dictionary) (names : List (String Global)) (fields lets sends : List ValueType)
+    (listed : (text : List ℕ) (m : Meaning) → d text ≡ Some m → IsListed fields lets sends m.what m.kind) where
   -- the types that the names have at a place
   pub record Holds (p : Place) (k : Kinds) : Type 0 where
     pub has_fields : k.fields ≡ fields
@@ -53,7 +54,8 @@ module _ (d : Dictionary) (names : List (String Global)) (fields lets sends : Li
     pub has_sends : (i : ℕ) → nat_lt i p.names.sends ≡ true → slice_get k.sends i ≡ slice_get sends i
     pub has_others : p.words.others ≡ true → p.names.other_fields ≡ length fields
 
-  named_at : (p : Place) (k : Kinds) → Holds p k → (w : What) (t : ValueType) → IsListed fields lets sends w t → is_named p.names w ≡ true → name_kind k w ≡ Some t
+  named_at : (p : Place) (k : Kinds) → Holds p k → (w : What) (t : ValueType) → IsListed fields lets sends w t →
+      is_named p.names w ≡ true → name_kind k w ≡ Some t
   named_at p k h (Field i) t is may = ap (λ l. slice_get l i) h.has_fields ∙ is
   named_at p k h (Local i) t is may = h.has_lets i may ∙ is
   named_at p k h (Send i) t is may = h.has_sends i may ∙ is
@@ -61,7 +63,8 @@ module _ (d : Dictionary) (names : List (String Global)) (fields lets sends : Li
   named_at p k h (Slot i) t is may = absurd (never may)
   named_at p k h Unread t is may = absurd is
 
-  behind_at : (p : Place) (k : Kinds) → Holds p k → (w : What) (t : ValueType) → IsListed fields lets sends w t → is_field w ≡ true → p.words.others ≡ true → is_other_field p.names w ≡ true
+  behind_at : (p : Place) (k : Kinds) → Holds p k → (w : What) (t : ValueType) → IsListed fields lets sends w t →
+      is_field w ≡ true → p.words.others ≡ true → is_other_field p.names w ≡ true
   behind_at p k h (Field i) t is may others =
       let lt : i < length fields = slice_get_within fields i t is in
       ap (nat_lt i) (h.has_others others) ∙ (Decides-ltb i (length fields)).1 lt
@@ -71,7 +74,8 @@ module _ (d : Dictionary) (names : List (String Global)) (fields lets sends : Li
   behind_at p k h (Slot i) t is may others = absurd (never may)
   behind_at p k h Unread t is may others = absurd (never may)
 
-  other_at : (p : Place) (k : Kinds) → Holds p k → (w : What) (t : ValueType) → IsListed fields lets sends w t → is_field w ≡ true → other_kind k w ≡ Some t
+  other_at : (p : Place) (k : Kinds) → Holds p k → (w : What) (t : ValueType) → IsListed fields lets sends w t →
+      is_field w ≡ true → other_kind k w ≡ Some t
   other_at p k h (Field i) t is may = ap (λ l. slice_get l i) h.has_fields ∙ is
   other_at p k h (Local i) t is may = absurd (never may)
   other_at p k h (Send i) t is may = absurd (never may)
@@ -95,7 +99,8 @@ module _ (d : Dictionary) (names : List (String Global)) (fields lets sends : Li
     pub read : expr_read r e ≡ true
     pub typed : expr_has k t e ≡ true
 
-  pub expr_good : (p : Place) (k : Kinds) → Holds p k → (t : ValueType) (e : Expr) → expr_filled w e ≡ true → faults_as d p t (view names e) ≡ [] → Typed p.names p.words k t e
+  pub expr_good : (p : Place) (k : Kinds) → Holds p k → (t : ValueType) (e : Expr) → expr_filled w e ≡ true →
+      faults_as d p t (view names e) ≡ [] → Typed p.names p.words k t e
   expr_good p k h t e filled none =
       let g = good_expr d names p k (agrees p k h) t e filled none in
       record { placed = g.placed; read = g.read; typed = ap (has_kind t) g.kinded ∙ has_own t }
@@ -106,15 +111,21 @@ module _ (d : Dictionary) (names : List (String Global)) (fields lets sends : Li
     pub read : decls_read r ds ≡ true
     pub typed : list_all (λ e. expr_has k e.kind e.value) ds ≡ true
 
-  pub decls_good : (p : Place) (k : Kinds) → Holds p k → (ds : List Decl) → decls_filled w ds ≡ true → declaration_faults d p (map (view_declaration names) ds) ≡ [] → DeclsTyped p.names p.words k ds
+  pub decls_good : (p : Place) (k : Kinds) → Holds p k → (ds : List Decl) → decls_filled w ds ≡ true →
+      declaration_faults d p (map (view_declaration names) ds) ≡ [] → DeclsTyped p.names p.words k ds
   decls_good p k h [] filled none = record { placed = refl; read = refl; typed = refl }
   decls_good p k h (e ∷ es) filled none =
       let f = and_parts (decl_filled w e) (decls_filled w es) filled in
       let A : List Finding = faults_as d p e.kind (view names e.value) in
       let B : List Finding = declaration_faults d p (map (view_declaration names) es) in
-      let g = expr_good p k h e.kind e.value (and_parts (name_filled w e.name) (expr_filled w e.value) f.0).1 (none_left A B none) in
+      let g = expr_good p k h e.kind e.value (and_parts (name_filled w e.name) (expr_filled w e.value) f.0).1
+      (none_left A B none) in
       let more = decls_good p k h es f.1 (none_right A B none) in
-      record { placed = and_from _ _ g.placed more.placed; read = and_from _ _ g.read more.read; typed = and_from _ _ g.typed more.typed }
+      record {
+        placed = and_from _ _ g.placed more.placed;
+        read = and_from _ _ g.read more.read;
+        typed = and_from _ _ g.typed more.typed;
+      }
 
   -- ---- totals
   pub record TotalsTyped (c : Counts) (r : Readable) (k : Kinds) (ts : List TotalDecl) : Type 0 where
@@ -122,15 +133,21 @@ module _ (d : Dictionary) (names : List (String Global)) (fields lets sends : Li
     pub read : list_all (λ e. expr_read r e.value) ts ≡ true
     pub typed : list_all (λ e. expr_has k kind.Int e.value) ts ≡ true
 
-  pub totals_good : (p : Place) (k : Kinds) → Holds p k → (ts : List TotalDecl) → totals_filled w ts ≡ true → total_faults d p (map (view_total names) ts) ≡ [] → TotalsTyped p.names p.words k ts
+  pub totals_good : (p : Place) (k : Kinds) → Holds p k → (ts : List TotalDecl) → totals_filled w ts ≡ true →
+      total_faults d p (map (view_total names) ts) ≡ [] → TotalsTyped p.names p.words k ts
   totals_good p k h [] filled none = record { placed = refl; read = refl; typed = refl }
   totals_good p k h (e ∷ es) filled none =
       let f = and_parts (name_filled w e.name && expr_filled w e.value) (totals_filled w es) filled in
       let A : List Finding = faults_as d p kind.Int (view names e.value) in
       let B : List Finding = total_faults d p (map (view_total names) es) in
-      let g = expr_good p k h kind.Int e.value (and_parts (name_filled w e.name) (expr_filled w e.value) f.0).1 (none_left A B none) in
+      let g = expr_good p k h kind.Int e.value (and_parts (name_filled w e.name) (expr_filled w e.value) f.0).1
+      (none_left A B none) in
       let more = totals_good p k h es f.1 (none_right A B none) in
-      record { placed = and_from _ _ g.placed more.placed; read = and_from _ _ g.read more.read; typed = and_from _ _ g.typed more.typed }
+      record {
+        placed = and_from _ _ g.placed more.placed;
+        read = and_from _ _ g.read more.read;
+        typed = and_from _ _ g.typed more.typed;
+      }
 
   -- ---- lets
   pub record LetsTyped (c : Counts) (r : Readable) (k : Kinds) (ds : List Decl) : Type 0 where
@@ -142,7 +159,8 @@ module _ (d : Dictionary) (names : List (String Global)) (fields lets sends : Li
   abbrev with_before : List ValueType → Kinds → Kinds
   with_before before k = record k { locals = before }
 
-  holds_before : (p : Place) (k : Kinds) → Holds p k → (n : ℕ) (before rest : List ValueType) → n ≡ length before → lets ≡ before ++ rest → Holds (with_lets n p) (with_before before k)
+  holds_before : (p : Place) (k : Kinds) → Holds p k → (n : ℕ) (before rest : List ValueType) → n ≡ length before →
+      lets ≡ before ++ rest → Holds (with_lets n p) (with_before before k)
   holds_before p k h n before rest many all = record {
     has_fields = h.has_fields;
     has_lets = λ i lt.
@@ -152,17 +170,26 @@ module _ (d : Dictionary) (names : List (String Global)) (fields lets sends : Li
     has_others = h.has_others;
   }
 
-  pub lets_good : (p : Place) (k : Kinds) → Holds p k → (n : ℕ) (before : List ValueType) (ds : List Decl) → n ≡ length before → lets ≡ before ++ kinds_of ds → decls_filled w ds ≡ true →
-      let_faults d p n (map (view_declaration names) ds) ≡ [] → LetsTyped (with_lets n p).names p.words (with_before before k) ds
+  pub lets_good : (p : Place) (k : Kinds) → Holds p k → (n : ℕ) (before : List ValueType) (ds : List Decl) →
+      n ≡ length before → lets ≡ before ++ kinds_of ds → decls_filled w ds ≡ true →
+      let_faults d p n (map (view_declaration names) ds) ≡ [] →
+      LetsTyped (with_lets n p).names p.words (with_before before k) ds
   lets_good p k h n before [] many all filled none = record { placed = refl; read = refl; typed = refl }
   lets_good p k h n before (e ∷ es) many all filled none =
       let f = and_parts (decl_filled w e) (decls_filled w es) filled in
       let A : List Finding = faults_as d (with_lets n p) e.kind (view names e.value) in
       let B : List Finding = let_faults d p (n + 1) (map (view_declaration names) es) in
-      let g = expr_good (with_lets n p) (with_before before k) (holds_before p k h n before (kinds_of (e ∷ es)) many all) e.kind e.value (and_parts (name_filled w e.name) (expr_filled w e.value) f.0).1 (none_left A B none) in
+      let g = expr_good (with_lets n p) (with_before before k)
+      (holds_before p k h n before (kinds_of (e ∷ es)) many all) e.kind e.value
+      (and_parts (name_filled w e.name) (expr_filled w e.value) f.0).1 (none_left A B none) in
       let next : n + 1 ≡ length (before ++ e.kind ∷ []) = omega (arith, many, length-append before (e.kind ∷ [])) in
-      let more = lets_good p k h (n + 1) (before ++ e.kind ∷ []) es next (all ∙ sym (append_assoc before (e.kind ∷ []) (kinds_of es))) f.1 (none_right A B none) in
-      record { placed = and_from _ _ g.placed more.placed; read = and_from _ _ g.read more.read; typed = and_from _ _ g.typed more.typed }
+      let more = lets_good p k h (n + 1) (before ++ e.kind ∷ []) es next
+      (all ∙ sym (append_assoc before (e.kind ∷ []) (kinds_of es))) f.1 (none_right A B none) in
+      record {
+        placed = and_from _ _ g.placed more.placed;
+        read = and_from _ _ g.read more.read;
+        typed = and_from _ _ g.typed more.typed;
+      }
 
   -- ---- blocks, at the places of a program
   -- Where no let and no send is named: the names of the program, and so many of each sort.
@@ -181,7 +208,8 @@ module _ (d : Dictionary) (names : List (String Global)) (fields lets sends : Li
   }
 
   -- with all lets
-  lets_hold : (p : Place) (k : Kinds) (r : Readable) (ds : List Decl) (n : ℕ) → Base p k → lets ≡ kinds_of ds → n ≡ length ds →
+  lets_hold : (p : Place) (k : Kinds) (r : Readable) (ds : List Decl) (n : ℕ) → Base p k → lets ≡ kinds_of ds →
+      n ≡ length ds →
       Holds (record { words = r; names = record p.names { locals = n } }) (with_before (kinds_of ds) k)
   lets_hold p k r ds n b all many = record {
     has_fields = b.base_fields;
@@ -191,7 +219,8 @@ module _ (d : Dictionary) (names : List (String Global)) (fields lets sends : Li
   }
 
   -- with all sends
-  sends_hold : (p : Place) (k : Kinds) (r : Readable) (ds : List Decl) (n : ℕ) → Base p k → sends ≡ kinds_of ds → n ≡ length ds →
+  sends_hold : (p : Place) (k : Kinds) (r : Readable) (ds : List Decl) (n : ℕ) → Base p k → sends ≡ kinds_of ds →
+      n ≡ length ds →
       Holds (record { words = r; names = record p.names { sends = n } }) (record k { sends = kinds_of ds })
   sends_hold p k r ds n b all many = record {
     has_fields = b.base_fields;
@@ -213,7 +242,8 @@ module _ (d : Dictionary) (names : List (String Global)) (fields lets sends : Li
     abbrev in_body : Readable → ℕ → Place
     in_body r n = record { words = r; names = record c { locals = n } }
 
-    pub dense_good : Base at k → c ≡ record c { locals = 0 } → k ≡ with_before [] k → (b : Dense) (n : ℕ) → n ≡ length b.lets.items → lets ≡ kinds_of b.lets.items → dense_filled w b ≡ true →
+    pub dense_good : Base at k → c ≡ record c { locals = 0 } → k ≡ with_before [] k → (b : Dense) (n : ℕ) →
+        n ≡ length b.lets.items → lets ≡ kinds_of b.lets.items → dense_filled w b ≡ true →
         faults_as d at kind.Bool (view names b.when_test)
         ++ (let_faults d at 0 (map (view_declaration names) b.lets.items)
         ++ (block_faults d loop_rights (in_body in_loop n) (view_block names b.body.items)
@@ -224,8 +254,10 @@ module _ (d : Dictionary) (names : List (String Global)) (fields lets sends : Li
         let B : List Finding = let_faults d at 0 (map (view_declaration names) b.lets.items) in
         let C : List Finding = block_faults d loop_rights (in_body in_loop n) (view_block names b.body.items) in
         let D : List Finding = block_faults d tail_rights (in_body in_tests n) (view_block names b.tail.items) in
-        let f = and_parts (expr_filled w b.when_test) (decls_filled w b.lets.items && (body_filled w b.body.items && body_filled w b.tail.items)) filled in
-        let g = and_parts (decls_filled w b.lets.items) (body_filled w b.body.items && body_filled w b.tail.items) f.1 in
+        let f = and_parts (expr_filled w b.when_test)
+        (decls_filled w b.lets.items && (body_filled w b.body.items && body_filled w b.tail.items)) filled in
+        let g = and_parts (decls_filled w b.lets.items) (body_filled w b.body.items && body_filled w b.tail.items) f.1
+        in
         let e = and_parts (body_filled w b.body.items) (body_filled w b.tail.items) g.1 in
         let rest = none_right A (B ++ (C ++ D)) none in
         let last = none_right B (C ++ D) rest in
@@ -233,15 +265,22 @@ module _ (d : Dictionary) (names : List (String Global)) (fields lets sends : Li
         let test = expr_good at k h kind.Bool b.when_test f.0 (none_left A (B ++ (C ++ D)) none) in
         let before = lets_good at k h 0 [] b.lets.items refl all g.0 (none_left B (C ++ D) rest) in
         let inner : Kinds = with_before (kinds_of b.lets.items) k in
-        let body = fine_block d names loop_rights (in_body in_loop n) inner (agrees (in_body in_loop n) inner (lets_hold at k in_loop b.lets.items n base all many)) b.body.items e.0 (none_left C D last) in
-        let tail = fine_block d names tail_rights (in_body in_tests n) inner (agrees (in_body in_tests n) inner (lets_hold at k in_tests b.lets.items n base all many)) b.tail.items e.1 (none_right C D last) in
+        let body = fine_block d names loop_rights (in_body in_loop n) inner
+        (agrees (in_body in_loop n) inner (lets_hold at k in_loop b.lets.items n base all many)) b.body.items e.0
+        (none_left C D last) in
+        let tail = fine_block d names tail_rights (in_body in_tests n) inner
+        (agrees (in_body in_tests n) inner (lets_hold at k in_tests b.lets.items n base all many)) b.tail.items
+        e.1 (none_right C D last) in
         let with_n : ℕ → Counts = λ m. record c { locals = m } in
         record {
           placed =
-              and_from _ _ test.placed (and_from _ _ (ap (λ (x : Counts). lets_placed x b.lets.items) fresh ∙ before.placed)
-              (and_from _ _ (ap (λ m. body_placed loop_rights (with_n m) b.body.items) (sym many) ∙ body.placed) (ap (λ m. body_placed tail_rights (with_n m) b.tail.items) (sym many) ∙ tail.placed)));
+              and_from _ _ test.placed (and_from _ _ (ap (λ (x : Counts). lets_placed x b.lets.items) fresh
+              ∙ before.placed)
+              (and_from _ _ (ap (λ m. body_placed loop_rights (with_n m) b.body.items) (sym many) ∙ body.placed)
+              (ap (λ m. body_placed tail_rights (with_n m) b.tail.items) (sym many) ∙ tail.placed)));
           read = and_from _ _ test.read (and_from _ _ before.read (and_from _ _ body.read tail.read));
-          typed = and_from _ _ test.typed (and_from _ _ (ap (λ (x : Kinds). lets_typed x b.lets.items) plain ∙ before.typed) (and_from _ _ body.typed tail.typed));
+          typed = and_from _ _ test.typed (and_from _ _ (ap (λ (x : Kinds). lets_typed x b.lets.items) plain
+              ∙ before.typed) (and_from _ _ body.typed tail.typed));
         }
 
     pub record SparseTyped (b : Sparse) : Type 0 where
@@ -252,7 +291,8 @@ module _ (d : Dictionary) (names : List (String Global)) (fields lets sends : Li
     abbrev in_sent : ℕ → Place
     in_sent n = record { words = in_sparse; names = record c { sends = n } }
 
-    pub sparse_good : Base at k → (b : Sparse) (n : ℕ) → n ≡ length b.sends.items → sends ≡ kinds_of b.sends.items → sparse_filled w b ≡ true →
+    pub sparse_good : Base at k → (b : Sparse) (n : ℕ) → n ≡ length b.sends.items → sends ≡ kinds_of b.sends.items →
+        sparse_filled w b ≡ true →
         faults_as d at kind.Bool (view names b.when_test)
         ++ (declaration_faults d at (map (view_declaration names) b.sends.items)
         ++ block_faults d sparse_rights (in_sent n) (view_block names b.body.items)) ≡ [] →
@@ -261,17 +301,22 @@ module _ (d : Dictionary) (names : List (String Global)) (fields lets sends : Li
         let A : List Finding = faults_as d at kind.Bool (view names b.when_test) in
         let B : List Finding = declaration_faults d at (map (view_declaration names) b.sends.items) in
         let C : List Finding = block_faults d sparse_rights (in_sent n) (view_block names b.body.items) in
-        let f = and_parts (expr_filled w b.when_test) (decls_filled w b.sends.items && body_filled w b.body.items) filled in
+        let f = and_parts (expr_filled w b.when_test) (decls_filled w b.sends.items && body_filled w b.body.items)
+        filled in
         let g = and_parts (decls_filled w b.sends.items) (body_filled w b.body.items) f.1 in
         let rest = none_right A (B ++ C) none in
         let h = base_holds at k base in
         let test = expr_good at k h kind.Bool b.when_test f.0 (none_left A (B ++ C) none) in
         let before = decls_good at k h b.sends.items g.0 (none_left B C rest) in
         let inner : Kinds = record k { sends = kinds_of b.sends.items } in
-        let body = fine_block d names sparse_rights (in_sent n) inner (agrees (in_sent n) inner (sends_hold at k in_sparse b.sends.items n base all many)) b.body.items g.1 (none_right B C rest) in
+        let body = fine_block d names sparse_rights (in_sent n) inner
+        (agrees (in_sent n) inner (sends_hold at k in_sparse b.sends.items n base all many)) b.body.items g.1
+        (none_right B C rest) in
         let with_n : ℕ → Counts = λ m. record c { sends = m } in
         record {
-          placed = and_from _ _ test.placed (and_from _ _ before.placed (ap (λ m. body_placed sparse_rights (with_n m) b.body.items) (sym many) ∙ body.placed));
+          placed = and_from _ _ test.placed
+              (and_from _ _ before.placed (ap (λ m. body_placed sparse_rights (with_n m) b.body.items) (sym many)
+              ∙ body.placed));
           read = and_from _ _ test.read (and_from _ _ before.read body.read);
           typed = and_from _ _ test.typed (and_from _ _ before.typed body.typed);
         }

@@ -56,64 +56,82 @@ module _ (names : List (String Global)) (d : Dictionary) where
   abbrev w : ℕ → Option What
   w = what_of d names
 
-  said_within : (x : What) (n : ℕ) (o : Option (String Global)) → slice_get names n ≡ o → says x (option_map (λ text. what_in (d (string_bytes text))) o) ≡ true → nat_lt n (length names) ≡ true
+  said_within : (x : What) (n : ℕ) (o : Option (String Global)) → slice_get names n ≡ o →
+      says x (option_map (λ text. what_in (d (string_bytes text))) o) ≡ true → nat_lt n (length names) ≡ true
   said_within x n None e h = absurd (never h)
   said_within x n (Some text) e h = (Decides-ltb n (length names)).1 (slice_get_within names n text e)
 
   name_within : (name : Ident) → name_filled w name ≡ true → nat_lt name.name (length names) ≡ true
   name_within name h = said_within name.what name.name (slice_get names name.name) refl h
 
-  decls_within : (ds : List Decl) → decls_filled w ds ≡ true → list_all (λ e. nat_lt e.name.name (length names)) ds ≡ true
+  decls_within : (ds : List Decl) → decls_filled w ds ≡ true → list_all (λ e. nat_lt e.name.name (length names)) ds
+      ≡ true
   decls_within [] h = refl
   decls_within (e ∷ es) h =
       let f = and_parts (decl_filled w e) (decls_filled w es) h in
-      and_from _ _ (name_within e.name (and_parts (name_filled w e.name) (expr_filled w e.value) f.0).0) (decls_within es f.1)
+      and_from _ _ (name_within e.name (and_parts (name_filled w e.name) (expr_filled w e.value) f.0).0)
+      (decls_within es f.1)
 
-  slots_within : (ds : List SlotDecl) → list_all (λ e. name_filled w e.name) ds ≡ true → list_all (λ e. nat_lt e.name.name (length names)) ds ≡ true
+  slots_within : (ds : List SlotDecl) → list_all (λ e. name_filled w e.name) ds ≡ true →
+      list_all (λ e. nat_lt e.name.name (length names)) ds ≡ true
   slots_within [] h = refl
   slots_within (e ∷ es) h =
       let f = and_parts (name_filled w e.name) (list_all (λ e. name_filled w e.name) es) h in
       and_from _ _ (name_within e.name f.0) (slots_within es f.1)
 
-  totals_within : (ds : List TotalDecl) → totals_filled w ds ≡ true → list_all (λ e. nat_lt e.name.name (length names)) ds ≡ true
+  totals_within : (ds : List TotalDecl) → totals_filled w ds ≡ true →
+      list_all (λ e. nat_lt e.name.name (length names)) ds ≡ true
   totals_within [] h = refl
   totals_within (e ∷ es) h =
       let f = and_parts (name_filled w e.name && expr_filled w e.value) (totals_filled w es) h in
-      and_from _ _ (name_within e.name (and_parts (name_filled w e.name) (expr_filled w e.value) f.0).0) (totals_within es f.1)
+      and_from _ _ (name_within e.name (and_parts (name_filled w e.name) (expr_filled w e.value) f.0).0)
+      (totals_within es f.1)
 
-  lets_within : (o : Option Dense) → option_all (dense_filled w) o ≡ true → option_all (λ b. list_all (λ e. nat_lt e.name.name (length names)) b.lets.items) o ≡ true
+  lets_within : (o : Option Dense) → option_all (dense_filled w) o ≡ true →
+      option_all (λ b. list_all (λ e. nat_lt e.name.name (length names)) b.lets.items) o ≡ true
   lets_within None h = refl
-  lets_within (Some b) h = decls_within b.lets.items (and_parts (decls_filled w b.lets.items) _ (and_parts (expr_filled w b.when_test) _ h).1).0
+  lets_within (Some b) h = decls_within b.lets.items
+      (and_parts (decls_filled w b.lets.items) _ (and_parts (expr_filled w b.when_test) _ h).1).0
 
-  sends_within : (o : Option Sparse) → option_all (sparse_filled w) o ≡ true → option_all (λ b. list_all (λ e. nat_lt e.name.name (length names)) b.sends.items) o ≡ true
+  sends_within : (o : Option Sparse) → option_all (sparse_filled w) o ≡ true →
+      option_all (λ b. list_all (λ e. nat_lt e.name.name (length names)) b.sends.items) o ≡ true
   sends_within None h = refl
-  sends_within (Some b) h = decls_within b.sends.items (and_parts (decls_filled w b.sends.items) _ (and_parts (expr_filled w b.when_test) _ h).1).0
+  sends_within (Some b) h = decls_within b.sends.items
+      (and_parts (decls_filled w b.sends.items) _ (and_parts (expr_filled w b.when_test) _ h).1).0
 
   decl_kinds : (ds : List Decl) → kinds_in (entries (map (view_declaration names) ds)) ≡ kinds_of ds
   decl_kinds [] = refl
   decl_kinds (e ∷ es) = ap (λ l. e.kind ∷ l) (decl_kinds es)
 
 -- ---- the blocks that a mode needs
-mode_right_where : (b stands : Bool) (s : Span) → (if b then unless stands half_blocked s else fault blockless s) ≡ [] → stands ≡ true
+mode_right_where : (b stands : Bool) (s : Span) → (if b then unless stands half_blocked s else fault blockless s) ≡ []
+    → stands ≡ true
 mode_right_where true stands s h = none_unless stands _ s h
 mode_right_where false stands s h = cc
 
-mode_right : (mode : Mode) (dense sparse : Bool) (s : Span) → mode_faults mode dense sparse s ≡ [] → mode_stands mode dense sparse ≡ true
+mode_right : (mode : Mode) (dense sparse : Bool) (s : Span) → mode_faults mode dense sparse s ≡ [] →
+    mode_stands mode dense sparse ≡ true
 mode_right mode dense sparse s h = mode_right_where (dense || sparse) (mode_stands mode dense sparse) s h
 
-seven : (a b c d e f g : Bool) → a ≡ true → b ≡ true → c ≡ true → d ≡ true → e ≡ true → f ≡ true → g ≡ true → (a && (b && (c && (d && (e && (f && g)))))) ≡ true
-seven a b c d e f g p q r s t u v = and_from a _ p (and_from b _ q (and_from c _ r (and_from d _ s (and_from e _ t (and_from f g u v)))))
+seven : (a b c d e f g : Bool) → a ≡ true → b ≡ true → c ≡ true → d ≡ true → e ≡ true → f ≡ true → g ≡ true →
+    (a && (b && (c && (d && (e && (f && g)))))) ≡ true
+seven a b c d e f g p q r s t u v = and_from a _ p
+    (and_from b _ q (and_from c _ r (and_from d _ s (and_from e _ t (and_from f g u v)))))
 
 -- a test of a part that may be missing, by another test
 option_by : {X : Type 0} (f : X → Bool) (o : Option X) → ((x : X) → o ≡ Some x → f x ≡ true) → option_all f o ≡ true
 option_by f None h = refl
 option_by f (Some x) h = h x refl
 
-few_lets : (names : List (String Global)) (o : Option Dense) → option_all (λ b. nat_le (length b.lets) 8) (option_map (view_dense names) o) ≡ true → option_all (λ b. nat_le (length b.lets.items) 8) o ≡ true
+few_lets : (names : List (String Global)) (o : Option Dense) →
+    option_all (λ b. nat_le (length b.lets) 8) (option_map (view_dense names) o) ≡ true →
+    option_all (λ b. nat_le (length b.lets.items) 8) o ≡ true
 few_lets names None h = refl
 few_lets names (Some b) h = ap (λ n. nat_le n 8) (sym (length-map b.lets.items (view_declaration names))) ∙ h
 
-few_sends : (names : List (String Global)) (o : Option Sparse) → option_all (λ b. nat_le (length b.sends) 8) (option_map (view_sparse names) o) ≡ true → option_all (λ b. nat_le (length b.sends.items) 8) o ≡ true
+few_sends : (names : List (String Global)) (o : Option Sparse) →
+    option_all (λ b. nat_le (length b.sends) 8) (option_map (view_sparse names) o) ≡ true →
+    option_all (λ b. nat_le (length b.sends.items) 8) o ≡ true
 few_sends names None h = refl
 few_sends names (Some b) h = ap (λ n. nat_le n 8) (sym (length-map b.sends.items (view_declaration names))) ∙ h
 
@@ -153,7 +171,16 @@ module _ (p : Program) (filled : is_filled p ≡ true) (none : faults (view_prog
       let f = and_parts (option_all (dense_filled x) p.dense) _ e.1 in
       let g = and_parts (option_all (sparse_filled x) p.sparse) _ f.1 in
       let h = and_parts (body_filled x p.update.items) _ g.1 in
-      record { fields = a.0; slots = b.0; totals = c.0; start = e.0; dense = f.0; sparse = g.0; update = h.0; stop = h.1 }
+      record {
+        fields = a.0;
+        slots = b.0;
+        totals = c.0;
+        start = e.0;
+        dense = f.0;
+        sparse = g.0;
+        update = h.0;
+        stop = h.1;
+      }
 
   -- what has no faults
   record Clean : Type 0 where
@@ -217,16 +244,53 @@ module _ (p : Program) (filled : is_filled p ≡ true) (none : faults (view_prog
   tree_fields = length-map p.fields.items (view_declaration names)
 
   rows_are : names_of_rows t ≡ row_counts p
-  rows_are = ap (λ n. let c : Counts = record { fields = n; locals = 0; sends = 0; slots = 0; totals = 0; other_fields = n } in c) tree_fields
+  rows_are = ap (λ n. let c : Counts = record {
+    fields = n;
+    locals = 0;
+    sends = 0;
+    slots = 0;
+    totals = 0;
+    other_fields = n;
+  } in c) tree_fields
 
   rounds_are : names_of_rounds t ≡ round_counts p
   rounds_are =
-      ap (λ n. let c : Counts = record { fields = n; locals = 0; sends = 0; slots = length t.slots; totals = length t.totals; other_fields = n } in c) tree_fields
-      ∙ ap (λ n. let c : Counts = record { fields = length p.fields.items; locals = 0; sends = 0; slots = n; totals = length t.totals; other_fields = length p.fields.items } in c) (length-map p.slots.items (view_slot names))
-      ∙ ap (λ n. let c : Counts = record { fields = length p.fields.items; locals = 0; sends = 0; slots = length p.slots.items; totals = n; other_fields = length p.fields.items } in c) (length-map p.totals.items (view_total names))
+      ap (λ n. let c : Counts = record {
+        fields = n;
+        locals = 0;
+        sends = 0;
+        slots = length t.slots;
+        totals = length t.totals;
+        other_fields = n;
+      } in c) tree_fields
+      ∙ ap (λ n. let c : Counts = record {
+        fields = length p.fields.items;
+        locals = 0;
+        sends = 0;
+        slots = n;
+        totals = length t.totals;
+        other_fields = length p.fields.items;
+      } in c)
+      (length-map p.slots.items (view_slot names))
+      ∙ ap (λ n. let c : Counts = record {
+        fields = length p.fields.items;
+        locals = 0;
+        sends = 0;
+        slots = length p.slots.items;
+        totals = n;
+        other_fields = length p.fields.items;
+      } in c)
+      (length-map p.totals.items (view_total names))
 
   stops_are : (at_stop t).names ≡ stop_counts p
-  stops_are = ap (λ n. let c : Counts = record { fields = 0; locals = 0; sends = 0; slots = 0; totals = n; other_fields = 0 } in c) (length-map p.totals.items (view_total names))
+  stops_are = ap (λ n. let c : Counts = record {
+    fields = 0;
+    locals = 0;
+    sends = 0;
+    slots = 0;
+    totals = n;
+    other_fields = 0;
+  } in c) (length-map p.totals.items (view_total names))
 
   tree_others : length t.fields ≡ length fields_k
   tree_others = tree_fields ∙ fields_many
@@ -264,35 +328,50 @@ module _ (p : Program) (filled : is_filled p ≡ true) (none : faults (view_prog
 
   -- ---- the parts
   fields_ok : DeclsTyped d names fields_k lets_k sends_k listed_here no_counts in_fields k p.fields.items
-  fields_ok = decls_good d names fields_k lets_k sends_k listed_here at_field k field_holds p.fields.items all_filled.fields clean.fields
+  fields_ok = decls_good d names fields_k lets_k sends_k listed_here at_field k field_holds p.fields.items
+      all_filled.fields clean.fields
 
   totals_ok : TotalsTyped d names fields_k lets_k sends_k listed_here (names_of_rows t) in_tests k p.totals.items
-  totals_ok = totals_good d names fields_k lets_k sends_k listed_here (at_total t) k (base_holds d names fields_k lets_k sends_k listed_here (at_total t) k base_total) p.totals.items all_filled.totals clean.totals
+  totals_ok = totals_good d names fields_k lets_k sends_k listed_here (at_total t) k
+      (base_holds d names fields_k lets_k sends_k listed_here (at_total t) k base_total) p.totals.items
+      all_filled.totals clean.totals
 
   start_ok : Typed d names fields_k lets_k sends_k listed_here (names_of_rows t) in_fields k kind.Bool p.start
-  start_ok = expr_good d names fields_k lets_k sends_k listed_here (at_start t) k (base_holds d names fields_k lets_k sends_k listed_here (at_start t) k base_start) kind.Bool p.start all_filled.start clean.start
+  start_ok = expr_good d names fields_k lets_k sends_k listed_here (at_start t) k
+      (base_holds d names fields_k lets_k sends_k listed_here (at_start t) k base_start) kind.Bool p.start
+      all_filled.start clean.start
 
-  dense_ok : (b : Dense) → p.dense ≡ Some b → DenseTyped d names fields_k lets_k sends_k listed_here (names_of_rounds t) k b
+  dense_ok : (b : Dense) → p.dense ≡ Some b →
+      DenseTyped d names fields_k lets_k sends_k listed_here (names_of_rounds t) k b
   dense_ok b is =
-      dense_good d names fields_k lets_k sends_k listed_here (names_of_rounds t) k base refl refl b (length (map (view_declaration names) b.lets.items))
+      dense_good d names fields_k lets_k sends_k listed_here (names_of_rounds t) k base refl refl b
+      (length (map (view_declaration names) b.lets.items))
       (length-map b.lets.items (view_declaration names))
       (ap (λ o. kinds_in (entries (lets_of (option_map (view_dense names) o)))) is ∙ decl_kinds names d b.lets.items)
       (sym (ap (option_all (dense_filled x)) is) ∙ all_filled.dense)
       (sym (ap (λ o. dense_faults d t (option_map (view_dense names) o)) is) ∙ clean.dense)
 
-  sparse_ok : (b : Sparse) → p.sparse ≡ Some b → SparseTyped d names fields_k lets_k sends_k listed_here (names_of_rounds t) k b
+  sparse_ok : (b : Sparse) → p.sparse ≡ Some b →
+      SparseTyped d names fields_k lets_k sends_k listed_here (names_of_rounds t) k b
   sparse_ok b is =
-      sparse_good d names fields_k lets_k sends_k listed_here (names_of_rounds t) k base b (length (map (view_declaration names) b.sends.items))
+      sparse_good d names fields_k lets_k sends_k listed_here (names_of_rounds t) k base b
+      (length (map (view_declaration names) b.sends.items))
       (length-map b.sends.items (view_declaration names))
       (ap (λ o. kinds_in (entries (sends_of (option_map (view_sparse names) o)))) is ∙ decl_kinds names d b.sends.items)
       (sym (ap (option_all (sparse_filled x)) is) ∙ all_filled.sparse)
       (sym (ap (λ o. sparse_faults d t (option_map (view_sparse names) o)) is) ∙ clean.sparse)
 
-  update_ok : FineAll d names update_rights (at_update t) k (agrees d names fields_k lets_k sends_k listed_here (at_update t) k (base_holds d names fields_k lets_k sends_k listed_here (at_update t) k base_update)) p.update.items
+  update_ok : FineAll d names update_rights (at_update t) k
+      (agrees d names fields_k lets_k sends_k listed_here (at_update t) k
+      (base_holds d names fields_k lets_k sends_k listed_here (at_update t) k base_update)) p.update.items
   update_ok =
-      fine_block d names update_rights (at_update t) k (agrees d names fields_k lets_k sends_k listed_here (at_update t) k (base_holds d names fields_k lets_k sends_k listed_here (at_update t) k base_update)) p.update.items all_filled.update clean.update
+      fine_block d names update_rights (at_update t) k
+      (agrees d names fields_k lets_k sends_k listed_here (at_update t) k
+      (base_holds d names fields_k lets_k sends_k listed_here (at_update t) k base_update)) p.update.items
+      all_filled.update clean.update
 
-  stop_ok : (e : Expr) → p.stop ≡ Some e → Typed d names fields_k lets_k sends_k listed_here (at_stop t).names in_stop k kind.Bool e
+  stop_ok : (e : Expr) → p.stop ≡ Some e →
+      Typed d names fields_k lets_k sends_k listed_here (at_stop t).names in_stop k kind.Bool e
   stop_ok e is =
       expr_good d names fields_k lets_k sends_k listed_here (at_stop t) k stop_holds kind.Bool e
       (sym (ap (option_all (expr_filled x)) is) ∙ all_filled.stop)
@@ -302,12 +381,16 @@ module _ (p : Program) (filled : is_filled p ≡ true) (none : faults (view_prog
   placed : is_placed p ≡ true
   placed = seven _ _ _ _ _ _ _
       fields_ok.placed
-      (sym (ap (λ (c : Counts). list_all (λ (e : TotalDecl). expr_placed c e.value) p.totals.items) rows_are) ∙ totals_ok.placed)
+      (sym (ap (λ (c : Counts). list_all (λ (e : TotalDecl). expr_placed c e.value) p.totals.items) rows_are)
+      ∙ totals_ok.placed)
       (sym (ap (λ (c : Counts). expr_placed c p.start) rows_are) ∙ start_ok.placed)
-      (option_by (dense_placed (round_counts p)) p.dense (λ b is. sym (ap (λ (c : Counts). dense_placed c b) rounds_are) ∙ (dense_ok b is).placed))
-      (option_by (sparse_placed (round_counts p)) p.sparse (λ b is. sym (ap (λ (c : Counts). sparse_placed c b) rounds_are) ∙ (sparse_ok b is).placed))
+      (option_by (dense_placed (round_counts p)) p.dense (λ b is.
+      sym (ap (λ (c : Counts). dense_placed c b) rounds_are) ∙ (dense_ok b is).placed))
+      (option_by (sparse_placed (round_counts p)) p.sparse (λ b is.
+      sym (ap (λ (c : Counts). sparse_placed c b) rounds_are) ∙ (sparse_ok b is).placed))
       (sym (ap (λ (c : Counts). body_placed update_rights c p.update.items) rounds_are) ∙ update_ok.placed)
-      (option_by (expr_placed (stop_counts p)) p.stop (λ e is. sym (ap (λ (c : Counts). expr_placed c e) stops_are) ∙ (stop_ok e is).placed))
+      (option_by (expr_placed (stop_counts p)) p.stop (λ e is. sym (ap (λ (c : Counts). expr_placed c e) stops_are)
+      ∙ (stop_ok e is).placed))
 
   kinded : is_kinded p ≡ true
   kinded = seven _ _ _ _ _ _ _
@@ -354,7 +437,8 @@ module _ (p : Program) (filled : is_filled p ≡ true) (none : faults (view_prog
       ∙ ap (mode_stands p.mode (is_some t.dense)) (some_same (view_sparse names) p.sparse)
       ∙ mode_right t.mode (is_some t.dense) (is_some t.sparse) t.mode_at (none_left M L clean.header)
 
-  pub typed : is_shallow_program t ≡ true → is_counted t ≡ true → is_of_version t ≡ true → are_totals t ≡ true → is_typed p ≡ true
+  pub typed : is_shallow_program t ≡ true → is_counted t ≡ true → is_of_version t ≡ true → are_totals t ≡ true →
+      is_typed p ≡ true
   typed shallow counted version totals =
       and_from (is_placed p) _ placed
       (and_from (is_kinded p) _ kinded
@@ -364,4 +448,5 @@ module _ (p : Program) (filled : is_filled p ≡ true) (none : faults (view_prog
       (and_from (version_stands p) _ (version_same p ∙ version)
       (and_from (mode_stands p.mode (is_some p.dense) (is_some p.sparse)) _ moded
       (and_from (is_readable p) _ readable
-      (and_from (declares_once p) (totals_combine p) (once_declared p clean.names_once) (ops_are_same p ∙ totals)))))))))
+      (and_from (declares_once p) (totals_combine p) (once_declared p clean.names_once)
+      (ops_are_same p ∙ totals)))))))))

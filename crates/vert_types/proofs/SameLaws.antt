@@ -51,7 +51,8 @@ module _ (names : List (String Global)) where
   node_same s (nodes.Neg' q t a) = one_deeper _ _ (node_same t a)
   node_same s (nodes.Not' q t a) = one_deeper _ _ (node_same t a)
   node_same s (nodes.Binary' op q t a r u b) = one_deeper _ _ (same_max _ _ _ _ (node_same t a) (node_same u b))
-  node_same s (nodes.Cond' q t test r u a x v b) = one_deeper _ _ (same_max _ _ _ _ (node_same t test) (same_max _ _ _ _ (node_same u a) (node_same v b)))
+  node_same s (nodes.Cond' q t test r u a x v b) = one_deeper _ _
+      (same_max _ _ _ _ (node_same t test) (same_max _ _ _ _ (node_same u a) (node_same v b)))
   node_same s (nodes.Least' q t a r u b) = one_deeper _ _ (same_max _ _ _ _ (node_same t a) (node_same u b))
   node_same s (nodes.Greatest' q t a r u b) = one_deeper _ _ (same_max _ _ _ _ (node_same t a) (node_same u b))
   node_same s (nodes.Group' q t a) = one_deeper _ _ (node_same t a)
@@ -68,18 +69,27 @@ module _ (names : List (String Global)) where
   abbrev below : Stmt-F Held → Stmt-F Stmt
   below y = map-Stmt Held Stmt (λ s. s.0) y
 
-  rolled : (z : Stmt-F Stmt) (s : Stmt) → roll-Stmt z ≡ s → level_depth (map-Stmt Stmt ℕ stmt_depth z) ≡ statement_depth (view_statement names s) → IsSame (roll-Stmt z)
-  rolled z s is e = record { by = fold-roll-Stmt ℕ level_depth z ∙ e ∙ sym (ap (λ x. statement_depth (view_statement names x)) is) }
+  rolled : (z : Stmt-F Stmt) (s : Stmt) → roll-Stmt z ≡ s → level_depth (map-Stmt Stmt ℕ stmt_depth z)
+      ≡ statement_depth (view_statement names s) → IsSame (roll-Stmt z)
+  rolled z s is e = record {
+    by = fold-roll-Stmt ℕ level_depth z ∙ e
+        ∙ sym (ap (λ x. statement_depth (view_statement names x)) is);
+  }
 
-  if_same : (s : Span) (test : Expr) (held : Vec Stmt) → AreSame held.items → IsSame (roll-Stmt (level.If s test held None))
+  if_same : (s : Span) (test : Expr) (held : Vec Stmt) → AreSame held.items →
+      IsSame (roll-Stmt (level.If s test held None))
   if_same s test held h =
       rolled (level.If s test held None) _ (rolls-If s test held None)
-      (one_deeper _ _ (same_max _ _ _ _ (node_same test.span test.node) (max-zero (deepest (map stmt_depth held.items)) ∙ h.by)) ∙ sym (ap statement_depth (view-If names s test held)))
+      (one_deeper _ _ (same_max _ _ _ _ (node_same test.span test.node)
+      (max-zero (deepest (map stmt_depth held.items)) ∙ h.by))
+      ∙ sym (ap statement_depth (view-If names s test held)))
 
-  if_else_same : (s : Span) (test : Expr) (held otherwise : Vec Stmt) → AreSame held.items → AreSame otherwise.items → IsSame (roll-Stmt (level.If s test held (Some otherwise)))
+  if_else_same : (s : Span) (test : Expr) (held otherwise : Vec Stmt) → AreSame held.items → AreSame otherwise.items →
+      IsSame (roll-Stmt (level.If s test held (Some otherwise)))
   if_else_same s test held otherwise h o =
       rolled (level.If s test held (Some otherwise)) _ (rolls-If s test held (Some otherwise))
-      (one_deeper _ _ (same_max _ _ _ _ (node_same test.span test.node) (same_max _ _ _ _ h.by o.by)) ∙ sym (ap statement_depth (view-If_else names s test held otherwise)))
+      (one_deeper _ _ (same_max _ _ _ _ (node_same test.span test.node) (same_max _ _ _ _ h.by o.by))
+      ∙ sym (ap statement_depth (view-If_else names s test held otherwise)))
 
   more_same : (s : Stmt) (ss : List Stmt) → IsSame s → AreSame ss → AreSame (s ∷ ss)
   more_same s ss h g = record { by = same_max _ _ _ _ h.by g.by }
@@ -89,10 +99,12 @@ module _ (names : List (String Global)) where
   all_same (s ∷ ss) = more_same s.0 (map (λ s. s.0) ss) s.1 (all_same ss)
 
   level_same : (y : Stmt-F Held) → IsSame (roll-Stmt (below y))
-  level_same (level.Assign target op e) = rolled (level.Assign target op e) _ (rolls-Assign target op e) (node_same e.span e.node)
+  level_same (level.Assign target op e) = rolled (level.Assign target op e) _ (rolls-Assign target op e)
+      (node_same e.span e.node)
   level_same (level.SetActive s e) = rolled (level.SetActive s e) _ (rolls-SetActive s e) (node_same e.span e.node)
   level_same (level.If s test held None) = if_same s test _ (all_same held.items)
-  level_same (level.If s test held (Some otherwise)) = if_else_same s test _ _ (all_same held.items) (all_same otherwise.items)
+  level_same (level.If s test held (Some otherwise)) = if_else_same s test _ _ (all_same held.items)
+      (all_same otherwise.items)
   level_same (level.Emit s slot e) = rolled (level.Emit s slot e) _ (rolls-Emit s slot e) (node_same e.span e.node)
   level_same (level.Break s) = rolled (level.Break s) _ (rolls-Break s) refl
 
@@ -120,24 +132,31 @@ module _ (names : List (String Global)) where
   decls_same [] = refl
   decls_same (e ∷ es) = same_and _ _ _ _ (expr_same e.value) (decls_same es)
 
-  totals_same : (ts : List TotalDecl) → list_all (λ t. expr_shallow t.value) ts ≡ list_all (λ e. is_shallow_tree e.value) (map (view_total names) ts)
+  totals_same : (ts : List TotalDecl) → list_all (λ t. expr_shallow t.value) ts
+      ≡ list_all (λ e. is_shallow_tree e.value) (map (view_total names) ts)
   totals_same [] = refl
   totals_same (e ∷ es) = same_and _ _ _ _ (expr_same e.value) (totals_same es)
 
-  dense_same : (o : Option Dense) → option_all dense_shallow o ≡ option_all is_shallow_dense (option_map (view_dense names) o)
+  dense_same : (o : Option Dense) → option_all dense_shallow o
+      ≡ option_all is_shallow_dense (option_map (view_dense names) o)
   dense_same None = refl
   dense_same (Some b) =
-      same_and _ _ _ _ (expr_same b.when_test) (same_and _ _ _ _ (decls_same b.lets.items) (same_and _ _ _ _ (body_same b.body.items) (body_same b.tail.items)))
+      same_and _ _ _ _ (expr_same b.when_test)
+      (same_and _ _ _ _ (decls_same b.lets.items)
+      (same_and _ _ _ _ (body_same b.body.items) (body_same b.tail.items)))
 
-  sparse_same : (o : Option Sparse) → option_all sparse_shallow o ≡ option_all is_shallow_sparse (option_map (view_sparse names) o)
+  sparse_same : (o : Option Sparse) → option_all sparse_shallow o
+      ≡ option_all is_shallow_sparse (option_map (view_sparse names) o)
   sparse_same None = refl
-  sparse_same (Some b) = same_and _ _ _ _ (expr_same b.when_test) (same_and _ _ _ _ (decls_same b.sends.items) (body_same b.body.items))
+  sparse_same (Some b) = same_and _ _ _ _ (expr_same b.when_test)
+      (same_and _ _ _ _ (decls_same b.sends.items) (body_same b.body.items))
 
   stop_same : (o : Option Expr) → option_all expr_shallow o ≡ option_all is_shallow_tree (option_map (view names) o)
   stop_same None = refl
   stop_same (Some e) = expr_same e
 
-  ops_same : (ts : List TotalDecl) → list_all (λ t. is_total_op t.op) ts ≡ list_all (λ e. is_total_op e.op) (map (view_total names) ts)
+  ops_same : (ts : List TotalDecl) → list_all (λ t. is_total_op t.op) ts
+      ≡ list_all (λ e. is_total_op e.op) (map (view_total names) ts)
   ops_same [] = refl
   ops_same (e ∷ es) = ap (λ b. is_total_op e.op && b) (ops_same es)
 
@@ -162,8 +181,10 @@ some_same f (Some x) = refl
 
 pub version_same : (p : Program) → version_stands p ≡ is_of_version (view_program p)
 version_same p =
-    ap (λ n. p.version == 2 || (p.version == 1 && (n == 0 && is_none p.stop))) (sym (length-map p.totals.items (view_total p.names.items)))
-    ∙ ap (λ b. p.version == 2 || (p.version == 1 && (length (map (view_total p.names.items) p.totals.items) == 0 && b))) (none_same (view p.names.items) p.stop)
+    ap (λ n. p.version == 2 || (p.version == 1 && (n == 0 && is_none p.stop)))
+    (sym (length-map p.totals.items (view_total p.names.items)))
+    ∙ ap (λ b. p.version == 2 || (p.version == 1
+    && (length (map (view_total p.names.items) p.totals.items) == 0 && b))) (none_same (view p.names.items) p.stop)
 
 pub ops_are_same : (p : Program) → totals_combine p ≡ are_totals (view_program p)
 ops_are_same p = ops_same p.names.items p.totals.items

@@ -19,7 +19,8 @@ use Rattle.vert_types.proofs.Firsts.{first_from-append}
 
 module _ (d : Dictionary) (r : Rights) (p : Place) (names : List (String Global)) where
   pub if_found :
-      (s : Span) (test : Expr) (held : Vec Stmt) (otherwise : Option (Vec Stmt)) (stmt : Stmt) (body : List Stmt) (o a b : Option Finding) →
+      (s : Span) (test : Expr) (held : Vec Stmt) (otherwise : Option (Vec Stmt)) (stmt : Stmt) (body : List Stmt)
+      (o a b : Option Finding) →
       stmt ≡ statements.If s test held otherwise → otherwise ≡ None → body ≡ held.items →
       a ≡ first_from o (faults_as d p kind.Bool (view names test)) →
       b ≡ first_from a (block_faults d r p (view_block names body)) →
@@ -36,7 +37,8 @@ module _ (d : Dictionary) (r : Rights) (p : Place) (names : List (String Global)
       ∙ ap (λ x. at (view_statement names x)) (sym is)
 
   pub if_else_found :
-      (s : Span) (test : Expr) (held : Vec Stmt) (otherwise : Option (Vec Stmt)) (other : Vec Stmt) (stmt : Stmt) (body rest : List Stmt) (o a b e : Option Finding) →
+      (s : Span) (test : Expr) (held : Vec Stmt) (otherwise : Option (Vec Stmt)) (other : Vec Stmt) (stmt : Stmt)
+      (body rest : List Stmt) (o a b e : Option Finding) →
       stmt ≡ statements.If s test held otherwise → otherwise ≡ Some other → body ≡ held.items → rest ≡ other.items →
       a ≡ first_from o (faults_as d p kind.Bool (view names test)) →
       b ≡ first_from a (block_faults d r p (view_block names body)) →
@@ -60,21 +62,27 @@ module _ (d : Dictionary) (r : Rights) (p : Place) (names : List (String Global)
   pub block_turn :
       (body : List Stmt) (i : ℕ) (x : Stmt) → i < length body → x ≡ get_or body i x → (o a : Option Finding) →
       a ≡ first_from o (statement_faults d r p (view_statement names x)) →
-      first_from a (block_faults d r p (view_block names (drop (i + 1) body))) ≡ first_from o (block_faults d r p (view_block names (drop i body)))
+      first_from a (block_faults d r p (view_block names (drop (i + 1) body)))
+      ≡ first_from o (block_faults d r p (view_block names (drop i body)))
   block_turn body i x lt is o a first =
       let rest = drop (i + 1) body in
-      let head : drop i body ≡ x ∷ rest = drop-cons body i x lt ∙ ap (λ (y : Stmt). y ∷ drop (suc i) body) (sym is) ∙ ap (λ (n : ℕ). x ∷ drop n body) (sym (add-one i)) in
+      let head : drop i body ≡ x ∷ rest = drop-cons body i x lt ∙ ap (λ (y : Stmt). y ∷ drop (suc i) body) (sym is)
+      ∙ ap (λ (n : ℕ). x ∷ drop n body) (sym (add-one i)) in
       ap (λ y. first_from y (block_faults d r p (view_block names rest))) first
-      ∙ sym (first_from-append o (statement_faults d r p (view_statement names x)) (block_faults d r p (view_block names rest)))
+      ∙ sym (first_from-append o (statement_faults d r p (view_statement names x))
+      (block_faults d r p (view_block names rest)))
       ∙ ap (λ l. first_from o (block_faults d r p (view_block names l))) (sym head)
 
 -- ---- lists of parts
-module _ {X : Type 0} (G : ℕ → List X → List Finding) (F : ℕ → X → List Finding) (step : (i : ℕ) (x : X) (xs : List X) → G i (x ∷ xs) ≡ F i x ++ G (i + 1) xs) where
+module _ {X : Type 0} (G : ℕ → List X → List Finding) (F : ℕ → X → List Finding) (step : (i : ℕ) (x : X) (xs : List X)
+    → G i (x ∷ xs) ≡ F i x ++ G (i + 1) xs) where
   -- the faults found after one more part, and those of what is left
-  pub turn : (xs : List X) (i : ℕ) (x : X) → i < length xs → x ≡ get_or xs i x → (o a : Option Finding) → a ≡ first_from o (F i x) → first_from a (G (i + 1) (drop (i + 1) xs)) ≡ first_from o (G i (drop i xs))
+  pub turn : (xs : List X) (i : ℕ) (x : X) → i < length xs → x ≡ get_or xs i x → (o a : Option Finding) →
+      a ≡ first_from o (F i x) → first_from a (G (i + 1) (drop (i + 1) xs)) ≡ first_from o (G i (drop i xs))
   turn xs i x lt is o a first =
       let rest = drop (i + 1) xs in
-      let head : drop i xs ≡ x ∷ rest = drop-cons xs i x lt ∙ ap (λ (y : X). y ∷ drop (suc i) xs) (sym is) ∙ ap (λ (n : ℕ). x ∷ drop n xs) (sym (add-one i)) in
+      let head : drop i xs ≡ x ∷ rest = drop-cons xs i x lt ∙ ap (λ (y : X). y ∷ drop (suc i) xs) (sym is)
+      ∙ ap (λ (n : ℕ). x ∷ drop n xs) (sym (add-one i)) in
       ap (λ y. first_from y (G (i + 1) rest)) first
       ∙ sym (first_from-append o (F i x) (G (i + 1) rest))
       ∙ sym (ap (first_from o) (step i x rest))
@@ -86,4 +94,7 @@ pub record Finds (before : Option Finding) (fs : List Finding) (after : Option F
 
 -- the faults of one part, and then those of another
 pub then_finds : {o a b : Option Finding} {x y : List Finding} → Finds o x a → Finds a y b → Finds o (x ++ y) b
-then_finds {o = o} {x = x} {y = y} p q = record { is = q.is ∙ ap (λ s. first_from s y) p.is ∙ sym (first_from-append o x y) }
+then_finds {o = o} {x = x} {y = y} p q = record {
+  is = q.is ∙ ap (λ s. first_from s y) p.is
+      ∙ sym (first_from-append o x y);
+}

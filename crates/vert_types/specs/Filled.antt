@@ -94,7 +94,8 @@ module _ (w : ℕ → Option What) where
   totals_filled ts = list_all (λ t. name_filled t.name && expr_filled t.value) ts
 
   abbrev pub dense_filled : Dense → Bool
-  dense_filled d = expr_filled d.when_test && (decls_filled d.lets.items && (body_filled d.body.items && body_filled d.tail.items))
+  dense_filled d = expr_filled d.when_test
+      && (decls_filled d.lets.items && (body_filled d.body.items && body_filled d.tail.items))
 
   abbrev pub sparse_filled : Sparse → Bool
   sparse_filled d = expr_filled d.when_test && (decls_filled d.sends.items && body_filled d.body.items)

@@ -68,7 +68,8 @@ module _ (n : ℕ) where
   totals_known ts = list_all (λ t. name_known t.name && expr_known t.value) ts
 
   abbrev pub dense_known : Dense → Bool
-  dense_known d = expr_known d.when_test && (decls_known d.lets.items && (body_known d.body.items && body_known d.tail.items))
+  dense_known d = expr_known d.when_test &&
+      (decls_known d.lets.items && (body_known d.body.items && body_known d.tail.items))
 
   abbrev pub sparse_known : Sparse → Bool
   sparse_known d = expr_known d.when_test && (decls_known d.sends.items && body_known d.body.items)
@@ -95,7 +96,8 @@ abbrev pub are_shallow : List Declaration → Bool
 are_shallow ds = list_all (λ e. is_shallow_tree e.value) ds
 
 abbrev pub is_shallow_dense : DenseBlock → Bool
-is_shallow_dense b = is_shallow_tree b.test && (are_shallow b.lets && (is_shallow_block b.body && is_shallow_block b.tail))
+is_shallow_dense b = is_shallow_tree b.test
+    && (are_shallow b.lets && (is_shallow_block b.body && is_shallow_block b.tail))
 
 abbrev pub is_shallow_sparse : SparseBlock → Bool
 is_shallow_sparse b = is_shallow_tree b.test && (are_shallow b.sends && is_shallow_block b.body)
@@ -131,7 +133,8 @@ are_totals t = list_all (λ e. is_total_op e.op) t.totals
 -- limits of depth and of counts, and those of the version and of totals, hold.
 pub record IsParsed (p : Program) : Type 0 where
   pub known : IsTrue (program_known (length p.names.items) p)
-  pub apart : (i j : ℕ) → i < length p.names.items → j < length p.names.items → text_of p.names.items i ≡ text_of p.names.items j → i ≡ j
+  pub apart : (i j : ℕ) → i < length p.names.items → j < length p.names.items →
+      text_of p.names.items i ≡ text_of p.names.items j → i ≡ j
   pub shallow : IsTrue (is_shallow_program (view_program p))
   pub counted : IsTrue (is_counted (view_program p))
   pub version : IsTrue (is_of_version (view_program p))

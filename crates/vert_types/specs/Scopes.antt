@@ -46,7 +46,14 @@ view_words w = record { own = w.own; active = w.active; weight = w.weight; other
 abbrev pub view_place : Place → typing.Place
 view_place p = record {
   words = view_words p.words;
-  names = record { fields = p.fields; locals = p.locals; sends = p.sends; slots = p.slots; totals = p.totals; other_fields = p.fields };
+  names = record {
+    fields = p.fields;
+    locals = p.locals;
+    sends = p.sends;
+    slots = p.slots;
+    totals = p.totals;
+    other_fields = p.fields;
+  };
 }
 
 abbrev pub view_rights : Rights → tree.Rights

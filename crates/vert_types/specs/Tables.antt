@@ -41,7 +41,8 @@ sort_of Sends = what.Send
 -- the names of one sort, from this place on
 abbrev pub items_from : (ℕ → What) → ℕ → List Typed → List Item
 items_from sort i [] = []
-items_from sort i (e ∷ es) = record { name = e.name; meaning = record { what = sort i; kind = e.kind } } ∷ items_from sort (i + 1) es
+items_from sort i (e ∷ es) = record { name = e.name; meaning = record { what = sort i; kind = e.kind } }
+    ∷ items_from sort (i + 1) es
 
 abbrev pub typed_decl : Decl → Typed
 typed_decl d = record { name = d.name; kind = d.kind }

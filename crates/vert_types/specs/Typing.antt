@@ -35,7 +35,8 @@ pub record Defined : Type 0 where
 -- the names of one sort, from this place on
 abbrev pub placed_from : (ℕ → What) → ℕ → List Entry → List Defined
 placed_from sort i [] = []
-placed_from sort i (e ∷ es) = record { text = e.name.text; meaning = record { what = sort i; kind = e.kind } } ∷ placed_from sort (i + 1) es
+placed_from sort i (e ∷ es) = record { text = e.name.text; meaning = record { what = sort i; kind = e.kind } }
+    ∷ placed_from sort (i + 1) es
 
 abbrev pub entries : List Declaration → List Entry
 entries ds = map (λ d. let e : Entry = record { name = d.name; kind = d.kind } in e) ds
@@ -65,7 +66,8 @@ definitions p =
 
 abbrev pub all_entries : ProgramTree → List Entry
 all_entries p =
-    entries p.fields ++ (slot_entries p.slots ++ (total_entries p.totals ++ (entries (lets_of p.dense) ++ entries (sends_of p.sparse))))
+    entries p.fields ++ (slot_entries p.slots
+    ++ (total_entries p.totals ++ (entries (lets_of p.dense) ++ entries (sends_of p.sparse))))
 
 -- what each text stands for
 abbrev pub Dictionary : Type 0
@@ -83,7 +85,8 @@ is_text_among text (t ∷ ts) = bytes_eq t text || is_text_among text ts
 -- each name that was declared before, where these texts were declared before all
 abbrev pub twice : List (List ℕ) → List Entry → List Finding
 twice before [] = []
-twice before (e ∷ es) = (if is_text_among e.name.text before then fault declared_before e.name.span else []) ++ twice (e.name.text ∷ before) es
+twice before (e ∷ es) = (if is_text_among e.name.text before then fault declared_before e.name.span else [])
+    ++ twice (e.name.text ∷ before) es
 
 -- ---- expressions
 
@@ -161,7 +164,8 @@ faults_of d p (Pair s op left right) =
     ++ (faults_of d p right ++ kind_faults (operand_kind op) (kind_of d p right) (start right))
 faults_of d p (Choice s test held otherwise) =
     faults_of d p test ++ kind_faults kind.Bool (kind_of d p test) (start test)
-    ++ (faults_of d p held ++ (faults_of d p otherwise ++ same_faults (kind_of d p held) (kind_of d p otherwise) (start otherwise)))
+    ++ (faults_of d p held ++ (faults_of d p otherwise
+    ++ same_faults (kind_of d p held) (kind_of d p otherwise) (start otherwise)))
 faults_of d p (Least s left right) =
     faults_of d p left ++ kind_faults kind.Int (kind_of d p left) (start left)
     ++ (faults_of d p right ++ kind_faults kind.Int (kind_of d p right) (start right))
@@ -215,7 +219,14 @@ at_field = record {
 }
 
 abbrev pub names_of_rows : ProgramTree → Counts
-names_of_rows t = record { fields = length t.fields; locals = 0; sends = 0; slots = 0; totals = 0; other_fields = length t.fields }
+names_of_rows t = record {
+  fields = length t.fields;
+  locals = 0;
+  sends = 0;
+  slots = 0;
+  totals = 0;
+  other_fields = length t.fields;
+}
 
 -- start: these and the fields
 abbrev pub at_start : ProgramTree → Place
@@ -299,10 +310,12 @@ stop_faults d t (Some test) = faults_as d (at_stop t) kind.Bool test
 
 -- which blocks there are, at the word after `mode`
 abbrev pub mode_faults : Mode → Bool → Bool → Span → List Finding
-mode_faults mode dense sparse s = if dense || sparse then unless (mode_stands mode dense sparse) half_blocked s else fault blockless s
+mode_faults mode dense sparse s = if dense || sparse then unless (mode_stands mode dense sparse) half_blocked s
+    else fault blockless s
 
 abbrev pub header_faults : ProgramTree → List Finding
-header_faults t = mode_faults t.mode (is_some t.dense) (is_some t.sparse) t.mode_at ++ unless (nat_le t.limit 10000) overlong t.limit_at
+header_faults t = mode_faults t.mode (is_some t.dense) (is_some t.sparse) t.mode_at
+    ++ unless (nat_le t.limit 10000) overlong t.limit_at
 
 -- all expressions and blocks
 abbrev pub body_faults : Dictionary → ProgramTree → List Finding

@@ -50,7 +50,9 @@ const SPARSE_RIGHTS: Rights = Rights {
 pub(crate) fn check_decls(decls: &[Decl], scope: &Scope, place: &Place, found: &mut Findings)
     requires scope { IsScope scope.now }
     requires known { IsTrue (decls_known (length (names_in scope.now)) decls.now) }
-    ensures { found.new.first ≡ first_from found.old.first (declaration_faults (dictionary_in scope.now) (view_place place.now) (map (view_declaration (names_in scope.now)) decls.now)) }
+    ensures { found.new.first ≡ first_from found.old.first
+        (declaration_faults (dictionary_in scope.now) (view_place place.now)
+        (map (view_declaration (names_in scope.now)) decls.now)) }
 {
     for decl in decls {
         check_as(decl.kind, &decl.value, scope, place, found);
@@ -61,7 +63,9 @@ pub(crate) fn check_decls(decls: &[Decl], scope: &Scope, place: &Place, found: &
 pub(crate) fn check_totals(totals: &[TotalDecl], scope: &Scope, place: &Place, found: &mut Findings)
     requires scope { IsScope scope.now }
     requires known { IsTrue (totals_known (length (names_in scope.now)) totals.now) }
-    ensures { found.new.first ≡ first_from found.old.first (total_faults (dictionary_in scope.now) (view_place place.now) (map (view_total (names_in scope.now)) totals.now)) }
+    ensures { found.new.first ≡ first_from found.old.first
+        (total_faults (dictionary_in scope.now) (view_place place.now)
+        (map (view_total (names_in scope.now)) totals.now)) }
 {
     for total in totals {
         check_as(ValueType::Int, &total.value, scope, place, found);
@@ -72,7 +76,9 @@ pub(crate) fn check_totals(totals: &[TotalDecl], scope: &Scope, place: &Place, f
 fn check_lets(lets: &[Decl], scope: &Scope, place: &Place, found: &mut Findings)
     requires scope { IsScope scope.now }
     requires known { IsTrue (decls_known (length (names_in scope.now)) lets.now) }
-    ensures { found.new.first ≡ first_from found.old.first (let_faults (dictionary_in scope.now) (view_place place.now) 0 (map (view_declaration (names_in scope.now)) lets.now)) }
+    ensures { found.new.first ≡ first_from found.old.first
+        (let_faults (dictionary_in scope.now) (view_place place.now) 0
+        (map (view_declaration (names_in scope.now)) lets.now)) }
 {
     for (i, decl) in lets.iter().enumerate() {
         check_as(decl.kind, &decl.value, scope, &with_lets(place, i), found);
@@ -82,7 +88,9 @@ fn check_lets(lets: &[Decl], scope: &Scope, place: &Place, found: &mut Findings)
 fn check_dense_block(block: &Dense, scope: &Scope, found: &mut Findings)
     requires scope { IsScope scope.now }
     requires known { IsTrue (dense_known (length (names_in scope.now)) block.now) }
-    ensures { found.new.first ≡ first_from found.old.first (dense_faults (dictionary_in scope.now) (view_program scope.now.program.now) (Some (view_dense (names_in scope.now) block.now))) }
+    ensures { found.new.first ≡ first_from found.old.first
+        (dense_faults (dictionary_in scope.now) (view_program scope.now.program.now)
+        (Some (view_dense (names_in scope.now) block.now))) }
 {
     let test = at_test(scope.program);
     let lets = block.lets.len();
@@ -108,7 +116,9 @@ fn check_dense_block(block: &Dense, scope: &Scope, found: &mut Findings)
 pub(crate) fn check_dense(dense: &Option<Dense>, scope: &Scope, found: &mut Findings)
     requires scope { IsScope scope.now }
     requires known { IsTrue (option_all (dense_known (length (names_in scope.now))) dense.now) }
-    ensures { found.new.first ≡ first_from found.old.first (dense_faults (dictionary_in scope.now) (view_program scope.now.program.now) (option_map (view_dense (names_in scope.now)) dense.now)) }
+    ensures { found.new.first ≡ first_from found.old.first
+        (dense_faults (dictionary_in scope.now) (view_program scope.now.program.now)
+        (option_map (view_dense (names_in scope.now)) dense.now)) }
 {
     match dense {
         Some(block) => check_dense_block(block, scope, found),
@@ -119,7 +129,9 @@ pub(crate) fn check_dense(dense: &Option<Dense>, scope: &Scope, found: &mut Find
 fn check_sparse_block(block: &Sparse, scope: &Scope, found: &mut Findings)
     requires scope { IsScope scope.now }
     requires known { IsTrue (sparse_known (length (names_in scope.now)) block.now) }
-    ensures { found.new.first ≡ first_from found.old.first (sparse_faults (dictionary_in scope.now) (view_program scope.now.program.now) (Some (view_sparse (names_in scope.now) block.now))) }
+    ensures { found.new.first ≡ first_from found.old.first
+        (sparse_faults (dictionary_in scope.now) (view_program scope.now.program.now)
+        (Some (view_sparse (names_in scope.now) block.now))) }
 {
     let test = at_test(scope.program);
     check_as(ValueType::Bool, &block.when_test, scope, &test, found);
@@ -137,7 +149,9 @@ fn check_sparse_block(block: &Sparse, scope: &Scope, found: &mut Findings)
 pub(crate) fn check_sparse(sparse: &Option<Sparse>, scope: &Scope, found: &mut Findings)
     requires scope { IsScope scope.now }
     requires known { IsTrue (option_all (sparse_known (length (names_in scope.now))) sparse.now) }
-    ensures { found.new.first ≡ first_from found.old.first (sparse_faults (dictionary_in scope.now) (view_program scope.now.program.now) (option_map (view_sparse (names_in scope.now)) sparse.now)) }
+    ensures { found.new.first ≡ first_from found.old.first
+        (sparse_faults (dictionary_in scope.now) (view_program scope.now.program.now)
+        (option_map (view_sparse (names_in scope.now)) sparse.now)) }
 {
     match sparse {
         Some(block) => check_sparse_block(block, scope, found),
@@ -149,7 +163,9 @@ pub(crate) fn check_sparse(sparse: &Option<Sparse>, scope: &Scope, found: &mut F
 pub(crate) fn check_stop(stop: &Option<Expr>, scope: &Scope, found: &mut Findings)
     requires scope { IsScope scope.now }
     requires known { IsTrue (option_all (expr_known (length (names_in scope.now))) stop.now) }
-    ensures { found.new.first ≡ first_from found.old.first (stop_faults (dictionary_in scope.now) (view_program scope.now.program.now) (option_map (view (names_in scope.now)) stop.now)) }
+    ensures { found.new.first ≡ first_from found.old.first
+        (stop_faults (dictionary_in scope.now) (view_program scope.now.program.now)
+        (option_map (view (names_in scope.now)) stop.now)) }
 {
     match stop {
         Some(test) => {
@@ -173,7 +189,8 @@ const UPDATE_RIGHTS: Rights = Rights {
 pub(crate) fn check_bodies(scope: &Scope, found: &mut Findings)
     requires scope { IsScope scope.now }
     requires known { IsTrue (program_known (length (names_in scope.now)) scope.now.program.now) }
-    ensures { found.new.first ≡ first_from found.old.first (body_faults (dictionary_in scope.now) (view_program scope.now.program.now)) }
+    ensures { found.new.first ≡ first_from found.old.first
+        (body_faults (dictionary_in scope.now) (view_program scope.now.program.now)) }
 {
     let program = scope.program;
     check_decls(&program.fields, scope, &at_field(), found);

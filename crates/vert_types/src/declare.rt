@@ -44,9 +44,12 @@ fn declare(
     found: &mut Findings,
 )
     requires { IsTrue (name_known (length meanings.old.items) name.now) }
-    ensures table { meanings.new.items ≡ with_item meanings.old.items (record { name = name.now; meaning = meaning }) }
+    ensures table { meanings.new.items
+        ≡ with_item meanings.old.items (record { name = name.now; meaning = meaning }) }
     ensures wide { length meanings.new.items ≡ length meanings.old.items }
-    ensures faults { found.new.first ≡ first_from found.old.first (again_in meanings.old.items (record { name = name.now; meaning = meaning })) }
+    ensures faults { found.new.first
+        ≡ first_from found.old.first
+        (again_in meanings.old.items (record { name = name.now; meaning = meaning })) }
 {
     let number = name.name as usize;
     if meanings[number].is_some() {
@@ -64,10 +67,14 @@ fn declare_all(
     found: &mut Findings,
 )
     requires few { length decls.now ≤ 16 }
-    requires known { IsTrue (list_all (λ d. name_known (length meanings.old.items) d.name) decls.now) }
-    ensures table { meanings.new.items ≡ table_after meanings.old.items (items_from (sort_of sort) 0 (map typed_decl decls.now)) }
+    requires known { IsTrue (list_all (λ d. name_known (length meanings.old.items) d.name)
+        decls.now) }
+    ensures table { meanings.new.items
+        ≡ table_after meanings.old.items (items_from (sort_of sort) 0 (map typed_decl decls.now)) }
     ensures wide { length meanings.new.items ≡ length meanings.old.items }
-    ensures faults { found.new.first ≡ first_from found.old.first (twice_in meanings.old.items (items_from (sort_of sort) 0 (map typed_decl decls.now))) }
+    ensures faults { found.new.first
+        ≡ first_from found.old.first
+        (twice_in meanings.old.items (items_from (sort_of sort) 0 (map typed_decl decls.now))) }
 {
     for (i, decl) in decls.iter().enumerate() {
         let meaning = Meaning {
@@ -80,10 +87,16 @@ fn declare_all(
 
 fn declare_slots(slots: &[SlotDecl], meanings: &mut Vec<Option<Meaning>>, found: &mut Findings)
     requires few { length slots.now ≤ 8 }
-    requires known { IsTrue (list_all (λ d. name_known (length meanings.old.items) d.name) slots.now) }
-    ensures table { meanings.new.items ≡ table_after meanings.old.items (items_from (sort_of Sort.Slots) 0 (map typed_slot slots.now)) }
+    requires known { IsTrue (list_all (λ d. name_known (length meanings.old.items) d.name)
+        slots.now) }
+    ensures table { meanings.new.items
+        ≡ table_after meanings.old.items
+        (items_from (sort_of Sort.Slots) 0 (map typed_slot slots.now)) }
     ensures wide { length meanings.new.items ≡ length meanings.old.items }
-    ensures faults { found.new.first ≡ first_from found.old.first (twice_in meanings.old.items (items_from (sort_of Sort.Slots) 0 (map typed_slot slots.now))) }
+    ensures faults { found.new.first
+        ≡ first_from found.old.first
+        (twice_in meanings.old.items
+        (items_from (sort_of Sort.Slots) 0 (map typed_slot slots.now))) }
 {
     for (i, slot) in slots.iter().enumerate() {
         let meaning = Meaning {
@@ -96,10 +109,16 @@ fn declare_slots(slots: &[SlotDecl], meanings: &mut Vec<Option<Meaning>>, found:
 
 fn declare_totals(totals: &[TotalDecl], meanings: &mut Vec<Option<Meaning>>, found: &mut Findings)
     requires few { length totals.now ≤ 4 }
-    requires known { IsTrue (list_all (λ d. name_known (length meanings.old.items) d.name) totals.now) }
-    ensures table { meanings.new.items ≡ table_after meanings.old.items (items_from (sort_of Sort.Totals) 0 (map typed_total totals.now)) }
+    requires known { IsTrue (list_all (λ d. name_known (length meanings.old.items) d.name)
+        totals.now) }
+    ensures table { meanings.new.items
+        ≡ table_after meanings.old.items
+        (items_from (sort_of Sort.Totals) 0 (map typed_total totals.now)) }
     ensures wide { length meanings.new.items ≡ length meanings.old.items }
-    ensures faults { found.new.first ≡ first_from found.old.first (twice_in meanings.old.items (items_from (sort_of Sort.Totals) 0 (map typed_total totals.now))) }
+    ensures faults { found.new.first
+        ≡ first_from found.old.first
+        (twice_in meanings.old.items
+        (items_from (sort_of Sort.Totals) 0 (map typed_total totals.now))) }
 {
     for (i, total) in totals.iter().enumerate() {
         let meaning = Meaning {
@@ -112,10 +131,16 @@ fn declare_totals(totals: &[TotalDecl], meanings: &mut Vec<Option<Meaning>>, fou
 
 fn declare_lets(dense: &Option<Dense>, meanings: &mut Vec<Option<Meaning>>, found: &mut Findings)
     requires few { length (lets_in dense.now) ≤ 8 }
-    requires known { IsTrue (list_all (λ d. name_known (length meanings.old.items) d.name) (lets_in dense.now)) }
-    ensures table { meanings.new.items ≡ table_after meanings.old.items (items_from (sort_of Sort.Locals) 0 (map typed_decl (lets_in dense.now))) }
+    requires known { IsTrue (list_all (λ d. name_known (length meanings.old.items) d.name)
+        (lets_in dense.now)) }
+    ensures table { meanings.new.items
+        ≡ table_after meanings.old.items
+        (items_from (sort_of Sort.Locals) 0 (map typed_decl (lets_in dense.now))) }
     ensures wide { length meanings.new.items ≡ length meanings.old.items }
-    ensures faults { found.new.first ≡ first_from found.old.first (twice_in meanings.old.items (items_from (sort_of Sort.Locals) 0 (map typed_decl (lets_in dense.now)))) }
+    ensures faults { found.new.first
+        ≡ first_from found.old.first
+        (twice_in meanings.old.items
+        (items_from (sort_of Sort.Locals) 0 (map typed_decl (lets_in dense.now)))) }
 {
     match dense {
         Some(block) => declare_all(Sort::Locals, &block.lets, meanings, found),
@@ -125,10 +150,16 @@ fn declare_lets(dense: &Option<Dense>, meanings: &mut Vec<Option<Meaning>>, foun
 
 fn declare_sends(sparse: &Option<Sparse>, meanings: &mut Vec<Option<Meaning>>, found: &mut Findings)
     requires few { length (sends_in sparse.now) ≤ 8 }
-    requires known { IsTrue (list_all (λ d. name_known (length meanings.old.items) d.name) (sends_in sparse.now)) }
-    ensures table { meanings.new.items ≡ table_after meanings.old.items (items_from (sort_of Sort.Sends) 0 (map typed_decl (sends_in sparse.now))) }
+    requires known { IsTrue (list_all (λ d. name_known (length meanings.old.items) d.name)
+        (sends_in sparse.now)) }
+    ensures table { meanings.new.items
+        ≡ table_after meanings.old.items
+        (items_from (sort_of Sort.Sends) 0 (map typed_decl (sends_in sparse.now))) }
     ensures wide { length meanings.new.items ≡ length meanings.old.items }
-    ensures faults { found.new.first ≡ first_from found.old.first (twice_in meanings.old.items (items_from (sort_of Sort.Sends) 0 (map typed_decl (sends_in sparse.now)))) }
+    ensures faults { found.new.first
+        ≡ first_from found.old.first
+        (twice_in meanings.old.items
+        (items_from (sort_of Sort.Sends) 0 (map typed_decl (sends_in sparse.now)))) }
 {
     match sparse {
         Some(block) => declare_all(Sort::Sends, &block.sends, meanings, found),
@@ -149,8 +180,12 @@ pub(crate) fn meanings_of(
     found: &mut Findings,
 ) -> Result<Vec<Option<Meaning>>, AllocError>
     requires { AreDeclared program.now }
-    ensures table { IfOk result (λ meanings. meanings.items ≡ table_after (map (λ name. None) program.now.names.items) (all_items program.now)) }
-    ensures faults { OnOk result (found.new.first ≡ first_from found.old.first (twice_in (map (λ name. None) program.now.names.items) (all_items program.now))) }
+    ensures table { IfOk result (λ meanings.
+        meanings.items ≡ table_after (map (λ name. None) program.now.names.items)
+        (all_items program.now)) }
+    ensures faults { OnOk result (found.new.first
+        ≡ first_from found.old.first
+        (twice_in (map (λ name. None) program.now.names.items) (all_items program.now))) }
 {
     let mut meanings = blank(alloc, &program.names)?;
     declare_all(Sort::Fields, &program.fields, &mut meanings, found);

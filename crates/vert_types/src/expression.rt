@@ -90,7 +90,9 @@ pub(crate) fn check_as(
 )
     requires scope { IsScope scope.now }
     requires known { IsTrue (expr_known (length (names_in scope.now)) e.now) }
-    ensures { found.new.first ≡ first_from found.old.first (faults_as (dictionary_in scope.now) (view_place place.now) wanted (view (names_in scope.now) e.now)) }
+    ensures { found.new.first ≡ first_from found.old.first
+        (faults_as (dictionary_in scope.now) (view_place place.now) wanted
+        (view (names_in scope.now) e.now)) }
 {
     let has = check_expr(e, scope, place, found);
     match_kind(wanted, has, e.span, found);
@@ -106,8 +108,12 @@ pub(crate) fn check_expr(
 ) -> Option<ValueType>
     requires scope { IsScope scope.now }
     requires known { IsTrue (expr_known (length (names_in scope.now)) e.now) }
-    ensures kind { result ≡ kind_of (dictionary_in scope.now) (view_place place.now) (view (names_in scope.now) e.now) }
-    ensures faults { found.new.first ≡ first_from found.old.first (faults_of (dictionary_in scope.now) (view_place place.now) (view (names_in scope.now) e.now)) }
+    ensures kind { result ≡ kind_of (dictionary_in scope.now) (view_place place.now)
+        (view (names_in scope.now) e.now) }
+    ensures faults { found.new.first
+        ≡ first_from found.old.first
+        (faults_of (dictionary_in scope.now) (view_place place.now)
+        (view (names_in scope.now) e.now)) }
 {
     match &e.node {
         Node::Int(_) => Some(ValueType::Int),

@@ -17,7 +17,8 @@ use vert_tree::{Decl, Dense, Expr, Ident, Node, Program, SlotDecl, Sparse, Stmt,
 /// A name.
 fn fill_name(name: &mut Ident, meanings: &[Option<Meaning>])
     requires { IsTrue (name_known (length meanings.now) name.old) }
-    ensures same { (names : List (String Global)) → view_name names name.new ≡ view_name names name.old }
+    ensures same { (names : List (String Global)) →
+        view_name names name.new ≡ view_name names name.old }
     ensures filled { IsTrue (name_filled (what_at meanings.now) name.new) }
 {
     name.what = match meanings[name.name as usize] {
@@ -64,7 +65,8 @@ pub(crate) fn fill_expr(e: &mut Expr, meanings: &[Option<Meaning>])
 #[cycle(fill)]
 fn fill_stmt(stmt: &mut Stmt, meanings: &[Option<Meaning>])
     requires { IsTrue (stmt_known (length meanings.now) stmt.old) }
-    ensures same { (names : List (String Global)) → view_statement names stmt.new ≡ view_statement names stmt.old }
+    ensures same { (names : List (String Global)) →
+        view_statement names stmt.new ≡ view_statement names stmt.old }
     ensures filled { IsTrue (stmt_filled (what_at meanings.now) stmt.new) }
 {
     match stmt {
@@ -92,7 +94,8 @@ fn fill_stmt(stmt: &mut Stmt, meanings: &[Option<Meaning>])
 #[cycle(fill)]
 pub(crate) fn fill_body(body: &mut Vec<Stmt>, meanings: &[Option<Meaning>])
     requires { IsTrue (body_known (length meanings.now) body.old.items) }
-    ensures same { (names : List (String Global)) → view_block names body.new.items ≡ view_block names body.old.items }
+    ensures same { (names : List (String Global)) →
+        view_block names body.new.items ≡ view_block names body.old.items }
     ensures filled { IsTrue (body_filled (what_at meanings.now) body.new.items) }
 {
     for i in 0..body.len() {
@@ -102,7 +105,8 @@ pub(crate) fn fill_body(body: &mut Vec<Stmt>, meanings: &[Option<Meaning>])
 
 fn fill_decls(decls: &mut Vec<Decl>, meanings: &[Option<Meaning>])
     requires { IsTrue (decls_known (length meanings.now) decls.old.items) }
-    ensures same { (names : List (String Global)) → map (view_declaration names) decls.new.items ≡ map (view_declaration names) decls.old.items }
+    ensures same { (names : List (String Global)) → map (view_declaration names) decls.new.items
+        ≡ map (view_declaration names) decls.old.items }
     ensures filled { IsTrue (decls_filled (what_at meanings.now) decls.new.items) }
 {
     for i in 0..decls.len() {
@@ -114,8 +118,10 @@ fn fill_decls(decls: &mut Vec<Decl>, meanings: &[Option<Meaning>])
 
 fn fill_slots(slots: &mut Vec<SlotDecl>, meanings: &[Option<Meaning>])
     requires { IsTrue (list_all (λ s. name_known (length meanings.now) s.name) slots.old.items) }
-    ensures same { (names : List (String Global)) → map (view_slot names) slots.new.items ≡ map (view_slot names) slots.old.items }
-    ensures filled { IsTrue (list_all (λ s. name_filled (what_at meanings.now) s.name) slots.new.items) }
+    ensures same { (names : List (String Global)) → map (view_slot names) slots.new.items
+        ≡ map (view_slot names) slots.old.items }
+    ensures filled { IsTrue (list_all (λ s. name_filled (what_at meanings.now) s.name)
+        slots.new.items) }
 {
     for i in 0..slots.len() {
         let slot = &mut slots[i];
@@ -125,7 +131,8 @@ fn fill_slots(slots: &mut Vec<SlotDecl>, meanings: &[Option<Meaning>])
 
 fn fill_totals(totals: &mut Vec<TotalDecl>, meanings: &[Option<Meaning>])
     requires { IsTrue (totals_known (length meanings.now) totals.old.items) }
-    ensures same { (names : List (String Global)) → map (view_total names) totals.new.items ≡ map (view_total names) totals.old.items }
+    ensures same { (names : List (String Global)) → map (view_total names) totals.new.items
+        ≡ map (view_total names) totals.old.items }
     ensures filled { IsTrue (totals_filled (what_at meanings.now) totals.new.items) }
 {
     for i in 0..totals.len() {
@@ -137,7 +144,8 @@ fn fill_totals(totals: &mut Vec<TotalDecl>, meanings: &[Option<Meaning>])
 
 fn fill_dense(dense: &mut Dense, meanings: &[Option<Meaning>])
     requires { IsTrue (dense_known (length meanings.now) dense.old) }
-    ensures same { (names : List (String Global)) → view_dense names dense.new ≡ view_dense names dense.old }
+    ensures same { (names : List (String Global)) →
+        view_dense names dense.new ≡ view_dense names dense.old }
     ensures filled { IsTrue (dense_filled (what_at meanings.now) dense.new) }
 {
     fill_expr(&mut dense.when_test, meanings);
@@ -148,7 +156,8 @@ fn fill_dense(dense: &mut Dense, meanings: &[Option<Meaning>])
 
 fn fill_sparse(sparse: &mut Sparse, meanings: &[Option<Meaning>])
     requires { IsTrue (sparse_known (length meanings.now) sparse.old) }
-    ensures same { (names : List (String Global)) → view_sparse names sparse.new ≡ view_sparse names sparse.old }
+    ensures same { (names : List (String Global)) →
+        view_sparse names sparse.new ≡ view_sparse names sparse.old }
     ensures filled { IsTrue (sparse_filled (what_at meanings.now) sparse.new) }
 {
     fill_expr(&mut sparse.when_test, meanings);
@@ -159,7 +168,8 @@ fn fill_sparse(sparse: &mut Sparse, meanings: &[Option<Meaning>])
 /// The dense block, if there is one.
 fn fill_any_dense(dense: &mut Option<Dense>, meanings: &[Option<Meaning>])
     requires { IsTrue (option_all (dense_known (length meanings.now)) dense.old) }
-    ensures same { (names : List (String Global)) → option_map (view_dense names) dense.new ≡ option_map (view_dense names) dense.old }
+    ensures same { (names : List (String Global)) → option_map (view_dense names) dense.new
+        ≡ option_map (view_dense names) dense.old }
     ensures filled { IsTrue (option_all (dense_filled (what_at meanings.now)) dense.new) }
 {
     match dense {
@@ -171,7 +181,8 @@ fn fill_any_dense(dense: &mut Option<Dense>, meanings: &[Option<Meaning>])
 /// The sparse block, if there is one.
 fn fill_any_sparse(sparse: &mut Option<Sparse>, meanings: &[Option<Meaning>])
     requires { IsTrue (option_all (sparse_known (length meanings.now)) sparse.old) }
-    ensures same { (names : List (String Global)) → option_map (view_sparse names) sparse.new ≡ option_map (view_sparse names) sparse.old }
+    ensures same { (names : List (String Global)) → option_map (view_sparse names) sparse.new
+        ≡ option_map (view_sparse names) sparse.old }
     ensures filled { IsTrue (option_all (sparse_filled (what_at meanings.now)) sparse.new) }
 {
     match sparse {
@@ -183,7 +194,8 @@ fn fill_any_sparse(sparse: &mut Option<Sparse>, meanings: &[Option<Meaning>])
 /// The stop test, if there is one.
 fn fill_any_stop(stop: &mut Option<Expr>, meanings: &[Option<Meaning>])
     requires { IsTrue (option_all (expr_known (length meanings.now)) stop.old) }
-    ensures same { (names : List (String Global)) → option_map (view names) stop.new ≡ option_map (view names) stop.old }
+    ensures same { (names : List (String Global)) →
+        option_map (view names) stop.new ≡ option_map (view names) stop.old }
     ensures filled { IsTrue (option_all (expr_filled (what_at meanings.now)) stop.new) }
 {
     match stop {

@@ -116,8 +116,12 @@ pub(crate) fn use_name(
 ) -> Option<ValueType>
     requires scope { IsScope scope.now }
     requires known { IsTrue (name_known (length (names_in scope.now)) name.now) }
-    ensures kind { result ≡ kind_of_use (is_of role (view_place place.now)) (dictionary_in scope.now (text_of (names_in scope.now) name.now.name)) }
-    ensures faults { found.new.first ≡ first_from found.old.first (use_faults (is_of role (view_place place.now)) (dictionary_in scope.now (text_of (names_in scope.now) name.now.name)) name.now.span) }
+    ensures kind { result ≡ kind_of_use (is_of role (view_place place.now))
+        (dictionary_in scope.now (text_of (names_in scope.now) name.now.name)) }
+    ensures faults { found.new.first
+        ≡ first_from found.old.first
+        (use_faults (is_of role (view_place place.now))
+        (dictionary_in scope.now (text_of (names_in scope.now) name.now.name)) name.now.span) }
 {
     match meaning_of(name, scope) {
         None => {

@@ -37,7 +37,8 @@ fn is_before(a: &Finding, b: &Finding) -> bool
 impl Findings {
     /// Keeps one more fault, if it is before the first one.
     pub(crate) fn note(&mut self, code: u8, span: Span)
-        ensures { self.new.first ≡ Some (sooner self.old.first (record { code = code; span = span })) }
+        ensures { self.new.first ≡ Some
+            (sooner self.old.first (record { code = code; span = span })) }
     {
         let finding = Finding { code, span };
         match self.first {

@@ -39,7 +39,8 @@ fn check_mode(mode: Mode, dense: bool, sparse: bool, span: Span, found: &mut Fin
 }
 
 fn check_header(program: &Program, found: &mut Findings)
-    ensures { found.new.first ≡ first_from found.old.first (header_faults (view_program program.now)) }
+    ensures { found.new.first ≡ first_from found.old.first
+        (header_faults (view_program program.now)) }
 {
     check_mode(
         program.mode,

@@ -36,7 +36,9 @@ fn check_value(
 )
     requires scope { IsScope scope.now }
     requires known { IsTrue (expr_known (length (names_in scope.now)) value.now) }
-    ensures { found.new.first ≡ first_from found.old.first (value_faults (dictionary_in scope.now) (view_place place.now) op target (view (names_in scope.now) value.now)) }
+    ensures { found.new.first ≡ first_from found.old.first
+        (value_faults (dictionary_in scope.now) (view_place place.now) op target
+        (view (names_in scope.now) value.now)) }
 {
     match op {
         AssignOp::Set => {
@@ -51,7 +53,9 @@ fn check_value(
 fn check_stmt(stmt: &Stmt, rights: &Rights, scope: &Scope, place: &Place, found: &mut Findings)
     requires scope { IsScope scope.now }
     requires known { IsTrue (stmt_known (length (names_in scope.now)) stmt.now) }
-    ensures { found.new.first ≡ first_from found.old.first (statement_faults (dictionary_in scope.now) (view_rights rights.now) (view_place place.now) (view_statement (names_in scope.now) stmt.now)) }
+    ensures { found.new.first ≡ first_from found.old.first
+        (statement_faults (dictionary_in scope.now) (view_rights rights.now) (view_place place.now)
+        (view_statement (names_in scope.now) stmt.now)) }
 {
     match stmt {
         Stmt::Assign(target, op, value) => {
@@ -90,7 +94,9 @@ pub(crate) fn check_body(
 )
     requires scope { IsScope scope.now }
     requires known { IsTrue (body_known (length (names_in scope.now)) body.now) }
-    ensures { found.new.first ≡ first_from found.old.first (block_faults (dictionary_in scope.now) (view_rights rights.now) (view_place place.now) (view_block (names_in scope.now) body.now)) }
+    ensures { found.new.first ≡ first_from found.old.first
+        (block_faults (dictionary_in scope.now) (view_rights rights.now) (view_place place.now)
+        (view_block (names_in scope.now) body.now)) }
 {
     for stmt in body {
         check_stmt(stmt, rights, scope, place, found);

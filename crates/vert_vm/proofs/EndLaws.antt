@@ -12,8 +12,14 @@ use Rattle.vert_vm.specs.Ends.{SameEnd}
 pub SameEnd-refl : (key : ℕ) (ps : List Partial) (r : Ran) → SameEnd key ps r key ps r
 SameEnd-refl key ps r = record { env = refl; flow = refl; partials = refl }
 
-pub SameEnd-trans : (i j k : ℕ) (ps qs rs : List Partial) (a b c : Ran) → SameEnd i ps a j qs b → SameEnd j qs b k rs c → SameEnd i ps a k rs c
-SameEnd-trans i j k ps qs rs a b c p q = record { env = p.env ∙ q.env; flow = p.flow ∙ q.flow; partials = p.partials ∙ q.partials }
+pub SameEnd-trans : (i j k : ℕ) (ps qs rs : List Partial) (a b c : Ran) → SameEnd i ps a j qs b →
+    SameEnd j qs b k rs c → SameEnd i ps a k rs c
+SameEnd-trans i j k ps qs rs a b c p q = record {
+  env = p.env ∙ q.env;
+  flow = p.flow ∙ q.flow;
+  partials = p.partials
+      ∙ q.partials;
+}
 
 -- a run that goes on, and then the rest in the environment that it left
 pub going_ends : (key : ℕ) (ps qs : List Partial) (r : Ran) (next : Act) (whole : Ran) (left : Env) →
@@ -41,5 +47,8 @@ pub broke_ends : (key : ℕ) (ps qs : List Partial) (r : Ran) (next : Act) (whol
     whole ≡ followed_by r next → left ≡ r.env → Broke ≡ r.flow → qs ≡ with_emissions key ps r.emitted →
     (left ≡ whole.env) × (Broke ≡ whole.flow) × (qs ≡ with_emissions key ps whole.emitted)
 broke_ends key ps qs r next whole left is e broke eps =
-    let all = is ∙ followed-Broke r next (sym broke) in
-    (e ∙ sym (ap (λ x. x.env) all), broke ∙ sym (ap (λ x. x.flow) all), eps ∙ sym (ap (λ x. with_emissions key ps x.emitted) all))
+    let all = is ∙ followed-Broke r next (sym broke) in (
+      e ∙ sym (ap (λ x. x.env) all),
+      broke ∙ sym (ap (λ x. x.flow) all),
+      eps ∙ sym (ap (λ x. with_emissions key ps x.emitted) all),
+    )

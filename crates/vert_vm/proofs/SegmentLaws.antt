@@ -42,12 +42,14 @@ step_reads (Jump target) place stack env = refl
 step_reads (JumpUnless target) place stack env = refl
 step_reads Break place stack env = refl
 
-list_reads : (list : List Instr) (place over : ℕ) (stack : List _) (env : Env) → (goes_on place list over stack env).reads ≡ []
+list_reads : (list : List Instr) (place over : ℕ) (stack : List _) (env : Env) →
+    (goes_on place list over stack env).reads ≡ []
 list_reads [] place over stack env = refl
 list_reads (i ∷ rest) place (suc over) stack env = list_reads rest (place + 1) over stack env
 list_reads (i ∷ rest) place zero stack env =
     let s = step i place stack env in
-    next_reads s.ran.flow s.ran (goes_on (place + 1) rest s.over s.stack s.ran.env) (step_reads i place stack env) (list_reads rest (place + 1) s.over s.stack s.ran.env)
+    next_reads s.ran.flow s.ran (goes_on (place + 1) rest s.over s.stack s.ran.env) (step_reads i place stack env)
+    (list_reads rest (place + 1) s.over s.stack s.ran.env)
 
 member_reads : (list : List Instr) (m : Member) (env : Env) → (member_code list m env).reads ≡ id_of m ∷ []
 member_reads list m env = ap (λ us. id_of m ∷ us) (list_reads list 0 0 [] (at_neighbour m env))
@@ -63,7 +65,8 @@ pub feeding_none : (given left : List Member) (whole : List ℕ) → Feeding giv
 feeding_none given left whole = record { read = []; gave = sym (append-nil given); keeps = refl; ids = refl }
 
 pub feeding_more : (given left g l h k : List Member) (m : Member) (rest others whole : List ℕ) →
-    l ≡ m ∷ k → h ≡ g ++ m ∷ [] → rest ≡ id_of m ∷ others → Feeding given left g l rest whole → Feeding given left h k others whole
+    l ≡ m ∷ k → h ≡ g ++ m ∷ [] → rest ≡ id_of m ∷ others → Feeding given left g l rest whole →
+    Feeding given left h k others whole
 feeding_more given left g l h k m rest others whole first more is f = record {
   read = f.read ++ m ∷ [];
   gave = more ∙ ap (λ xs. xs ++ m ∷ []) f.gave ∙ append_assoc given f.read (m ∷ []);
@@ -75,30 +78,39 @@ feeding_more given left g l h k m rest others whole first more is f = record {
       ∙ f.ids;
 }
 
-pub fed_of : (given left h k : List Member) (whole : List ℕ) → Feeding given left h k [] whole → Fed given left h k whole
-fed_of given left h k whole f = record { read = f.read; now_given = f.gave; now_left = f.keeps; ids = sym (append-nil (map id_of f.read)) ∙ f.ids }
+pub fed_of : (given left h k : List Member) (whole : List ℕ) → Feeding given left h k [] whole →
+    Fed given left h k whole
+fed_of given left h k whole f = record {
+  read = f.read;
+  now_given = f.gave;
+  now_left = f.keeps;
+  ids = sym (append-nil (map id_of f.read)) ∙ f.ids;
+}
 
 -- ---- a turn
-module _ (list : List Instr) (members others : List Member) (m : Member) (env : Env) (first : members ≡ m ∷ others) where
-  pub turn_is : loop_code list members env ≡ followed_by (member_code list m env) (loop_code list others)
-  turn_is = ap (λ ms. loop_code list ms env) first
+module _ (list : List Instr) (members others : List Member) (m : Member) (env : Env) (first : members ≡ m ∷ others)
+  where
+    pub turn_is : loop_code list members env ≡ followed_by (member_code list m env) (loop_code list others)
+    turn_is = ap (λ ms. loop_code list ms env) first
 
-  pub going_reads : (left : Env) → left ≡ (member_code list m env).env → Going ≡ (member_code list m env).flow →
-      (loop_code list members env).reads ≡ id_of m ∷ (loop_code list others left).reads
-  going_reads left e goes =
-      let r = member_code list m env in
-      ap (λ x. x.reads) (turn_is ∙ followed-Going r (loop_code list others) (sym goes))
-      ∙ ap (λ us. us ++ (loop_code list others r.env).reads) (member_reads list m env)
-      ∙ ap (λ x. id_of m ∷ (loop_code list others x).reads) (sym e)
+    pub going_reads : (left : Env) → left ≡ (member_code list m env).env → Going ≡ (member_code list m env).flow →
+        (loop_code list members env).reads ≡ id_of m ∷ (loop_code list others left).reads
+    going_reads left e goes =
+        let r = member_code list m env in
+        ap (λ x. x.reads) (turn_is ∙ followed-Going r (loop_code list others) (sym goes))
+        ∙ ap (λ us. us ++ (loop_code list others r.env).reads) (member_reads list m env)
+        ∙ ap (λ x. id_of m ∷ (loop_code list others x).reads) (sym e)
 
-  pub broke_reads : Broke ≡ (member_code list m env).flow → (loop_code list members env).reads ≡ id_of m ∷ []
-  broke_reads broke =
-      ap (λ x. x.reads) (turn_is ∙ followed-Broke (member_code list m env) (loop_code list others) (sym broke)) ∙ member_reads list m env
+    pub broke_reads : Broke ≡ (member_code list m env).flow → (loop_code list members env).reads ≡ id_of m ∷ []
+    broke_reads broke =
+        ap (λ x. x.reads) (turn_is ∙ followed-Broke (member_code list m env) (loop_code list others) (sym broke))
+        ∙ member_reads list m env
 
 -- what stays the same at a neighbour
 pub beside_from : (env new : Env) (m : Member) → SameFrame (at_neighbour m env) new → SameFrame (beside env new) new
 beside_from env new m k = record {
-  counts = k.counts ∙ ap (λ row. let counts : Counts = record (counts_of env) { other_fields = length row.words.items } in counts) (sym k.other_row);
+  counts = k.counts ∙ ap (λ row. let counts : Counts = record (counts_of env)
+      { other_fields = length row.words.items } in counts) (sym k.other_row);
   id = k.id;
   n = k.n;
   round = k.round;
@@ -133,10 +145,12 @@ beside-refl env = record {
 }
 
 -- the names at a neighbour
-pub names_there : (start env : Env) (m : Member) (list loop : List Instr) → SameFrame (beside start env) env → IsWide start m → list ≡ loop →
+pub names_there : (start env : Env) (m : Member) (list loop : List Instr) → SameFrame (beside start env) env →
+    IsWide start m → list ≡ loop →
     list_names (counts_at start) loop ≡ true → list_names (counts_of (at_neighbour m env)) list ≡ true
 names_there start env m list loop k wide is h =
     let widened : Counts → Counts = λ c. record c { other_fields = length m.1.words.items } in
-    ap (λ c. list_names c list) (ap widened k.counts ∙ ap (λ n. let counts : Counts = record (counts_of start) { other_fields = n } in counts) wide)
+    ap (λ c. list_names c list) (ap widened k.counts
+    ∙ ap (λ n. let counts : Counts = record (counts_of start) { other_fields = n } in counts) wide)
     ∙ ap (list_names (counts_at start)) is
     ∙ h

@@ -18,7 +18,9 @@ pub fn step_block(code: &Code, block: Block, env: &mut Env, emits: &mut Emits)
     requires draws { CanDraw env.old }
     requires partials { length emits.old.slots.items ≡ length env.old.slots.items }
     ensures env { env.new ≡ (run_code (list_of code.now block) env.old).env }
-    ensures emits { emits.new.slots.items ≡ with_emissions env.old.key emits.old.slots.items (run_code (list_of code.now block) env.old).emitted }
+    ensures emits { emits.new.slots.items
+        ≡ with_emissions env.old.key emits.old.slots.items
+        (run_code (list_of code.now block) env.old).emitted }
     ensures kept { SameFrame env.old env.new }
     ensures partials { length emits.new.slots.items ≡ length emits.old.slots.items }
 {

@@ -32,7 +32,8 @@ pub(crate) fn run_list(list: &[Instr], stack: &mut Stack, env: &mut Env, emits: 
     requires partials { length emits.old.slots.items ≡ length env.old.slots.items }
     ensures env { env.new ≡ (run_code list.now env.old).env }
     ensures flow { result ≡ (run_code list.now env.old).flow }
-    ensures emits { emits.new.slots.items ≡ with_emissions env.old.key emits.old.slots.items (run_code list.now env.old).emitted }
+    ensures emits { emits.new.slots.items
+        ≡ with_emissions env.old.key emits.old.slots.items (run_code list.now env.old).emitted }
     ensures stack { result ≡ Going → stack.new ≡ [] }
     ensures kept { SameFrame env.old env.new }
     ensures partials { length emits.new.slots.items ≡ length emits.old.slots.items }
@@ -64,11 +65,16 @@ fn run_next(
     requires partials { length emits.old.slots.items ≡ length env.old.slots.items }
     ensures ahead { IfSome result (λ next. place < next) }
     ensures within { IfSome result (λ next. next ≤ length list.now) }
-    ensures entered { IfSome result (λ next. IsEntered next (length stack.new) (drop next list.now)) }
-    ensures ends { IfSome result (λ next. SameEnd env.new.key emits.new.slots.items (rest_of list.now next stack.new env.new) env.old.key emits.old.slots.items (rest_of list.now place stack.old env.old)) }
+    ensures entered { IfSome result (λ next.
+        IsEntered next (length stack.new) (drop next list.now)) }
+    ensures ends { IfSome result (λ next.
+        SameEnd env.new.key emits.new.slots.items (rest_of list.now next stack.new env.new)
+        env.old.key emits.old.slots.items (rest_of list.now place stack.old env.old)) }
     ensures env { IfNone result (env.new ≡ (rest_of list.now place stack.old env.old).env) }
     ensures broke { IfNone result (Broke ≡ (rest_of list.now place stack.old env.old).flow) }
-    ensures emits { IfNone result (emits.new.slots.items ≡ with_emissions env.old.key emits.old.slots.items (rest_of list.now place stack.old env.old).emitted) }
+    ensures emits { IfNone result (emits.new.slots.items
+        ≡ with_emissions env.old.key emits.old.slots.items
+        (rest_of list.now place stack.old env.old).emitted) }
     ensures kept { SameFrame env.old env.new }
     ensures partials { length emits.new.slots.items ≡ length emits.old.slots.items }
 {
@@ -82,7 +88,8 @@ fn run_next(
 #[inline]
 fn loaded(instr: Instr, env: &Env) -> Option<i64>
     requires names { has_names (counts_of env.now) instr ≡ true }
-    ensures loads { IfSome result (λ value. (place : ℕ) → (stack : List ℤ) → step instr place stack env.now ≡ gives value stack env.now) }
+    ensures loads { IfSome result (λ value. (place : ℕ) → (stack : List ℤ) →
+        step instr place stack env.now ≡ gives value stack env.now) }
     ensures fits { IfSome result (λ value. FitsSigned w64 value) }
 {
     match instr {
@@ -112,12 +119,16 @@ fn run_above(
     requires names { has_names (counts_of env.old) instr ≡ true }
     requires draws { CanDraw env.old }
     requires partials { length emits.old.slots.items ≡ length env.old.slots.items }
-    ensures next { IfSome result (λ next. next ≡ place + 1 + (step instr place (value ∷ stack.old) env.old).over) }
-    ensures going { IfSome result (λ next. Going ≡ (step instr place (value ∷ stack.old) env.old).ran.flow) }
+    ensures next { IfSome result (λ next.
+        next ≡ place + 1 + (step instr place (value ∷ stack.old) env.old).over) }
+    ensures going { IfSome result (λ next.
+        Going ≡ (step instr place (value ∷ stack.old) env.old).ran.flow) }
     ensures broke { IfNone result (Broke ≡ (step instr place (value ∷ stack.old) env.old).ran.flow) }
     ensures stack { stack.new ≡ (step instr place (value ∷ stack.old) env.old).stack }
     ensures env { env.new ≡ (step instr place (value ∷ stack.old) env.old).ran.env }
-    ensures emits { emits.new.slots.items ≡ with_emissions env.old.key emits.old.slots.items (step instr place (value ∷ stack.old) env.old).ran.emitted }
+    ensures emits { emits.new.slots.items
+        ≡ with_emissions env.old.key emits.old.slots.items
+        (step instr place (value ∷ stack.old) env.old).ran.emitted }
     ensures kept { SameFrame env.old env.new }
     ensures partials { length emits.new.slots.items ≡ length emits.old.slots.items }
 {
@@ -150,12 +161,15 @@ fn run_step(
     requires names { has_names (counts_of env.old) instr ≡ true }
     requires draws { CanDraw env.old }
     requires partials { length emits.old.slots.items ≡ length env.old.slots.items }
-    ensures next { IfSome result (λ next. next ≡ place + 1 + (step instr place stack.old env.old).over) }
+    ensures next { IfSome result (λ next.
+        next ≡ place + 1 + (step instr place stack.old env.old).over) }
     ensures going { IfSome result (λ next. Going ≡ (step instr place stack.old env.old).ran.flow) }
     ensures broke { IfNone result (Broke ≡ (step instr place stack.old env.old).ran.flow) }
     ensures stack { stack.new ≡ (step instr place stack.old env.old).stack }
     ensures env { env.new ≡ (step instr place stack.old env.old).ran.env }
-    ensures emits { emits.new.slots.items ≡ with_emissions env.old.key emits.old.slots.items (step instr place stack.old env.old).ran.emitted }
+    ensures emits { emits.new.slots.items
+        ≡ with_emissions env.old.key emits.old.slots.items
+        (step instr place stack.old env.old).ran.emitted }
     ensures kept { SameFrame env.old env.new }
     ensures partials { length emits.new.slots.items ≡ length emits.old.slots.items }
 {

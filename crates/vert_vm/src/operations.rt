@@ -60,7 +60,8 @@ pub(crate) fn operate(op: BinOp, place: usize, stack: &mut Stack) -> usize
     requires some { 2 ≤ length stack.old }
     requires room { length stack.old ≤ 64 }
     ensures next { result ≡ place + 1 }
-    ensures stack { stack.new ≡ binary op (top (under stack.old)) (top stack.old) ∷ under (under stack.old) }
+    ensures stack { stack.new ≡ binary op (top (under stack.old)) (top stack.old)
+        ∷ under (under stack.old) }
 {
     let y = stack.pop();
     let x = stack.pop();
@@ -74,7 +75,8 @@ pub(crate) fn lower(place: usize, stack: &mut Stack) -> usize
     requires some { 2 ≤ length stack.old }
     requires room { length stack.old ≤ 64 }
     ensures next { result ≡ place + 1 }
-    ensures stack { stack.new ≡ int_min (top (under stack.old)) (top stack.old) ∷ under (under stack.old) }
+    ensures stack { stack.new ≡ int_min (top (under stack.old)) (top stack.old)
+        ∷ under (under stack.old) }
 {
     let y = stack.pop();
     let x = stack.pop();
@@ -88,7 +90,8 @@ pub(crate) fn raise(place: usize, stack: &mut Stack) -> usize
     requires some { 2 ≤ length stack.old }
     requires room { length stack.old ≤ 64 }
     ensures next { result ≡ place + 1 }
-    ensures stack { stack.new ≡ int_max (top (under stack.old)) (top stack.old) ∷ under (under stack.old) }
+    ensures stack { stack.new ≡ int_max (top (under stack.old)) (top stack.old)
+        ∷ under (under stack.old) }
 {
     let y = stack.pop();
     let x = stack.pop();
@@ -188,7 +191,8 @@ pub(crate) fn emit(i: u8, key: u32, place: usize, stack: &mut Stack, emits: &mut
     requires inside { i < length emits.old.slots.items }
     ensures next { result ≡ place + 1 }
     ensures stack { stack.new ≡ under stack.old }
-    ensures emits { emits.new.slots.items ≡ with_emissions key emits.old.slots.items (emission (what.Slot i) (top stack.old)) }
+    ensures emits { emits.new.slots.items
+        ≡ with_emissions key emits.old.slots.items (emission (what.Slot i) (top stack.old)) }
     ensures kept { length emits.new.slots.items ≡ length emits.old.slots.items }
 {
     let mut partial = emits.slots[usize::from(i)];

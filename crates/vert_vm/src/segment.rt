@@ -26,9 +26,13 @@ pub fn step_segment<F: Feed>(code: &Code, env: &mut Env, emits: &mut Emits, feed
     requires draws { CanDraw env.old }
     requires partials { length emits.old.slots.items ≡ length env.old.slots.items }
     ensures env { env.new ≡ (loop_code (list_of code.now Block.Loop) (F.left feed.old) env.old).env }
-    ensures flow { result ≡ (loop_code (list_of code.now Block.Loop) (F.left feed.old) env.old).flow }
-    ensures emits { emits.new.slots.items ≡ with_emissions env.old.key emits.old.slots.items (loop_code (list_of code.now Block.Loop) (F.left feed.old) env.old).emitted }
-    ensures fed { Fed (F.given feed.old) (F.left feed.old) (F.given feed.new) (F.left feed.new) (loop_code (list_of code.now Block.Loop) (F.left feed.old) env.old).reads }
+    ensures flow { result ≡ (loop_code (list_of code.now Block.Loop) (F.left feed.old)
+        env.old).flow }
+    ensures emits { emits.new.slots.items
+        ≡ with_emissions env.old.key emits.old.slots.items
+        (loop_code (list_of code.now Block.Loop) (F.left feed.old) env.old).emitted }
+    ensures fed { Fed (F.given feed.old) (F.left feed.old) (F.given feed.new) (F.left feed.new)
+        (loop_code (list_of code.now Block.Loop) (F.left feed.old) env.old).reads }
     ensures kept { SameFrame (beside env.old env.new) env.new }
     ensures partials { length emits.new.slots.items ≡ length emits.old.slots.items }
 {
@@ -59,7 +63,9 @@ fn visit(
     requires partials { length emits.old.slots.items ≡ length env.old.slots.items }
     ensures env { env.new ≡ (run_code list.now (record env.old { other = neighbour })).env }
     ensures flow { result ≡ (run_code list.now (record env.old { other = neighbour })).flow }
-    ensures emits { emits.new.slots.items ≡ with_emissions env.old.key emits.old.slots.items (run_code list.now (record env.old { other = neighbour })).emitted }
+    ensures emits { emits.new.slots.items
+        ≡ with_emissions env.old.key emits.old.slots.items
+        (run_code list.now (record env.old { other = neighbour })).emitted }
     ensures stack { result ≡ Going → stack.new ≡ [] }
     ensures kept { SameFrame (record env.old { other = neighbour }) env.new }
     ensures partials { length emits.new.slots.items ≡ length emits.old.slots.items }

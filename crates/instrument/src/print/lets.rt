@@ -28,7 +28,8 @@ pub(crate) fn print_lets(
     classes: &[Class],
 ) -> Result<(), Want>
     requires { length classes.now ≡ length lets.now }
-    ensures { OnOk result (string_bytes out.new ≡ string_bytes out.old ++ let_lines line names.now lets.now classes.now) }
+    ensures { OnOk result (string_bytes out.new ≡ string_bytes out.old
+        ++ let_lines line names.now lets.now classes.now) }
 {
     'lines: for (i, declaration) in lets.iter().enumerate() {
         print_let(out, line, name_text(names, &declaration.name), classes[i])?;
@@ -37,7 +38,8 @@ pub(crate) fn print_lets(
 }
 
 fn print_let(out: &mut String, line: Line, name: &str, class: Class) -> Result<(), Want>
-    ensures { OnOk result (string_bytes out.new ≡ string_bytes out.old ++ let_line line name.now class) }
+    ensures { OnOk result (string_bytes out.new ≡ string_bytes out.old
+        ++ let_line line name.now class) }
 {
     match line {
         Line::Local => {
@@ -54,7 +56,8 @@ fn print_let(out: &mut String, line: Line, name: &str, class: Class) -> Result<(
 }
 
 fn print_carried(out: &mut String, keyword: &str, name: &str, class: Class) -> Result<(), Want>
-    ensures { OnOk result (string_bytes out.new ≡ string_bytes out.old ++ carried_line keyword.now name.now class) }
+    ensures { OnOk result (string_bytes out.new ≡ string_bytes out.old
+        ++ carried_line keyword.now name.now class) }
 {
     match class {
         Class::Carried => {
@@ -67,7 +70,8 @@ fn print_carried(out: &mut String, keyword: &str, name: &str, class: Class) -> R
 }
 
 fn print_reduced(out: &mut String, keyword: &str, name: &str, class: Class) -> Result<(), Want>
-    ensures { OnOk result (string_bytes out.new ≡ string_bytes out.old ++ reduced_line keyword.now name.now class) }
+    ensures { OnOk result (string_bytes out.new ≡ string_bytes out.old
+        ++ reduced_line keyword.now name.now class) }
 {
     match class {
         Class::Reduced(op) => {

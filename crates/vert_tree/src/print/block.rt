@@ -15,7 +15,8 @@ pub(crate) fn print_dense(
     names: &[String],
     dense: &Dense,
 ) -> Result<(), AllocError>
-    ensures { OnOk result (string_bytes out.new ≡ string_bytes out.old ++ printed_dense (view_dense names.now dense.now)) }
+    ensures { OnOk result (string_bytes out.new ≡ string_bytes out.old
+        ++ printed_dense (view_dense names.now dense.now)) }
 {
     print_opening(out, names, "dense when ", &dense.when_test)?;
     print_declarations(out, names, "let ", &dense.lets)?;
@@ -25,7 +26,8 @@ pub(crate) fn print_dense(
 }
 
 fn print_loop(out: &mut String, names: &[String], body: &[Stmt]) -> Result<(), AllocError>
-    ensures { OnOk result (string_bytes out.new ≡ string_bytes out.old ++ printed_loop (view_block names.now body.now)) }
+    ensures { OnOk result (string_bytes out.new ≡ string_bytes out.old
+        ++ printed_loop (view_block names.now body.now)) }
 {
     out.push_str("for u {\n")?;
     print_block(out, names, body)?;
@@ -38,7 +40,8 @@ pub(crate) fn print_sparse(
     names: &[String],
     sparse: &Sparse,
 ) -> Result<(), AllocError>
-    ensures { OnOk result (string_bytes out.new ≡ string_bytes out.old ++ printed_sparse (view_sparse names.now sparse.now)) }
+    ensures { OnOk result (string_bytes out.new ≡ string_bytes out.old
+        ++ printed_sparse (view_sparse names.now sparse.now)) }
 {
     print_opening(out, names, "sparse when ", &sparse.when_test)?;
     print_declarations(out, names, "send ", &sparse.sends)?;
@@ -52,7 +55,8 @@ pub(crate) fn print_update(
     names: &[String],
     update: &[Stmt],
 ) -> Result<(), AllocError>
-    ensures { OnOk result (string_bytes out.new ≡ string_bytes out.old ++ printed_update (view_block names.now update.now)) }
+    ensures { OnOk result (string_bytes out.new ≡ string_bytes out.old
+        ++ printed_update (view_block names.now update.now)) }
 {
     out.push_str("update {\n")?;
     print_block(out, names, update)?;

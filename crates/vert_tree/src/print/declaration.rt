@@ -15,7 +15,9 @@ pub(crate) fn print_declarations(
     keyword: &str,
     declarations: &[Decl],
 ) -> Result<(), AllocError>
-    ensures { OnOk result (string_bytes out.new ≡ string_bytes out.old ++ flat_map (printed_declaration keyword.now) (map (view_declaration names.now) declarations.now)) }
+    ensures { OnOk result (string_bytes out.new ≡ string_bytes out.old
+        ++ flat_map (printed_declaration keyword.now)
+        (map (view_declaration names.now) declarations.now)) }
 {
     'lines: for declaration in declarations {
         print_declaration(out, names, keyword, declaration)?;
@@ -29,7 +31,8 @@ fn print_declaration(
     keyword: &str,
     declaration: &Decl,
 ) -> Result<(), AllocError>
-    ensures { OnOk result (string_bytes out.new ≡ string_bytes out.old ++ printed_declaration keyword.now (view_declaration names.now declaration.now)) }
+    ensures { OnOk result (string_bytes out.new ≡ string_bytes out.old
+        ++ printed_declaration keyword.now (view_declaration names.now declaration.now)) }
 {
     print_name(out, names, keyword, &declaration.name, " : ")?;
     out.push_str(type_word(declaration.kind))?;
@@ -42,7 +45,8 @@ pub(crate) fn print_slots(
     names: &[String],
     slots: &[SlotDecl],
 ) -> Result<(), AllocError>
-    ensures { OnOk result (string_bytes out.new ≡ string_bytes out.old ++ flat_map printed_slot (map (view_slot names.now) slots.now)) }
+    ensures { OnOk result (string_bytes out.new ≡ string_bytes out.old
+        ++ flat_map printed_slot (map (view_slot names.now) slots.now)) }
 {
     'lines: for slot in slots {
         print_slot(out, names, slot)?;
@@ -51,7 +55,8 @@ pub(crate) fn print_slots(
 }
 
 fn print_slot(out: &mut String, names: &[String], slot: &SlotDecl) -> Result<(), AllocError>
-    ensures { OnOk result (string_bytes out.new ≡ string_bytes out.old ++ printed_slot (view_slot names.now slot.now)) }
+    ensures { OnOk result (string_bytes out.new ≡ string_bytes out.old
+        ++ printed_slot (view_slot names.now slot.now)) }
 {
     print_name(out, names, "slot ", &slot.name, " : ")?;
     out.push_str(combine_word(slot.op))?;
@@ -64,7 +69,8 @@ pub(crate) fn print_totals(
     names: &[String],
     totals: &[TotalDecl],
 ) -> Result<(), AllocError>
-    ensures { OnOk result (string_bytes out.new ≡ string_bytes out.old ++ flat_map printed_total (map (view_total names.now) totals.now)) }
+    ensures { OnOk result (string_bytes out.new ≡ string_bytes out.old
+        ++ flat_map printed_total (map (view_total names.now) totals.now)) }
 {
     'lines: for total in totals {
         print_total(out, names, total)?;
@@ -73,7 +79,8 @@ pub(crate) fn print_totals(
 }
 
 fn print_total(out: &mut String, names: &[String], total: &TotalDecl) -> Result<(), AllocError>
-    ensures { OnOk result (string_bytes out.new ≡ string_bytes out.old ++ printed_total (view_total names.now total.now)) }
+    ensures { OnOk result (string_bytes out.new ≡ string_bytes out.old
+        ++ printed_total (view_total names.now total.now)) }
 {
     print_name(out, names, "total ", &total.name, " : ")?;
     out.push_str(combine_word(total.op))?;

@@ -10,7 +10,8 @@ use std::alloc::AllocError;
 // The tokens of an expression, each with a space behind it.
 #[cycle(expressions)]
 fn print_expression(out: &mut String, names: &[String], expression: &Expr) -> Result<(), AllocError>
-    ensures { OnOk result (string_bytes out.new ≡ string_bytes out.old ++ printed_tree (view names.now expression.now)) }
+    ensures { OnOk result (string_bytes out.new ≡ string_bytes out.old
+        ++ printed_tree (view names.now expression.now)) }
 {
     match &expression.node {
         Node::Int(value) => write!(out, "{value} "),
@@ -53,7 +54,8 @@ fn print_behind(
     front: &str,
     expression: &Expr,
 ) -> Result<(), AllocError>
-    ensures { OnOk result (string_bytes out.new ≡ string_bytes out.old ++ (front.now ++ printed_tree (view names.now expression.now))) }
+    ensures { OnOk result (string_bytes out.new ≡ string_bytes out.old
+        ++ (front.now ++ printed_tree (view names.now expression.now))) }
 {
     out.push_str(front)?;
     print_expression(out, names, expression)
@@ -66,7 +68,8 @@ pub(crate) fn print_opening(
     front: &str,
     test: &Expr,
 ) -> Result<(), AllocError>
-    ensures { OnOk result (string_bytes out.new ≡ string_bytes out.old ++ printed_opening front.now (view names.now test.now)) }
+    ensures { OnOk result (string_bytes out.new ≡ string_bytes out.old
+        ++ printed_opening front.now (view names.now test.now)) }
 {
     print_behind(out, names, front, test)?;
     out.push_str("{\n")
@@ -79,7 +82,8 @@ pub(crate) fn print_line(
     front: &str,
     expression: &Expr,
 ) -> Result<(), AllocError>
-    ensures { OnOk result (string_bytes out.new ≡ string_bytes out.old ++ printed_line front.now (view names.now expression.now)) }
+    ensures { OnOk result (string_bytes out.new ≡ string_bytes out.old
+        ++ printed_line front.now (view names.now expression.now)) }
 {
     print_behind(out, names, front, expression)?;
     out.push_str(";\n")
@@ -93,7 +97,8 @@ fn print_closed(
     front: &str,
     expression: &Expr,
 ) -> Result<(), AllocError>
-    ensures { OnOk result (string_bytes out.new ≡ string_bytes out.old ++ (front.now ++ (printed_tree (view names.now expression.now) ++ codes ") "))) }
+    ensures { OnOk result (string_bytes out.new ≡ string_bytes out.old
+        ++ (front.now ++ (printed_tree (view names.now expression.now) ++ codes ") "))) }
 {
     out.push_str(front)?;
     print_expression(out, names, expression)?;
@@ -108,7 +113,8 @@ pub(crate) fn print_name(
     name: &Ident,
     behind: &str,
 ) -> Result<(), AllocError>
-    ensures { OnOk result (string_bytes out.new ≡ string_bytes out.old ++ (front.now ++ (text_of names.now name.now.name ++ behind.now))) }
+    ensures { OnOk result (string_bytes out.new ≡ string_bytes out.old
+        ++ (front.now ++ (text_of names.now name.now.name ++ behind.now))) }
 {
     out.push_str(front)?;
     out.push_str(name_text(names, name))?;

@@ -15,7 +15,8 @@ pub(crate) fn print_block(
     names: &[String],
     statements: &[Stmt],
 ) -> Result<(), AllocError>
-    ensures { OnOk result (string_bytes out.new ≡ string_bytes out.old ++ printed_block (view_block names.now statements.now)) }
+    ensures { OnOk result (string_bytes out.new ≡ string_bytes out.old
+        ++ printed_block (view_block names.now statements.now)) }
 {
     'lines: for statement in statements {
         print_statement(out, names, statement)?;
@@ -25,7 +26,8 @@ pub(crate) fn print_block(
 
 #[cycle(statements)]
 fn print_statement(out: &mut String, names: &[String], statement: &Stmt) -> Result<(), AllocError>
-    ensures { OnOk result (string_bytes out.new ≡ string_bytes out.old ++ printed_statement (view_statement names.now statement.now)) }
+    ensures { OnOk result (string_bytes out.new ≡ string_bytes out.old
+        ++ printed_statement (view_statement names.now statement.now)) }
 {
     match statement {
         Stmt::Assign(target, op, value) => {

@@ -6,7 +6,8 @@ use Rattle.cluster_run.proofs.acts.send_all.Given as goal
 
 abbrev pub invariant-loop-out : goal.invariant-loop-out
 invariant-loop-out l = record {
-  rest : all_placed (map letter_of l.out.items) l.flight ≡ all_placed (map letter_of l.initial.out.items) l.initial.flight;
+  rest : all_placed (map letter_of l.out.items) l.flight
+      ≡ all_placed (map letter_of l.initial.out.items) l.initial.flight;
   can : CanSend (map letter_of l.out.items) l.flight;
 }
 

@@ -8,5 +8,9 @@ returns g c = record {
   reach = λ w e r can. steps_on g.S.Site.work g.S.Site.sound w e r can;
   nearer = λ w e r can. reached_nearer g.S.Site.work g.S.Site.sound g.met.S.Site.lawful w r e can;
   moves = λ w r on. reached_moves g.S.Site.work g.S.Site.sound g.met.S.Site.lawful w r on;
-  still = λ w r over. (reached_empty g.S.Site.work g.S.Site.sound g.met.S.Site.lawful w r over, λ e. reached_still g.S.Site.work g.S.Site.sound g.met.S.Site.lawful w r e over);
+  still = λ w r over. (
+    reached_empty g.S.Site.work g.S.Site.sound g.met.S.Site.lawful w r over,
+    λ e.
+        reached_still g.S.Site.work g.S.Site.sound g.met.S.Site.lawful w r e over,
+  );
 }

@@ -7,4 +7,5 @@ use Rattle.mirror_table.proofs.degrees.degree.Goals as goal
 pub returns : goal.returns
 returns c =
     degree_made c.args.table.now.vertices c.args.table.now.list c.args.v.0 c.indeg.result c.outdeg.result
-    (subst (λ (q : ℕ). AreBelow q c.args.table.now.list) c.vertices-within.ensures.value c.vertices-within.ensures.below) c.indeg.ensures.value c.outdeg.ensures.value
+    (subst (λ (q : ℕ). AreBelow q c.args.table.now.list) c.vertices-within.ensures.value
+    c.vertices-within.ensures.below) c.indeg.ensures.value c.outdeg.ensures.value

@@ -11,4 +11,5 @@ loop-v-preserved c =
     let v = c.loop-v.v in
     c.in_ok-push.ensures.items
     ∙ (ap (λ ys. ys ++ c.degree.result ∷ []) c.loop-v.invariant
-    ∙ (ap (λ d. map f (range_with_len 0 v) ++ d ∷ []) c.degree.ensures ∙ sym (map-range_with_len_more f 0 v v (omega arith))))
+    ∙ (ap (λ d. map f (range_with_len 0 v) ++ d ∷ []) c.degree.ensures
+    ∙ sym (map-range_with_len_more f 0 v v (omega arith))))

@@ -7,4 +7,5 @@ use Rattle.mirror_table.proofs.degrees.known.Given as goal
 
 abbrev pub invariant-loop-k : goal.invariant-loop-k
 invariant-loop-k l =
-    map (λ v. v.0) l.list.items ≡ flat_map (λ k. if k == l.m then chunk_vertices l.cuts k else slice_index_or (lists_of l.lists) k []) (range_with_len 0 l.k)
+    map (λ v. v.0) l.list.items ≡ flat_map (λ k. if k == l.m then chunk_vertices l.cuts k
+    else slice_index_or (lists_of l.lists) k []) (range_with_len 0 l.k)

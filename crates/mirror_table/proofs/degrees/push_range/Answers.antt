@@ -5,4 +5,5 @@ use Rattle.mirror_table.proofs.degrees.push_range.Goals as goal
 
 pub loop-v-preserved : goal.loop-v-preserved
 loop-v-preserved c =
-    counts_more (λ v. v.0) c.loop-v.v c.args.end _ c.loop-v.list.items c.push.new.self.items (record { 0 = c.loop-v.v }) c.loop-v-test.true c.loop-v.invariant c.in_ok-push.ensures.items refl
+    counts_more (λ v. v.0) c.loop-v.v c.args.end _ c.loop-v.list.items c.push.new.self.items
+    (record { 0 = c.loop-v.v }) c.loop-v-test.true c.loop-v.invariant c.in_ok-push.ensures.items refl

@@ -5,4 +5,5 @@ use Rattle.mirror_table.proofs.degrees.push_range.Given as goal
 
 abbrev pub invariant-loop-v : goal.invariant-loop-v
 invariant-loop-v l =
-    map (λ v. v.0) l.list.items ++ range_with_len l.v (l.end - l.v) ≡ map (λ v. v.0) l.fn.list.items ++ range_with_len l.start (l.end - l.start)
+    map (λ v. v.0) l.list.items ++ range_with_len l.v (l.end - l.v) ≡ map (λ v. v.0) l.fn.list.items
+    ++ range_with_len l.start (l.end - l.start)

@@ -6,4 +6,5 @@ use Rattle.mirror_table.proofs.DealLaws.{AreDealt}
 use Rattle.mirror_table.proofs.edges.dealt.Given as goal
 
 abbrev pub invariant-loop-edge : goal.invariant-loop-edge
-invariant-loop-edge l = AreDealt (λ m e. lies_in l.cuts m (key_of l.side e)) (length l.cuts) (take l.edge-index l.edges) (map (λ list. list.items) l.lists.items)
+invariant-loop-edge l = AreDealt (λ m e. lies_in l.cuts m (key_of l.side e)) (length l.cuts)
+    (take l.edge-index l.edges) (map (λ list. list.items) l.lists.items)

@@ -9,4 +9,5 @@ use Rattle.mirror_table.proofs.edges.empty_lists.Goals as goal
 pub loop-machine-preserved : goal.loop-machine-preserved
 loop-machine-preserved c =
     let none : ℕ → List Edge = λ _. [] in
-    map_push (λ (l : Vec Edge Global). l.items) none c.loop-machine._machine c.loop-machine.lists.items c.push.new.self.items c.new.result c.loop-machine.invariant c.in_ok-push.ensures.items c.new.ensures.items
+    map_push (λ (l : Vec Edge Global). l.items) none c.loop-machine._machine c.loop-machine.lists.items
+    c.push.new.self.items c.new.result c.loop-machine.invariant c.in_ok-push.ensures.items c.new.ensures.items

@@ -7,4 +7,5 @@ use Rattle.mirror_table.proofs.ShareLaws.{replaced}
 use Rattle.mirror_table.proofs.edges.taken.Goals as goal
 
 pub returns-clause-others : goal.returns-clause-others
-returns-clause-others c = replaced c.args.lists.now.items c.args.m c.replace.new.dest [] (ap (λ (l : Vec Edge Global). l.items) c.replace.ensures.after ∙ c.new.ensures.items)
+returns-clause-others c = replaced c.args.lists.now.items c.args.m c.replace.new.dest []
+    (ap (λ (l : Vec Edge Global). l.items) c.replace.ensures.after ∙ c.new.ensures.items)

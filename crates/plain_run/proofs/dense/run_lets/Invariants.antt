@@ -10,6 +10,9 @@ abbrev pub invariant-loop-decl : goal.invariant-loop-decl
 invariant-loop-decl l = record {
   value : with_lets (drop l.decl-index l.lets) l.env ≡ with_lets l.lets l.initial.env;
   names : lets_placed (counts_of l.env) (drop l.decl-index l.lets) ≡ true;
-  counts : counts_of l.env ≡ record (counts_of l.initial.env) { locals = length l.initial.env.locals.items + l.decl-index };
+  counts : counts_of l.env ≡ record (counts_of l.initial.env) {
+    locals = length l.initial.env.locals.items
+        + l.decl-index;
+  };
   same : SameDraws l.initial.env l.env;
 }

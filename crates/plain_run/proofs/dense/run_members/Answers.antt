@@ -10,7 +10,10 @@ use Rattle.plain_run.proofs.dense.run_members.Goals as goal
 
 pub visit-requires-clause-names : goal.visit-requires-clause-names
 visit-requires-clause-names c =
-    let names = c.requires.names in (names.0, ap (λ k. body_placed names.0 k c.args.body.now) c.loop-member.invariant.kept.counts ∙ names.1)
+    let names = c.requires.names in (
+      names.0,
+      ap (λ k. body_placed names.0 k c.args.body.now) c.loop-member.invariant.kept.counts ∙ names.1,
+    )
 
 pub returns-in-Broke-clause-reads : goal.returns-in-Broke-clause-reads
 returns-in-Broke-clause-reads c =
@@ -21,7 +24,8 @@ returns-in-Broke-clause-reads c =
     let m = get_or members l.member-index some_edge in
     let lt : l.member-index < length members = omega arith in
     let at = get_or_default members l.member-index some_edge m lt in
-    rw l.invariant.read (broken_reads scene body members l.member-index m l.env lt at (loop scene body members c.args.env.now).reads (sym c.in-Broke.is ∙ c.visit.ensures.flow) l.invariant.reads)
+    rw l.invariant.read (broken_reads scene body members l.member-index m l.env lt at
+    (loop scene body members c.args.env.now).reads (sym c.in-Broke.is ∙ c.visit.ensures.flow) l.invariant.reads)
 
 pub loop-member-preserved : goal.loop-member-preserved
 loop-member-preserved c =
@@ -33,11 +37,13 @@ loop-member-preserved c =
     let m = get_or members l.member-index some_edge in
     let lt : l.member-index < length members = omega arith in
     let at = get_or_default members l.member-index some_edge m lt in
-    let ends = turn_ends (member_act scene body) members l.member-index m l.env lt at c.visit.new.env l.emits.slots.items c.visit.new.emits.slots.items h.env (sym c.in-Going.is ∙ h.flow) h.emits h.kept.key in
+    let ends = turn_ends (member_act scene body) members l.member-index m l.env lt at c.visit.new.env
+    l.emits.slots.items c.visit.new.emits.slots.items h.env (sym c.in-Going.is ∙ h.flow) h.emits h.kept.key in
     record {
       ends = SameEnd-trans _ _ _ _ _ _ _ _ _ ends l.invariant.ends;
       read = ap (λ k. k + 1) l.invariant.read;
-      reads = turn_reads scene body members l.member-index m l.env lt at c.visit.new.env (loop scene body members c.args.env.now).reads h.env (sym c.in-Going.is ∙ h.flow) l.invariant.reads;
+      reads = turn_reads scene body members l.member-index m l.env lt at c.visit.new.env
+          (loop scene body members c.args.env.now).reads h.env (sym c.in-Going.is ∙ h.flow) l.invariant.reads;
       kept = SameFrame-trans _ _ _ l.invariant.kept h.kept;
       partials = h.partials ∙ l.invariant.partials;
     }

@@ -9,9 +9,11 @@ use Rattle.plain_run.proofs.dense.run_members.Given as goal
 abbrev pub invariant-loop-member : goal.invariant-loop-member
 invariant-loop-member l =
     let act = loop (scene_of l.scene) l.body in record {
-      ends : SameEnd l.env.key l.emits.slots.items (act (drop l.member-index l.members) l.env) l.initial.env.key l.initial.emits.slots.items (act l.members l.initial.env);
+      ends : SameEnd l.env.key l.emits.slots.items (act (drop l.member-index l.members) l.env) l.initial.env.key
+          l.initial.emits.slots.items (act l.members l.initial.env);
       read : l.read ≡ l.member-index;
-      reads : map source (take l.member-index l.members) ++ (act (drop l.member-index l.members) l.env).reads ≡ (act l.members l.initial.env).reads;
+      reads : map source (take l.member-index l.members) ++ (act (drop l.member-index l.members) l.env).reads
+          ≡ (act l.members l.initial.env).reads;
       kept : SameFrame l.initial.env l.env;
       partials : length l.emits.slots.items ≡ length l.initial.emits.slots.items;
     }

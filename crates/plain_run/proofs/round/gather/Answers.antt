@@ -9,12 +9,14 @@ use Rattle.plain_run.proofs.round.gather.Goals as goal
 
 pub clear_emits-requires : goal.clear_emits-requires
 clear_emits-requires c =
-    let few : length (program_of c.args.scene.now).slots.items ≤ 8 = few_slots (program_of c.args.scene.now) c.args.scene.now.program.now.typed in
+    let few : length (program_of c.args.scene.now).slots.items ≤ 8 =
+    few_slots (program_of c.args.scene.now) c.args.scene.now.program.now.typed in
     rw c.deref.ensures.value few
 
 pub emit_at-requires-clause-partials : goal.emit_at-requires-clause-partials
 emit_at-requires-clause-partials c =
-    ap length (c.clear_emits.ensures ∙ ap (λ l. map empty_partial (map (λ s. s.op) l)) c.deref.ensures.value) ∙ length_empty (program_of c.args.scene.now).slots.items
+    ap length (c.clear_emits.ensures ∙ ap (λ l. map empty_partial (map (λ s. s.op) l)) c.deref.ensures.value)
+    ∙ length_empty (program_of c.args.scene.now).slots.items
 
 pub returns-clause-values : goal.returns-clause-values
 returns-clause-values c =

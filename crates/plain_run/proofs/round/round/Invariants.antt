@@ -14,6 +14,7 @@ invariant-loop-v l =
       rows : l.rows.items ≡ map (row_after program l.ruling scene) (range_with_len 0 l.v);
       read : l.read ≡ read_in (map (λ v. (gathered program l.ruling scene v).reads) (range_with_len 0 l.v));
       few : l.read ≤ l.v * 8388608;
-      reads : id_lists_of l.reads ≡ kept_reads l.kept (map (λ v. (gathered program l.ruling scene v).reads) (range_with_len 0 l.v));
+      reads : id_lists_of l.reads ≡ kept_reads l.kept
+          (map (λ v. (gathered program l.ruling scene v).reads) (range_with_len 0 l.v));
       wide : AreWide (length program.fields.items) l.rows.items;
     }

@@ -19,6 +19,7 @@ returns c =
     let more = c.args.read - length m.first.now in
     let whole : length m.first.now + more ≡ c.args.read = omega (arith, c.if-read-first.false) in
     c.in_ok-push_sources-3.ensures
-    ∙ (ap (λ us. us ++ map source (take more m.rest.now)) (c.in_ok-push_sources-2.ensures ∙ ap (λ us. us ++ map source m.first.now) (ap ids_of c.in_ok-ids.ensures.items))
+    ∙ (ap (λ us. us ++ map source (take more m.rest.now)) (c.in_ok-push_sources-2.ensures
+    ∙ ap (λ us. us ++ map source m.first.now) (ap ids_of c.in_ok-ids.ensures.items))
     ∙ (taken_both more m.first.now m.rest.now
     ∙ ap (λ n. map source (take n (members_in m))) whole))

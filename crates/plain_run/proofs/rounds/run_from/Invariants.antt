@@ -8,6 +8,8 @@ use Rattle.plain_run.proofs.rounds.run_from.Given as goal
 -- the rounds that are left end as the whole run does
 abbrev pub invariant-loop-number : goal.invariant-loop-number
 invariant-loop-number l = record {
-  left : IsLeft l.job.kept (map told_of l.rounds.items) (rounds_from (l.job.program.now.program.limit + 1 - l.number) (job_of l.job) l.number (standing_of l.standing)) (resumed_run (job_of l.job) 1 (standing_of l.fn.first));
+  left : IsLeft l.job.kept (map told_of l.rounds.items)
+      (rounds_from (l.job.program.now.program.limit + 1 - l.number) (job_of l.job) l.number (standing_of l.standing))
+      (resumed_run (job_of l.job) 1 (standing_of l.fn.first));
   stands : IsStanding l.job l.standing;
 }

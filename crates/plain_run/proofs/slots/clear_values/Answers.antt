@@ -5,4 +5,5 @@ use Rattle.plain_run.proofs.slots.clear_values.Goals as goal
 pub loop-slot-preserved : goal.loop-slot-preserved
 loop-slot-preserved c =
     let l = c.loop-slot in
-    none_more c.args.slots.now l._slot-index l.values.items c.push.new.self.items (omega arith) l.invariant c.push.ensures.items
+    none_more c.args.slots.now l._slot-index l.values.items c.push.new.self.items (omega arith) l.invariant
+    c.push.ensures.items

@@ -13,7 +13,8 @@ use Rattle.plain_run.proofs.sparse.receive.Goals as goal
 
 pub put_sends-requires-clause-names : goal.put_sends-requires-clause-names
 put_sends-requires-clause-names c =
-    ap (λ k. list_all (λ d. expr_placed k d.value) c.args.sparse.now.sends.items) c.requires.counts ∙ (sparse_parts (counts_in c.args.scene.now) c.args.sparse.now c.requires.placed).sends
+    ap (λ k. list_all (λ d. expr_placed k d.value) c.args.sparse.now.sends.items) c.requires.counts
+    ∙ (sparse_parts (counts_in c.args.scene.now) c.args.sparse.now c.requires.placed).sends
 
 pub run_body-requires-clause-names : goal.run_body-requires-clause-names
 run_body-requires-clause-names c =
@@ -25,14 +26,19 @@ run_body-requires-clause-names c =
     let lt : u < length scene.rows.now = omega arith in
     let width = length (row_at scene.rows.now u).words.items in
     let put : Counts → Counts = λ k. record k { other_fields = width; sends = length words.items } in
-    let many = ap length c.put_sends.ensures ∙ length-map sparse.sends.items (λ d. value_of d.value c.args.sender.now) in
-    let now : counts_of (record c.enter_member.new.env { sends = words }) ≡ record counts { sends = length sparse.sends.items } =
+    let many = ap length c.put_sends.ensures ∙ length-map sparse.sends.items (λ d. value_of d.value c.args.sender.now)
+    in
+    let now : counts_of (record c.enter_member.new.env { sends = words })
+    ≡ record counts { sends = length sparse.sends.items } =
     ap (λ e. record (counts_of e) { sends = length words.items }) c.enter_member.ensures
     ∙ ap put c.enter_bare.ensures.counts
     ∙ ap (λ n. record counts { other_fields = n; sends = length words.items }) (c.requires.ready.wide u empty_row lt)
     ∙ ap (λ n. record counts { sends = n }) many in
-    let parts = sparse_parts counts sparse c.requires.placed in
-    (sparse_rights, ap (body_placed sparse_rights (counts_of (record c.enter_member.new.env { sends = words }))) c.deref.ensures.value ∙ ap (λ k. body_placed sparse_rights k sparse.body.items) now ∙ parts.body)
+    let parts = sparse_parts counts sparse c.requires.placed in (
+      sparse_rights,
+      ap (body_placed sparse_rights (counts_of (record c.enter_member.new.env { sends = words })))
+          c.deref.ensures.value ∙ ap (λ k. body_placed sparse_rights k sparse.body.items) now ∙ parts.body,
+    )
 
 pub returns-clause-emits : goal.returns-clause-emits
 returns-clause-emits c =
@@ -45,7 +51,8 @@ returns-clause-emits c =
     let env : Env = record c.enter_member.new.env { sends = words } in
     let over : List ℤ → Env = λ ws. record (at_member scene member receiver) { sends = record { items = ws } } in
     let same : env ≡ over (sent_by sparse c.args.sender.now) =
-    ap (λ e. let made : Env = record e { sends = words } in made) (c.enter_member.ensures ∙ ap (at_member scene member) c.enter_bare.ensures.env) ∙ ap over c.put_sends.ensures in
+    ap (λ e. let made : Env = record e { sends = words } in made) (c.enter_member.ensures
+    ∙ ap (at_member scene member) c.enter_bare.ensures.env) ∙ ap over c.put_sends.ensures in
     c.run_body.ensures.emits
     ∙ ap (λ b. with_emissions env.key old (run b env).emitted) c.deref.ensures.value
     ∙ ap (λ e. with_emissions e.key old (run sparse.body.items e).emitted) same

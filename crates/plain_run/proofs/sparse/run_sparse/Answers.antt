@@ -18,5 +18,6 @@ returns-clause-emits c =
     let ops = slot_ops (program_of c.args.scene.now) in
     let f = emitted_over scene ops c.args.sparse.now (sender_at scene ops c.args.v) in
     let m = c.members_of-members.result in
-    piece_partials f m.first.now m.rest.now c.args.emits.now.slots.items c.take_all.new.emits.slots.items c.take_all-2.new.emits.slots.items c.take_all.ensures.emits c.take_all-2.ensures.emits
+    piece_partials f m.first.now m.rest.now c.args.emits.now.slots.items c.take_all.new.emits.slots.items
+    c.take_all-2.new.emits.slots.items c.take_all.ensures.emits c.take_all-2.ensures.emits
     ∙ ap (λ es. with_emissions 0 c.args.emits.now.slots.items (flat_map f es)) c.members_of-members.ensures.members

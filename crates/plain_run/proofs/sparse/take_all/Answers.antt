@@ -16,6 +16,8 @@ loop-member-preserved c =
     let m = get_or members l.member-index some_edge in
     let lt : l.member-index < length members = omega arith in
     record {
-      emits = emitted_more (emitted_over scene ops c.args.sparse.now (sender_at scene ops c.args.v)) members l.member-index m c.args.emits.now.slots.items l.emits.slots.items c.take_from.new.emits.slots.items lt (get_or_default members l.member-index some_edge m lt) l.invariant.emits h.emits;
+      emits = emitted_more (emitted_over scene ops c.args.sparse.now (sender_at scene ops c.args.v)) members
+          l.member-index m c.args.emits.now.slots.items l.emits.slots.items c.take_from.new.emits.slots.items lt
+          (get_or_default members l.member-index some_edge m lt) l.invariant.emits h.emits;
       partials = h.partials ∙ l.invariant.partials;
     }

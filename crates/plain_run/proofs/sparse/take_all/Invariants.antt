@@ -10,6 +10,7 @@ invariant-loop-member l =
     let scene = scene_of l.scene in
     let ops = slot_ops (program_of l.scene) in
     record {
-      emits : l.emits.slots.items ≡ with_emissions 0 l.initial.emits.slots.items (flat_map (emitted_over scene ops l.sparse (sender_at scene ops l.v)) (take l.member-index l.members));
+      emits : l.emits.slots.items ≡ with_emissions 0 l.initial.emits.slots.items
+          (flat_map (emitted_over scene ops l.sparse (sender_at scene ops l.v)) (take l.member-index l.members));
       partials : length l.emits.slots.items ≡ length l.initial.emits.slots.items;
     }

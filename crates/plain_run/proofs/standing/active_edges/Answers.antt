@@ -14,7 +14,16 @@ overflow_add-edges c =
     let row = get_or rows v c.index-rows-v.result in
     let at = get_or_default rows v c.index-rows-v.result empty_row lt in
     let on = active_sum-on g rows v row at c.if-rows-v.true in
-    omega (arith, c.loop-v.invariant, on, active_sum-le g rows (v + 1), c.from-edges.ensures, c.outdegree.ensures, c.edges-edges.ensures.value, c.edges-edges.ensures.within)
+    omega (
+      arith,
+      c.loop-v.invariant,
+      on,
+      active_sum-le g rows (v + 1),
+      c.from-edges.ensures,
+      c.outdegree.ensures,
+      c.edges-edges.ensures.value,
+      c.edges-edges.ensures.within,
+    )
 
 pub loop-v-preserved : goal.loop-v-preserved
 loop-v-preserved c =
@@ -25,7 +34,14 @@ loop-v-preserved c =
     let row = get_or rows v c.index-rows-v.result in
     let at = get_or_default rows v c.index-rows-v.result empty_row lt in
     elim c.if-rows-v.branch [
-      | then-rows-v w ↦ omega (arith, w.edges-is, c.loop-v.invariant, active_sum-on g rows v row at w.if-rows-v.true, w.from-edges.ensures, w.outdegree.ensures)
+      | then-rows-v w ↦ omega (
+        arith,
+        w.edges-is,
+        c.loop-v.invariant,
+        active_sum-on g rows v row at w.if-rows-v.true,
+        w.from-edges.ensures,
+        w.outdegree.ensures,
+      )
       | else-rows-v w ↦ omega (arith, w.edges-is, c.loop-v.invariant, active_sum-off g rows v row at w.if-rows-v.false)
     ]
 

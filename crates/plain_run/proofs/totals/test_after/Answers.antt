@@ -13,4 +13,5 @@ enter_vertex-requires-clause-totals c =
 pub holds-requires-clause-names : goal.holds-requires-clause-names
 holds-requires-clause-names c =
     let j = job_of c.args.job.now in
-    ap (λ k. expr_placed k c.args.test.now) (ap counts_of c.enter_vertex.ensures.env ∙ stop_counts_are j c.args.round c.args.totals.now c.requires.totals) ∙ c.requires.names
+    ap (λ k. expr_placed k c.args.test.now) (ap counts_of c.enter_vertex.ensures.env
+    ∙ stop_counts_are j c.args.round c.args.totals.now c.requires.totals) ∙ c.requires.names

@@ -21,4 +21,5 @@ returns c =
     let s = scene_of (job_of c.args.job.now) c.args.round c.args.rows.now [] in
     let t = c.args.total.now in
     let whole : c.loop-v.v ≡ c.args.job.now.graph.now.vertices = omega arith in
-    c.loop-v.invariant ∙ ap (λ n. fold (combined_of t.op) (neutral t.op) (map (λ v. value_of t.value (env_at s v [])) (range_with_len 0 n))) whole
+    c.loop-v.invariant ∙ ap (λ n. fold (combined_of t.op) (neutral t.op)
+    (map (λ v. value_of t.value (env_at s v [])) (range_with_len 0 n))) whole

@@ -9,4 +9,6 @@ use Rattle.plain_run.proofs.totals.total_after.Given as goal
 
 abbrev pub invariant-loop-v : goal.invariant-loop-v
 invariant-loop-v l =
-    l.word ≡ fold (combined_of l.total.op) (neutral l.total.op) (map (λ v. value_of l.total.value (env_at (scene_of (job_of l.job) l.fn.round l.fn.rows []) v [])) (range_with_len 0 l.v))
+    l.word ≡ fold (combined_of l.total.op) (neutral l.total.op)
+    (map (λ v. value_of l.total.value (env_at (scene_of (job_of l.job) l.fn.round l.fn.rows []) v []))
+    (range_with_len 0 l.v))

@@ -9,6 +9,8 @@ pub loop-total-preserved : goal.loop-total-preserved
 loop-total-preserved c =
     let here = to_z-of_z w64 c.total_after.result (search rules) ∙ c.total_after.ensures in
     record {
-      words = mapped_more (total_after (job_of c.args.job.now) c.args.round c.args.rows.now) c.args.totals.now c.loop-total.total-index c.total-item.result c.loop-total.words.items c.push.new.self.items _ c.loop-total-test.true c.total-item.is c.loop-total.invariant.words here c.push.ensures.items;
+      words = mapped_more (total_after (job_of c.args.job.now) c.args.round c.args.rows.now) c.args.totals.now
+          c.loop-total.total-index c.total-item.result c.loop-total.words.items c.push.new.self.items _
+          c.loop-total-test.true c.total-item.is c.loop-total.invariant.words here c.push.ensures.items;
       len = omega (arith, c.push.ensures.len, c.loop-total.invariant.len);
     }

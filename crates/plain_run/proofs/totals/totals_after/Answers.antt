@@ -6,9 +6,14 @@ use Rattle.plain_run.proofs.totals.totals_after.Goals as goal
 
 pub total_words-requires-clause-room : goal.total_words-requires-clause-room
 total_words-requires-clause-room c =
-    omega (arith, few_totals c.args.job.now.program.now.program c.args.job.now.program.now.typed, ap length c.deref.ensures.value)
+    omega (
+      arith,
+      few_totals c.args.job.now.program.now.program c.args.job.now.program.now.typed,
+      ap length c.deref.ensures.value,
+    )
 
 pub total_words-requires-clause-names : goal.total_words-requires-clause-names
 total_words-requires-clause-names c =
     let p = c.args.job.now.program.now.program in
-    ap (list_all (λ t. expr_placed (row_counts p) t.value)) c.deref.ensures.value ∙ totals_placed p c.args.job.now.program.now.typed
+    ap (list_all (λ t. expr_placed (row_counts p) t.value)) c.deref.ensures.value
+    ∙ totals_placed p c.args.job.now.program.now.typed

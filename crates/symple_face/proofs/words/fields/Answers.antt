@@ -5,4 +5,8 @@ use Rattle.symple_face.proofs.words.fields.Goals as goal
 
 pub returns-clause-few : goal.returns-clause-few
 returns-clause-few c =
-    omega (arith, ap length c.deref.ensures.value, few_fields c.args.split.now.program.program c.args.split.now.program.typed)
+    omega (
+      arith,
+      ap length c.deref.ensures.value,
+      few_fields c.args.split.now.program.program c.args.split.now.program.typed,
+    )

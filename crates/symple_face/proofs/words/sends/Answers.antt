@@ -6,4 +6,9 @@ use Rattle.symple_face.proofs.words.sends.Goals as goal
 
 pub returns-in-Some-clause-few : goal.returns-in-Some-clause-few
 returns-in-Some-clause-few c =
-    omega (arith, ap length c.deref.ensures.value, ap (λ s. length (sends_in s)) c.in-Some.is, few_sends c.args.split.now.program.program c.args.split.now.program.typed)
+    omega (
+      arith,
+      ap length c.deref.ensures.value,
+      ap (λ s. length (sends_in s)) c.in-Some.is,
+      few_sends c.args.split.now.program.program c.args.split.now.program.typed,
+    )

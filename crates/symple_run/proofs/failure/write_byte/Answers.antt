@@ -6,5 +6,6 @@ use Rattle.symple_run.proofs.failure.write_byte.Goals as goal
 pub returns : goal.returns
 returns g c =
     writes_same
-    (same_pair (codes "symple: graph: E") (codes " at byte ") _ _ _ _ (c.as_bytes.ensures.value ∙ c.format.ensures.text) (c.as_bytes-2.ensures.value ∙ c.format-2.ensures.text))
+    (same_pair (codes "symple: graph: E") (codes " at byte ") _ _ _ _ (c.as_bytes.ensures.value
+    ∙ c.format.ensures.text) (c.as_bytes-2.ensures.value ∙ c.format-2.ensures.text))
     c.put_pieces.ensures

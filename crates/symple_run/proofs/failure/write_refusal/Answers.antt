@@ -6,5 +6,7 @@ use Rattle.symple_run.proofs.failure.write_refusal.Goals as goal
 pub returns : goal.returns
 returns g c =
     writes_same
-    (same_place (codes "symple: program: ") (codes " at ") (codes ":") _ _ _ _ _ _ _ _ c.letter.ensures (c.as_bytes.ensures.value ∙ c.format.ensures.text) (c.as_bytes-2.ensures.value ∙ c.format-2.ensures.text) (c.as_bytes-3.ensures.value ∙ c.format-3.ensures.text))
+    (same_place (codes "symple: program: ") (codes " at ") (codes ":") _ _ _ _ _ _ _ _ c.letter.ensures
+    (c.as_bytes.ensures.value ∙ c.format.ensures.text) (c.as_bytes-2.ensures.value ∙ c.format-2.ensures.text)
+    (c.as_bytes-3.ensures.value ∙ c.format-3.ensures.text))
     c.put_pieces.ensures

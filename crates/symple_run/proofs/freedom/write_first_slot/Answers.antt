@@ -7,4 +7,5 @@ use Rattle.symple_run.proofs.freedom.write_first_slot.Goals as goal
 pub returns : goal.returns
 returns g c =
     let program = c.args.program.now in
-    writes_same (same_name (codes "not free: first slot ") c.name_of_slot.result.now (slot_name program (slice_get program.slots.items c.args.slot)) c.name_of_slot.ensures) c.put_pieces.ensures
+    writes_same (same_name (codes "not free: first slot ") c.name_of_slot.result.now
+    (slot_name program (slice_get program.slots.items c.args.slot)) c.name_of_slot.ensures) c.put_pieces.ensures

@@ -7,4 +7,5 @@ use Rattle.symple_run.proofs.plan.write_machines.Given as goal
 -- the lines of the machines so far are written
 abbrev pub invariant-machines : goal.invariant-machines
 invariant-machines g l =
-    Writes g.O.Sink.held g.O.Sink.faults g.O.Sink.spare l.fn.out l.out (flat_map (step_text l.machines l.step) (take l.machine (range_with_len 0 l.machines))) (Ok tt)
+    Writes g.O.Sink.held g.O.Sink.faults g.O.Sink.spare l.fn.out l.out
+    (flat_map (step_text l.machines l.step) (take l.machine (range_with_len 0 l.machines))) (Ok tt)

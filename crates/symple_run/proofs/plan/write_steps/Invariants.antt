@@ -7,4 +7,5 @@ use Rattle.symple_run.proofs.plan.write_steps.Given as goal
 -- the lines of the steps so far are written
 abbrev pub invariant-steps : goal.invariant-steps
 invariant-steps g l =
-    Writes g.O.Sink.held g.O.Sink.faults g.O.Sink.spare l.fn.out l.out (flat_map (machines_text l.machines) (take l.step (range_with_len 0 l.machines))) (Ok tt)
+    Writes g.O.Sink.held g.O.Sink.faults g.O.Sink.spare l.fn.out l.out
+    (flat_map (machines_text l.machines) (take l.step (range_with_len 0 l.machines))) (Ok tt)

@@ -13,19 +13,22 @@ returns-in-Err-TooLong-clause-program g c =
     let old = shelf_state g.H.Shelf.files g.H.Shelf.loads g.H.Shelf.stores c.args.shelf.now in
     let new = shelf_state g.H.Shelf.files g.H.Shelf.loads g.H.Shelf.stores c.load.new.self in
     let is = c.in-Err-TooLong.is ∙ ap Err c.in-Err-TooLong.field-0-is in
-    NoText (is_long old new c.load.ensures.same_files c.load.ensures.same_stores c.args.name.now 65536 too_long_program c.load.result c.load.ensures.counted is (c.load.ensures.too_long is))
+    NoText (is_long old new c.load.ensures.same_files c.load.ensures.same_stores c.args.name.now 65536
+    too_long_program c.load.result c.load.ensures.counted is (c.load.ensures.too_long is))
 
 pub returns-in-Err-Want-clause-program : goal.returns-in-Err-Want-clause-program
 returns-in-Err-Want-clause-program g c =
     let old = shelf_state g.H.Shelf.files g.H.Shelf.loads g.H.Shelf.stores c.args.shelf.now in
     let new = shelf_state g.H.Shelf.files g.H.Shelf.loads g.H.Shelf.stores c.load.new.self in
-    WantsForText (wanted_same old new c.load.ensures.same_files c.load.ensures.same_stores c.load.result c.load.ensures.counted (c.in-Err-Want.is ∙ ap Err c.in-Err-Want.field-0-is)) refl
+    WantsForText (wanted_same old new c.load.ensures.same_files c.load.ensures.same_stores c.load.result
+    c.load.ensures.counted (c.in-Err-Want.is ∙ ap Err c.in-Err-Want.field-0-is)) refl
 
 pub returns-in-Err-Failed-clause-program : goal.returns-in-Err-Failed-clause-program
 returns-in-Err-Failed-clause-program g c =
     let old = shelf_state g.H.Shelf.files g.H.Shelf.loads g.H.Shelf.stores c.args.shelf.now in
     let new = shelf_state g.H.Shelf.files g.H.Shelf.loads g.H.Shelf.stores c.load.new.self in
-    NoText (has_failed old new c.load.ensures.same_files c.load.ensures.same_stores c.args.name.now 65536 too_long_program _ c.in_ok-unread.ensures.ok
+    NoText (has_failed old new c.load.ensures.same_files c.load.ensures.same_stores c.args.name.now 65536
+    too_long_program _ c.in_ok-unread.ensures.ok
     (c.load.ensures.failed (c.in-Err-Failed.is ∙ ap Err c.in-Err-Failed.field-0-is)))
 
 pub returns-in-Err-Missing-clause-program : goal.returns-in-Err-Missing-clause-program
@@ -33,7 +36,8 @@ returns-in-Err-Missing-clause-program g c =
     let old = shelf_state g.H.Shelf.files g.H.Shelf.loads g.H.Shelf.stores c.args.shelf.now in
     let new = shelf_state g.H.Shelf.files g.H.Shelf.loads g.H.Shelf.stores c.load.new.self in
     let is = c.in-Err-Missing.is ∙ ap Err c.in-Err-Missing.field-0-is in
-    NoText (is_missing old new c.load.ensures.same_files c.load.ensures.same_stores c.args.name.now 65536 too_long_program _ c.in_ok-unread.ensures.ok
+    NoText (is_missing old new c.load.ensures.same_files c.load.ensures.same_stores c.args.name.now 65536
+    too_long_program _ c.in_ok-unread.ensures.ok
     (c.load.ensures.missing is) (c.load.ensures.untold_missing is))
 
 pub returns-in-Ok-read_program-clause-program : goal.returns-in-Ok-read_program-clause-program
@@ -46,7 +50,8 @@ returns-in-Ok-read_program-clause-program g c =
       under = bytes_under (g.H.Shelf.files c.args.shelf.now) c.args.name.now c.in-Ok.text.items c.in-Ok.ensures.bytes;
       within = within_items c.in-Ok.text 65536 c.in-Ok.ensures.within;
       says = subst P c.deref.ensures.value c.in-Ok-read_program.ensures;
-      same = loaded_same old new c.load.ensures.same_files c.load.ensures.same_stores c.load.result c.load.ensures.counted c.in-Ok.text c.in-Ok.is;
+      same = loaded_same old new c.load.ensures.same_files c.load.ensures.same_stores c.load.result
+          c.load.ensures.counted c.in-Ok.text c.in-Ok.is;
     }
 
 pub returns-in-Err-Refused-clause-program : goal.returns-in-Err-Refused-clause-program
@@ -55,12 +60,16 @@ returns-in-Err-Refused-clause-program g c =
     let new = shelf_state g.H.Shelf.files g.H.Shelf.loads g.H.Shelf.stores c.load.new.self in
     let P : List ℕ → Type 0 = λ text. ReadsProgram text (Err (Refused c.in-Err-Refused.refusal)) in
     let Q : ProgramFault → Type 0 = λ fault. ReadsProgram c.deref.result.now (Err fault) in
-    BadText c.in-Ok.text.items (bytes_under (g.H.Shelf.files c.args.shelf.now) c.args.name.now c.in-Ok.text.items c.in-Ok.ensures.bytes) (within_items c.in-Ok.text 65536 c.in-Ok.ensures.within)
-    c.in-Err-Refused.refusal (subst P c.deref.ensures.value (subst Q c.in-Err-Refused.field-0-is c.in-Err-Refused.ensures))
-    (loaded_same old new c.load.ensures.same_files c.load.ensures.same_stores c.load.result c.load.ensures.counted c.in-Ok.text c.in-Ok.is) refl
+    BadText c.in-Ok.text.items (bytes_under (g.H.Shelf.files c.args.shelf.now) c.args.name.now c.in-Ok.text.items
+    c.in-Ok.ensures.bytes) (within_items c.in-Ok.text 65536 c.in-Ok.ensures.within)
+    c.in-Err-Refused.refusal (subst P c.deref.ensures.value
+    (subst Q c.in-Err-Refused.field-0-is c.in-Err-Refused.ensures))
+    (loaded_same old new c.load.ensures.same_files c.load.ensures.same_stores c.load.result c.load.ensures.counted
+    c.in-Ok.text c.in-Ok.is) refl
 
 pub returns-clause-program : goal.returns-clause-program
 returns-clause-program g c =
     let old = shelf_state g.H.Shelf.files g.H.Shelf.loads g.H.Shelf.stores c.args.shelf.now in
     let new = shelf_state g.H.Shelf.files g.H.Shelf.loads g.H.Shelf.stores c.load.new.self in
-    WantsForText (loaded_same old new c.load.ensures.same_files c.load.ensures.same_stores c.load.result c.load.ensures.counted c.in-Ok.text c.in-Ok.is) refl
+    WantsForText (loaded_same old new c.load.ensures.same_files c.load.ensures.same_stores c.load.result
+    c.load.ensures.counted c.in-Ok.text c.in-Ok.is) refl

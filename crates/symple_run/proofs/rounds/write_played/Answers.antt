@@ -11,4 +11,5 @@ returns g c = writes_then _ c.in_ok-write_report.ensures c.write_sources.ensures
 pub returns-in_err-write_report : goal.returns-in_err-write_report
 returns-in_err-write_report g c =
     let played = c.args.played.now in
-    writes_failed (if c.args.lines.now.reads then read_lines played.round 0 (id_lists_of played.reads) else []) c.from_residual.result c.from_residual.ensures.0 c.in_err-write_report.ensures
+    writes_failed (if c.args.lines.now.reads then read_lines played.round 0 (id_lists_of played.reads) else [])
+    c.from_residual.result c.from_residual.ensures.0 c.in_err-write_report.ensures

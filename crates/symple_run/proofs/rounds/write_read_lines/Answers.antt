@@ -14,8 +14,10 @@ returns-in_err-write_read_line g c =
     let v = c.vertices.v in
     let line : List VertexId → List ℕ = λ sources. read_line round v (ids_of sources) in
     writes_same
-    (numbered_split (reads_numbered round) helds v c.index-reads-v.result (line c.deref.result.now) (omega arith) (ap line c.deref.ensures.value ∙ ap (held_line round v) c.index-reads-v.is))
-    (writes_failed (held_lines round (v + 1) (drop (v + 1) helds)) c.from_residual.result c.from_residual.ensures.0 (writes_then _ c.vertices.invariant c.in_err-write_read_line.ensures))
+    (numbered_split (reads_numbered round) helds v c.index-reads-v.result (line c.deref.result.now) (omega arith)
+    (ap line c.deref.ensures.value ∙ ap (held_line round v) c.index-reads-v.is))
+    (writes_failed (held_lines round (v + 1) (drop (v + 1) helds)) c.from_residual.result c.from_residual.ensures.0
+    (writes_then _ c.vertices.invariant c.in_err-write_read_line.ensures))
 
 pub vertices-preserved : goal.vertices-preserved
 vertices-preserved g c =
@@ -24,5 +26,6 @@ vertices-preserved g c =
     let v = c.vertices.v in
     let line : List VertexId → List ℕ = λ sources. read_line round v (ids_of sources) in
     writes_same
-    (numbered_more (reads_numbered round) helds v c.index-reads-v.result (line c.deref.result.now) (omega arith) (ap line c.deref.ensures.value ∙ ap (held_line round v) c.index-reads-v.is))
+    (numbered_more (reads_numbered round) helds v c.index-reads-v.result (line c.deref.result.now) (omega arith)
+    (ap line c.deref.ensures.value ∙ ap (held_line round v) c.index-reads-v.is))
     (writes_then _ c.vertices.invariant c.in_ok-write_read_line.ensures)

@@ -5,7 +5,8 @@ use Rattle.symple_run.specs.Walks.{HandsOn}
 use Rattle.symple_run.proofs.show.put_shown.Goals as goal
 
 pub returns-in_err-text : goal.returns-in_err-text
-returns-in_err-text g c = let p = err_from_is_err_and c.from_residual.result c.from_residual.ensures.1 in rw (p.1, p.2) refl
+returns-in_err-text g c = let p = err_from_is_err_and c.from_residual.result c.from_residual.ensures.1 in
+    rw (p.1, p.2) refl
 
 pub returns-in_err-put_text : goal.returns-in_err-put_text
 returns-in_err-put_text g c =

@@ -6,4 +6,5 @@ pub returns : goal.returns
 returns g c = writes_then _ c.in_ok-write_header.ensures c.write_rows.ensures
 
 pub returns-in_err-write_header : goal.returns-in_err-write_header
-returns-in_err-write_header g c = writes_failed (rows_text c.args.split.now.program.program 0 c.args.rows.now) c.from_residual.result c.from_residual.ensures.0 c.in_err-write_header.ensures
+returns-in_err-write_header g c = writes_failed (rows_text c.args.split.now.program.program 0 c.args.rows.now)
+    c.from_residual.result c.from_residual.ensures.0 c.in_err-write_header.ensures

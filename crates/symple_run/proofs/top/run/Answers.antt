@@ -16,18 +16,22 @@ use Rattle.symple_run.proofs.top.run.Goals as goal
 pub returns-in_err-typed-clause-order : goal.returns-in_err-typed-clause-order
 returns-in_err-typed-clause-order g c =
     let job = job_view c.args.job.now in
-    let next : Program → Order = λ program. with_graph job.form job.graph (λ graph. Runs (play_of job c.args.machines program graph) follows) in
+    let next : Program → Order = λ program.
+    with_graph job.form job.graph (λ graph. Runs (play_of job c.args.machines program graph) follows) in
     let P : List ℕ → Type 0 = λ name.
     GivesProgram (shelf_state g.H.Shelf.files g.H.Shelf.loads g.H.Shelf.stores c.args.shelf.now)
-    (shelf_state g.H.Shelf.files g.H.Shelf.loads g.H.Shelf.stores c.load_program.new.shelf) name (Err c.in_err-typed.field-0.0) in
+    (shelf_state g.H.Shelf.files g.H.Shelf.loads g.H.Shelf.stores c.load_program.new.shelf) name
+    (Err c.in_err-typed.field-0.0) in
     let p = err_from_is_err_and c.from_residual.result c.from_residual.ensures.1 in
-    rw (p.1, p.2) (λ input. program_stops IsSourceRun _ _ job.program _ (subst P c.deref.ensures c.in_err-typed.ensures.program) next _ input)
+    rw (p.1, p.2) (λ input. program_stops IsSourceRun _ _ job.program _
+    (subst P c.deref.ensures c.in_err-typed.ensures.program) next _ input)
 
 pub returns-in_err-edges-clause-order : goal.returns-in_err-edges-clause-order
 returns-in_err-edges-clause-order g c =
     let job = job_view c.args.job.now in
     let machines = c.args.machines in
-    let next : Program → Order = λ program. with_graph job.form job.graph (λ graph. Runs (play_of job machines program graph) follows) in
+    let next : Program → Order = λ program.
+    with_graph job.form job.graph (λ graph. Runs (play_of job machines program graph) follows) in
     let old = shelf_state g.H.Shelf.files g.H.Shelf.loads g.H.Shelf.stores c.args.shelf.now in
     let mid = shelf_state g.H.Shelf.files g.H.Shelf.loads g.H.Shelf.stores c.load_program.new.shelf in
     let new = shelf_state g.H.Shelf.files g.H.Shelf.loads g.H.Shelf.stores c.load_graph.new.shelf in
@@ -36,14 +40,17 @@ returns-in_err-edges-clause-order g c =
     let Q : List ℕ → Type 0 = λ name. GivesGraph mid new job.form name (Err c.in_err-edges.field-0.0) in
     let out = sink_state g.O.Sink.held g.O.Sink.faults g.O.Sink.spare c.args.out.now in
     let p = err_from_is_err_and c.from_residual-in_err-edges.result c.from_residual-in_err-edges.ensures.1 in
-    rw (p.1, p.2) (λ input. program_goes IsSourceRun old mid job.program typed (subst P c.deref.ensures c.in_ok-typed.ensures.program) next out input _ _
-    (graph_stops IsSourceRun mid new job.form job.graph _ (subst Q c.deref-2.ensures c.in_err-edges.ensures.graph) (λ graph. Runs (play_of job machines typed.program graph) follows) out input))
+    rw (p.1, p.2) (λ input. program_goes IsSourceRun old mid job.program typed
+    (subst P c.deref.ensures c.in_ok-typed.ensures.program) next out input _ _
+    (graph_stops IsSourceRun mid new job.form job.graph _ (subst Q c.deref-2.ensures c.in_err-edges.ensures.graph)
+    (λ graph. Runs (play_of job machines typed.program graph) follows) out input))
 
 pub returns-clause-order : goal.returns-clause-order
 returns-clause-order g c =
     let job = job_view c.args.job.now in
     let machines = c.args.machines in
-    let next : Program → Order = λ program. with_graph job.form job.graph (λ graph. Runs (play_of job machines program graph) follows) in
+    let next : Program → Order = λ program.
+    with_graph job.form job.graph (λ graph. Runs (play_of job machines program graph) follows) in
     let old = shelf_state g.H.Shelf.files g.H.Shelf.loads g.H.Shelf.stores c.args.shelf.now in
     let mid = shelf_state g.H.Shelf.files g.H.Shelf.loads g.H.Shelf.stores c.load_program.new.shelf in
     let new = shelf_state g.H.Shelf.files g.H.Shelf.loads g.H.Shelf.stores c.load_graph.new.shelf in
@@ -53,7 +60,12 @@ returns-clause-order g c =
     let Q : List ℕ → Type 0 = λ name. GivesGraph mid new job.form name (Ok edges) in
     let out = sink_state g.O.Sink.held g.O.Sink.faults g.O.Sink.spare c.args.out.now in
     let after = sink_state g.O.Sink.held g.O.Sink.faults g.O.Sink.spare c.play.new.out in
-    let R : Typed → Type 0 = λ t. Plays (play_text (play_of job machines t.program (graph_of_edges edges))) out after c.play.result in
-    λ input. program_goes IsSourceRun old mid job.program typed (subst P c.deref.ensures c.in_ok-typed.ensures.program) next out input _ _
-    (graph_goes IsSourceRun mid new job.form job.graph (graph_of_edges edges) (subst Q c.deref-2.ensures c.in_ok-edges.ensures.graph) (λ graph. Runs (play_of job machines typed.program graph) follows) out input _ _
-    (run_ends (play_of job machines typed.program (graph_of_edges edges)) out after c.play.result (subst R c.split_of.ensures c.play.ensures) new input))
+    let R : Typed → Type 0 = λ t. Plays (play_text (play_of job machines t.program (graph_of_edges edges))) out after
+    c.play.result in
+    λ input. program_goes IsSourceRun old mid job.program typed
+    (subst P c.deref.ensures c.in_ok-typed.ensures.program) next out input _ _
+    (graph_goes IsSourceRun mid new job.form job.graph (graph_of_edges edges)
+    (subst Q c.deref-2.ensures c.in_ok-edges.ensures.graph) (λ graph.
+    Runs (play_of job machines typed.program graph) follows) out input _ _
+    (run_ends (play_of job machines typed.program (graph_of_edges edges)) out after c.play.result
+    (subst R c.split_of.ensures c.play.ensures) new input))

@@ -12,4 +12,6 @@ use Rattle.symple_run.proofs.top.run_line.Goals as goal
 pub returns-in-None-clause-order : goal.returns-in-None-clause-order
 returns-in-None-clause-order g c =
     λ input. as_order IsSourceRun _ _ _ _ _
-    (ap (λ (image : Option (String Global)). asked (RunOf (job_view c.args.job.now) c.args.machines (option_map (λ name. string_bytes name) image))) (sym c.in-None.is)) (c.run_unlogged.ensures.order input)
+    (ap (λ (image : Option (String Global)).
+    asked (RunOf (job_view c.args.job.now) c.args.machines (option_map (λ name. string_bytes name) image)))
+    (sym c.in-None.is)) (c.run_unlogged.ensures.order input)

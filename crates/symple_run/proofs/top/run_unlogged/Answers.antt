@@ -11,4 +11,5 @@ use Rattle.symple_run.proofs.top.run_unlogged.Goals as goal
 pub returns-clause-order : goal.returns-clause-order
 returns-clause-order g c =
     let order = run_order (job_view c.args.job.now) c.args.machines in
-    λ input. as_order IsSourceRun order _ _ _ _ (ap (λ (b : Bool). if b then Refuses BadWords else order) (sym c.if-job.false)) (c.run.ensures.order input)
+    λ input. as_order IsSourceRun order _ _ _ _
+    (ap (λ (b : Bool). if b then Refuses BadWords else order) (sym c.if-job.false)) (c.run.ensures.order input)

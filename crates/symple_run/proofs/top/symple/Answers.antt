@@ -26,28 +26,36 @@ returns-in-Err-clause-answer g c = record {
 
 pub returns-in-Ok-clause-complete : goal.returns-in-Ok-clause-complete
 returns-in-Ok-clause-complete g c =
-    completes (words_of c.args.words.now) _ _ None _ (c.in-Ok.ensures.order (input_state g.I.Source.left g.I.Source.faults c.args.input.now)) refl
+    completes (words_of c.args.words.now) _ _ None _
+    (c.in-Ok.ensures.order (input_state g.I.Source.left g.I.Source.faults c.args.input.now)) refl
 
 pub returns-in-Err-clause-complete : goal.returns-in-Err-clause-complete
 returns-in-Err-clause-complete g c =
-    completes (words_of c.args.words.now) _ _ (Some (fault_of c.in-Err.failure)) _ (c.in-Err.ensures.order (input_state g.I.Source.left g.I.Source.faults c.args.input.now)) c.status.ensures
+    completes (words_of c.args.words.now) _ _ (Some (fault_of c.in-Err.failure)) _
+    (c.in-Err.ensures.order (input_state g.I.Source.left g.I.Source.faults c.args.input.now)) c.status.ensures
 
 pub returns-in-Ok-clause-free : goal.returns-in-Ok-clause-free
 returns-in-Ok-clause-free g c =
-    free_answer (words_of c.args.words.now) _ _ None _ (c.in-Ok.ensures.order (input_state g.I.Source.left g.I.Source.faults c.args.input.now)) refl (alike_by c.order_free_programs.ensures.runs)
+    free_answer (words_of c.args.words.now) _ _ None _
+    (c.in-Ok.ensures.order (input_state g.I.Source.left g.I.Source.faults c.args.input.now)) refl
+    (alike_by c.order_free_programs.ensures.runs)
 
 pub returns-in-Ok-clause-files : goal.returns-in-Ok-clause-files
 returns-in-Ok-clause-files g c =
-    (quiet_leaves IsSourceRun _ (quiet_order (words_of c.args.words.now)) _ _ _ (c.in-Ok.ensures.order (input_state g.I.Source.left g.I.Source.faults c.args.input.now))).files
+    (quiet_leaves IsSourceRun _ (quiet_order (words_of c.args.words.now)) _ _ _
+    (c.in-Ok.ensures.order (input_state g.I.Source.left g.I.Source.faults c.args.input.now))).files
 
 pub returns-in-Err-clause-files : goal.returns-in-Err-clause-files
 returns-in-Err-clause-files g c =
-    (quiet_leaves IsSourceRun _ (quiet_order (words_of c.args.words.now)) _ _ _ (c.in-Err.ensures.order (input_state g.I.Source.left g.I.Source.faults c.args.input.now))).files
+    (quiet_leaves IsSourceRun _ (quiet_order (words_of c.args.words.now)) _ _ _
+    (c.in-Err.ensures.order (input_state g.I.Source.left g.I.Source.faults c.args.input.now))).files
 
 pub returns-in-Ok-clause-stores : goal.returns-in-Ok-clause-stores
 returns-in-Ok-clause-stores g c =
-    (quiet_leaves IsSourceRun _ (quiet_order (words_of c.args.words.now)) _ _ _ (c.in-Ok.ensures.order (input_state g.I.Source.left g.I.Source.faults c.args.input.now))).stores
+    (quiet_leaves IsSourceRun _ (quiet_order (words_of c.args.words.now)) _ _ _
+    (c.in-Ok.ensures.order (input_state g.I.Source.left g.I.Source.faults c.args.input.now))).stores
 
 pub returns-in-Err-clause-stores : goal.returns-in-Err-clause-stores
 returns-in-Err-clause-stores g c =
-    (quiet_leaves IsSourceRun _ (quiet_order (words_of c.args.words.now)) _ _ _ (c.in-Err.ensures.order (input_state g.I.Source.left g.I.Source.faults c.args.input.now))).stores
+    (quiet_leaves IsSourceRun _ (quiet_order (words_of c.args.words.now)) _ _ _
+    (c.in-Err.ensures.order (input_state g.I.Source.left g.I.Source.faults c.args.input.now))).stores

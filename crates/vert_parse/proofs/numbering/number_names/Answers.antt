@@ -7,7 +7,9 @@ use Rattle.vert_parse.proofs.numbering.number_names.Goals as goal
 
 pub sign-requires-clause-small : goal.sign-requires-clause-small
 sign-requires-clause-small c =
-    subst (λ (t : Token). IsSmallKind (lexed_kind t.kind)) (sym c.token-item.is) (small_at c.args.tokens.now c.tokens.token-index c.token-item.result c.requires c.tokens-test.true)
+    subst (λ (t : Token). IsSmallKind (lexed_kind t.kind)) (sym c.token-item.is)
+    (small_at c.args.tokens.now c.tokens.token-index c.token-item.result c.requires c.tokens-test.true)
 
 pub returns-clause-read : goal.returns-clause-read
-returns-clause-read c = all_numbered c.args.tokens.now c.tokens.token-index c.tokens.signs.items c.tokens.names.items c.tokens.invariant (omega arith)
+returns-clause-read c = all_numbered c.args.tokens.now c.tokens.token-index c.tokens.signs.items c.tokens.names.items
+    c.tokens.invariant (omega arith)

@@ -8,6 +8,7 @@ use Rattle.vert_parse.proofs.renaming.+renaming.Given as goal
 abbrev pub invariant-rename_body-loop-i : goal.invariant-rename_body-loop-i
 invariant-rename_body-loop-i l = record {
   unvisited : goal.unvisited-rename_body-loop-i l;
-  same : map (view_statement l.used.keys) (take l.i l.body.items) ≡ map (view_statement l.names) (take l.i l.initial.body.items);
+  same : map (view_statement l.used.keys) (take l.i l.body.items)
+      ≡ map (view_statement l.names) (take l.i l.initial.body.items);
   fresh : body_all (is_fresh (length l.used.keys)) (take l.i l.body.items) ≡ true;
 }

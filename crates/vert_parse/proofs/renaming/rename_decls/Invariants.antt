@@ -9,7 +9,9 @@ use Rattle.vert_parse.proofs.renaming.rename_decls.Given as goal
 -- those before this one have their new numbers
 abbrev pub invariant-loop-i : goal.invariant-loop-i
 invariant-loop-i l = record {
-  unvisited : (length l.decls.items ≡ length l.initial.decls.items) × ((k : ℕ) (d : Decl) → l.i ≤ k → get_or l.decls.items k d ≡ get_or l.initial.decls.items k d);
-  same : map (view_declaration l.used.keys) (take l.i l.decls.items) ≡ map (view_declaration l.names) (take l.i l.initial.decls.items);
+  unvisited : (length l.decls.items ≡ length l.initial.decls.items) ×
+      ((k : ℕ) (d : Decl) → l.i ≤ k → get_or l.decls.items k d ≡ get_or l.initial.decls.items k d);
+  same : map (view_declaration l.used.keys) (take l.i l.decls.items)
+      ≡ map (view_declaration l.names) (take l.i l.initial.decls.items);
   fresh : list_all (decl_all (is_fresh (length l.used.keys))) (take l.i l.decls.items) ≡ true;
 }

@@ -27,17 +27,22 @@ loop-i-preserved c =
     let is : d ≡ get_or old l.i d = c.index_mut.ensures.value ∙ l.invariant.unvisited.1 l.i d (omega arith) in
     record {
       unvisited = unvisited_after items old l.i c.rename_total.new.total l.invariant.unvisited;
-      same = same_with (view_total c.args.used.now.keys) (view_total c.args.names.now) items old l.i c.rename_total.new.total d lt lo l.invariant.same (c.rename_total.ensures.same ∙ ap (view_total c.args.names.now) is);
-      fresh = all_with (total_all (is_fresh (length c.args.used.now.keys))) items l.i c.rename_total.new.total lt l.invariant.fresh c.rename_total.ensures.fresh;
+      same = same_with (view_total c.args.used.now.keys) (view_total c.args.names.now) items old l.i
+          c.rename_total.new.total d lt lo l.invariant.same (c.rename_total.ensures.same
+          ∙ ap (view_total c.args.names.now) is);
+      fresh = all_with (total_all (is_fresh (length c.args.used.now.keys))) items l.i c.rename_total.new.total lt
+          l.invariant.fresh c.rename_total.ensures.fresh;
     }
 
 pub returns-clause-same : goal.returns-clause-same
 returns-clause-same c =
     let l = c.loop-i in
     let e = l.invariant.unvisited.0 in
-    same_whole (view_total c.args.used.now.keys) (view_total c.args.names.now) l.totals.items c.args.totals.now.items l.i (omega arith) (omega arith) l.invariant.same
+    same_whole (view_total c.args.used.now.keys) (view_total c.args.names.now) l.totals.items c.args.totals.now.items
+    l.i (omega arith) (omega arith) l.invariant.same
 
 pub returns-clause-fresh : goal.returns-clause-fresh
 returns-clause-fresh c =
     let e = c.loop-i.invariant.unvisited.0 in
-    all_whole (total_all (is_fresh (length c.args.used.now.keys))) c.loop-i.totals.items c.loop-i.i (omega arith) c.loop-i.invariant.fresh
+    all_whole (total_all (is_fresh (length c.args.used.now.keys))) c.loop-i.totals.items c.loop-i.i (omega arith)
+    c.loop-i.invariant.fresh

@@ -13,6 +13,9 @@ loop-i-preserved c =
     let p = view_place c.args.place.now in
     let names = names_in c.args.scope.now in
     let x = c.index-lets-i.result in
-    turn (λ (i : ℕ) (l : List Decl). let_faults d p i (map (view_declaration names) l)) (λ (i : ℕ) (e : Decl). faults_as d (with_lets i p) e.kind (view names e.value)) (λ i x xs. refl) c.args.lets.now c.loop-i.i x (omega arith) c.index-lets-i.is c.loop-i.found.first c.check_as.new.found.first
-    (c.check_as.ensures ∙ ap (λ here. first_from c.loop-i.found.first (faults_as d here x.kind (view names x.value))) c.with_lets.ensures)
+    turn (λ (i : ℕ) (l : List Decl). let_faults d p i (map (view_declaration names) l)) (λ (i : ℕ) (e : Decl).
+    faults_as d (with_lets i p) e.kind (view names e.value)) (λ i x xs. refl) c.args.lets.now c.loop-i.i x
+    (omega arith) c.index-lets-i.is c.loop-i.found.first c.check_as.new.found.first
+    (c.check_as.ensures ∙ ap (λ here. first_from c.loop-i.found.first (faults_as d here x.kind (view names x.value)))
+    c.with_lets.ensures)
     ∙ c.loop-i.invariant

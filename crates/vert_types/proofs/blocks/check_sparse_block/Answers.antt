@@ -20,14 +20,23 @@ returns c =
     let x = c.check_as.new.found.first in
     let y = c.check_decls.new.found.first in
     let sends = map (view_declaration names) b.sends.items in
-    let many : c.len.result ≡ length sends = c.len.ensures ∙ b.sends.ok.0 ∙ sym (length-map b.sends.items (view_declaration names)) in
+    let many : c.len.result ≡ length sends = c.len.ensures ∙ b.sends.ok.0
+    ∙ sym (length-map b.sends.items (view_declaration names)) in
     let test : Finds o (faults_as d (at_test t) kind.Bool (view names b.when_test)) x = record {
-      is = c.check_as.ensures ∙ ap (λ p. first_from o (faults_as d p kind.Bool (view names b.when_test))) c.at_test-test.ensures;
+      is = c.check_as.ensures ∙ ap (λ p. first_from o (faults_as d p kind.Bool (view names b.when_test)))
+          c.at_test-test.ensures;
     } in
     let sent : Finds x (declaration_faults d (at_test t) sends) y = record {
-      is = c.check_decls.ensures ∙ ap (λ l. first_from x (declaration_faults d (view_place c.at_test-test.result) (map (view_declaration names) l))) c.deref.ensures.value ∙ ap (λ p. first_from x (declaration_faults d p sends)) c.at_test-test.ensures;
+      is = c.check_decls.ensures ∙ ap (λ l.
+          first_from x (declaration_faults d (view_place c.at_test-test.result) (map (view_declaration names) l)))
+          c.deref.ensures.value ∙ ap (λ p. first_from x (declaration_faults d p sends)) c.at_test-test.ensures;
     } in
-    let body : Finds y (block_faults d sparse_rights (at_sparse (length sends) t) (view_block names b.body.items)) c.check_body.new.found.first = record {
-      is = c.check_body.ensures ∙ ap (λ l. first_from y (block_faults d sparse_rights (view_place c.at_sparse.result) (view_block names l))) c.deref-2.ensures.value ∙ ap (λ p. first_from y (block_faults d sparse_rights p (view_block names b.body.items))) (c.at_sparse.ensures ∙ ap (λ n. at_sparse n t) many);
+    let body : Finds y (block_faults d sparse_rights (at_sparse (length sends) t) (view_block names b.body.items))
+    c.check_body.new.found.first = record {
+      is = c.check_body.ensures ∙ ap (λ l.
+          first_from y (block_faults d sparse_rights (view_place c.at_sparse.result) (view_block names l)))
+          c.deref-2.ensures.value ∙ ap (λ p.
+          first_from y (block_faults d sparse_rights p (view_block names b.body.items))) (c.at_sparse.ensures
+          ∙ ap (λ n. at_sparse n t) many);
     } in
     (then_finds test (then_finds sent body)).is

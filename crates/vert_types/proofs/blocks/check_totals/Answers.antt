@@ -12,5 +12,8 @@ loop-total-preserved c =
     let d = dictionary_in c.args.scope.now in
     let p = view_place c.args.place.now in
     let names = names_in c.args.scope.now in
-    turn (λ (i : ℕ) (l : List TotalDecl). total_faults d p (map (view_total names) l)) (λ (i : ℕ) (e : TotalDecl). faults_as d p kind.Int (view names e.value)) (λ i x xs. refl) c.args.totals.now c.loop-total.total-index c.total-item.result (omega arith) c.total-item.is c.loop-total.found.first c.check_as.new.found.first c.check_as.ensures
+    turn (λ (i : ℕ) (l : List TotalDecl). total_faults d p (map (view_total names) l)) (λ (i : ℕ) (e : TotalDecl).
+    faults_as d p kind.Int (view names e.value)) (λ i x xs. refl) c.args.totals.now c.loop-total.total-index
+    c.total-item.result (omega arith) c.total-item.is c.loop-total.found.first c.check_as.new.found.first
+    c.check_as.ensures
     ∙ c.loop-total.invariant

@@ -7,7 +7,11 @@ use Rattle.vert_types.proofs.declare.declare_totals.Given as goal
 -- what is left to declare leaves what all of it does
 abbrev pub invariant-loop-i : goal.invariant-loop-i
 invariant-loop-i l = record {
-  table : table_after l.meanings.items (items_from what.Total l.i (map typed_total (drop l.i l.totals))) ≡ table_after l.initial.meanings.items (items_from what.Total 0 (map typed_total l.totals));
+  table : table_after l.meanings.items (items_from what.Total l.i (map typed_total (drop l.i l.totals)))
+      ≡ table_after l.initial.meanings.items (items_from what.Total 0 (map typed_total l.totals));
   wide : length l.meanings.items ≡ length l.initial.meanings.items;
-  faults : first_from l.found.first (twice_in l.meanings.items (items_from what.Total l.i (map typed_total (drop l.i l.totals)))) ≡ first_from l.initial.found.first (twice_in l.initial.meanings.items (items_from what.Total 0 (map typed_total l.totals)));
+  faults : first_from l.found.first (twice_in l.meanings.items
+      (items_from what.Total l.i (map typed_total (drop l.i l.totals))))
+      ≡ first_from l.initial.found.first (twice_in l.initial.meanings.items
+      (items_from what.Total 0 (map typed_total l.totals)));
 }

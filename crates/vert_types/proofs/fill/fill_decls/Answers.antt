@@ -18,8 +18,18 @@ loop-i-preserved c =
     record {
       unvisited = unvisited_after items c.args.decls.now.items l.i x l.invariant.unvisited;
       same = λ names.
-          let named = ap (λ n. let e : Declaration = record { name = n; kind = d.kind; value = view names c.fill_expr.new.e } in e) (c.fill_name.ensures.same names) in
-          let valued = ap (λ v. let e : Declaration = record { name = view_name names d.name; kind = d.kind; value = v } in e) (c.fill_expr.ensures.same names) in
-          map_set (view_declaration names) items l.i x d lt (named ∙ valued ∙ ap (view_declaration names) c.index_mut-decl.ensures.value) ∙ l.invariant.same names;
-      filled = all_with (decl_filled (what_at c.args.meanings.now)) items l.i x lt l.invariant.filled (and_from _ _ c.fill_name.ensures.filled c.fill_expr.ensures.filled);
+          let named = ap (λ n. let e : Declaration = record {
+            name = n;
+            kind = d.kind;
+            value = view names c.fill_expr.new.e;
+          } in e) (c.fill_name.ensures.same names) in
+          let valued = ap (λ v. let e : Declaration = record {
+            name = view_name names d.name;
+            kind = d.kind;
+            value = v;
+          } in e) (c.fill_expr.ensures.same names) in
+          map_set (view_declaration names) items l.i x d lt
+          (named ∙ valued ∙ ap (view_declaration names) c.index_mut-decl.ensures.value) ∙ l.invariant.same names;
+      filled = all_with (decl_filled (what_at c.args.meanings.now)) items l.i x lt l.invariant.filled
+          (and_from _ _ c.fill_name.ensures.filled c.fill_expr.ensures.filled);
     }

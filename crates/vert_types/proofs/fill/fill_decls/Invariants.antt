@@ -11,6 +11,7 @@ use Rattle.vert_types.proofs.fill.fill_decls.Given as goal
 abbrev pub invariant-loop-i : goal.invariant-loop-i
 invariant-loop-i l = record {
   unvisited : IsUnvisited l.i l.decls.items l.initial.decls.items;
-  same : (names : List (String Global)) → map (view_declaration names) l.decls.items ≡ map (view_declaration names) l.initial.decls.items;
+  same : (names : List (String Global)) → map (view_declaration names) l.decls.items
+      ≡ map (view_declaration names) l.initial.decls.items;
   filled : decls_filled (what_at l.meanings) (take l.i l.decls.items) ≡ true;
 }

@@ -17,7 +17,10 @@ loop-i-preserved c =
     record {
       unvisited = unvisited_after items c.args.slots.now.items l.i x l.invariant.unvisited;
       same = λ names.
-          let named = ap (λ n. let e : SlotDeclaration = record { name = n; op = d.op } in e) (c.fill_name.ensures.same names) in
-          map_set (view_slot names) items l.i x d lt (named ∙ ap (view_slot names) c.index_mut-slot.ensures.value) ∙ l.invariant.same names;
-      filled = all_with (λ (s : SlotDecl). name_filled (what_at c.args.meanings.now) s.name) items l.i x lt l.invariant.filled c.fill_name.ensures.filled;
+          let named = ap (λ n. let e : SlotDeclaration = record { name = n; op = d.op } in e)
+          (c.fill_name.ensures.same names) in
+          map_set (view_slot names) items l.i x d lt (named ∙ ap (view_slot names) c.index_mut-slot.ensures.value)
+          ∙ l.invariant.same names;
+      filled = all_with (λ (s : SlotDecl). name_filled (what_at c.args.meanings.now) s.name) items l.i x lt
+          l.invariant.filled c.fill_name.ensures.filled;
     }

@@ -12,6 +12,7 @@ use Rattle.vert_types.proofs.fill.fill_slots.Given as goal
 abbrev pub invariant-loop-i : goal.invariant-loop-i
 invariant-loop-i l = record {
   unvisited : IsUnvisited l.i l.slots.items l.initial.slots.items;
-  same : (names : List (String Global)) → map (view_slot names) l.slots.items ≡ map (view_slot names) l.initial.slots.items;
+  same : (names : List (String Global)) → map (view_slot names) l.slots.items
+      ≡ map (view_slot names) l.initial.slots.items;
   filled : list_all (λ s. name_filled (what_at l.meanings) s.name) (take l.i l.slots.items) ≡ true;
 }

@@ -19,8 +19,18 @@ loop-i-preserved c =
     record {
       unvisited = unvisited_after items c.args.totals.now.items l.i x l.invariant.unvisited;
       same = λ names.
-          let named = ap (λ n. let e : TotalDeclaration = record { name = n; op = d.op; value = view names c.fill_expr.new.e } in e) (c.fill_name.ensures.same names) in
-          let valued = ap (λ v. let e : TotalDeclaration = record { name = view_name names d.name; op = d.op; value = v } in e) (c.fill_expr.ensures.same names) in
-          map_set (view_total names) items l.i x d lt (named ∙ valued ∙ ap (view_total names) c.index_mut-total.ensures.value) ∙ l.invariant.same names;
-      filled = all_with (λ (t : TotalDecl). name_filled w t.name && expr_filled w t.value) items l.i x lt l.invariant.filled (and_from _ _ c.fill_name.ensures.filled c.fill_expr.ensures.filled);
+          let named = ap (λ n. let e : TotalDeclaration = record {
+            name = n;
+            op = d.op;
+            value = view names c.fill_expr.new.e;
+          } in e) (c.fill_name.ensures.same names) in
+          let valued = ap (λ v. let e : TotalDeclaration = record {
+            name = view_name names d.name;
+            op = d.op;
+            value = v;
+          } in e) (c.fill_expr.ensures.same names) in
+          map_set (view_total names) items l.i x d lt
+          (named ∙ valued ∙ ap (view_total names) c.index_mut-total.ensures.value) ∙ l.invariant.same names;
+      filled = all_with (λ (t : TotalDecl). name_filled w t.name && expr_filled w t.value) items l.i x lt
+          l.invariant.filled (and_from _ _ c.fill_name.ensures.filled c.fill_expr.ensures.filled);
     }

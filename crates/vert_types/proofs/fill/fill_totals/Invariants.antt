@@ -12,6 +12,8 @@ use Rattle.vert_types.proofs.fill.fill_totals.Given as goal
 abbrev pub invariant-loop-i : goal.invariant-loop-i
 invariant-loop-i l = record {
   unvisited : IsUnvisited l.i l.totals.items l.initial.totals.items;
-  same : (names : List (String Global)) → map (view_total names) l.totals.items ≡ map (view_total names) l.initial.totals.items;
-  filled : list_all (λ t. name_filled (what_at l.meanings) t.name && expr_filled (what_at l.meanings) t.value) (take l.i l.totals.items) ≡ true;
+  same : (names : List (String Global)) → map (view_total names) l.totals.items
+      ≡ map (view_total names) l.initial.totals.items;
+  filled : list_all (λ t. name_filled (what_at l.meanings) t.name && expr_filled (what_at l.meanings) t.value)
+      (take l.i l.totals.items) ≡ true;
 }

@@ -11,13 +11,16 @@ meanings_of-requires c = declared c.args.program c.requires
 
 pub check_bodies-requires-clause-scope : goal.check_bodies-requires-clause-scope
 check_bodies-requires-clause-scope c = record {
-  wide = ap length c.deref.ensures.value ∙ table_wide c.args.program c.requires c.in_ok-meanings.meanings.items c.in_ok-meanings.ensures.table;
+  wide = ap length c.deref.ensures.value ∙ table_wide c.args.program c.requires c.in_ok-meanings.meanings.items
+      c.in_ok-meanings.ensures.table;
   apart = c.requires.apart;
 }
 
 pub returns-in-Some-clause-refused : goal.returns-in-Some-clause-refused
 returns-in-Some-clause-refused c =
-    sym (all_found c.args.program c.requires c.in_ok-meanings.meanings.items c.in_ok-meanings.ensures.table c.deref.result.now c.check_header.new.found.first c.meanings_of.new.found.first c.check_bodies.new.found.first c.deref.ensures.value c.check_header.ensures c.in_ok-meanings.ensures.faults c.check_bodies.ensures)
+    sym (all_found c.args.program c.requires c.in_ok-meanings.meanings.items c.in_ok-meanings.ensures.table
+    c.deref.result.now c.check_header.new.found.first c.meanings_of.new.found.first c.check_bodies.new.found.first
+    c.deref.ensures.value c.check_header.ensures c.in_ok-meanings.ensures.faults c.check_bodies.ensures)
     ∙ c.in-Some.is
 
 pub fill_program-requires : goal.fill_program-requires
@@ -32,7 +35,9 @@ invariant_of-result c =
     let h = c.fill_program.ensures in
     let table = c.in_ok-meanings.meanings.items in
     let is = c.in_ok-meanings.ensures.table in
-    let found = all_found p c.requires table is c.deref.result.now c.check_header.new.found.first c.meanings_of.new.found.first c.check_bodies.new.found.first c.deref.ensures.value c.check_header.ensures c.in_ok-meanings.ensures.faults c.check_bodies.ensures in
+    let found = all_found p c.requires table is c.deref.result.now c.check_header.new.found.first
+    c.meanings_of.new.found.first c.check_bodies.new.found.first c.deref.ensures.value c.check_header.ensures
+    c.in_ok-meanings.ensures.faults c.check_bodies.ensures in
     let filled = sym (ap (λ m. program_filled (what_at m) q) c.deref-2.ensures.value) ∙ h.filled in
     record { typed = typed_is p c.requires table is q h.same h.names filled (sym c.in_default.is ∙ found) }
 
@@ -43,6 +48,8 @@ returns-clause-accepted c =
     let h = c.fill_program.ensures in
     let table = c.in_ok-meanings.meanings.items in
     let is = c.in_ok-meanings.ensures.table in
-    let found = all_found p c.requires table is c.deref.result.now c.check_header.new.found.first c.meanings_of.new.found.first c.check_bodies.new.found.first c.deref.ensures.value c.check_header.ensures c.in_ok-meanings.ensures.faults c.check_bodies.ensures in
+    let found = all_found p c.requires table is c.deref.result.now c.check_header.new.found.first
+    c.meanings_of.new.found.first c.check_bodies.new.found.first c.deref.ensures.value c.check_header.ensures
+    c.in_ok-meanings.ensures.faults c.check_bodies.ensures in
     let filled = sym (ap (λ m. program_filled (what_at m) q) c.deref-2.ensures.value) ∙ h.filled in
     typing_is p c.requires table is q h.same h.names filled (sym c.in_default.is ∙ found)

@@ -8,5 +8,7 @@ use Rattle.vert_types.proofs.statement.+statement.Given as goal
 -- the faults found so far and those of what is left are those of the block
 abbrev pub invariant-check_body-loop-stmt : goal.invariant-check_body-loop-stmt
 invariant-check_body-loop-stmt l =
-    first_from l.found.first (block_faults (dictionary_in l.scope) (view_rights l.rights) (view_place l.place) (view_block (names_in l.scope) (drop l.stmt-index l.body)))
-    ≡ first_from l.initial.found.first (block_faults (dictionary_in l.scope) (view_rights l.rights) (view_place l.place) (view_block (names_in l.scope) l.body))
+    first_from l.found.first (block_faults (dictionary_in l.scope) (view_rights l.rights) (view_place l.place)
+    (view_block (names_in l.scope) (drop l.stmt-index l.body)))
+    ≡ first_from l.initial.found.first (block_faults (dictionary_in l.scope) (view_rights l.rights)
+    (view_place l.place) (view_block (names_in l.scope) l.body))

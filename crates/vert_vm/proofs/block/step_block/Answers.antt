@@ -6,4 +6,5 @@ use Rattle.vert_vm.proofs.block.step_block.Goals as goal
 
 pub run_list-requires-clause-level : goal.run_list-requires-clause-level
 run_list-requires-clause-level c =
-    subst (IsEntered 0 0) (sym c.list_at.ensures) (code_entered (lists_of c.args.code.now) c.args.code.now.valid c.args.block)
+    subst (IsEntered 0 0) (sym c.list_at.ensures)
+    (code_entered (lists_of c.args.code.now) c.args.code.now.valid c.args.block)

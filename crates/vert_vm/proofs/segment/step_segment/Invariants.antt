@@ -12,8 +12,10 @@ invariant-loop-neighbour g l =
     let left = g.F.Feed.left in
     let given = g.F.Feed.given in
     let act = loop_code l.list in record {
-      ends : SameEnd l.env.key l.emits.slots.items (act (left l.feed) l.env) l.initial.env.key l.initial.emits.slots.items (act (left l.initial.feed) l.initial.env);
-      fed : Feeding (given l.initial.feed) (left l.initial.feed) (given l.feed) (left l.feed) (act (left l.feed) l.env).reads (act (left l.initial.feed) l.initial.env).reads;
+      ends : SameEnd l.env.key l.emits.slots.items (act (left l.feed) l.env) l.initial.env.key
+          l.initial.emits.slots.items (act (left l.initial.feed) l.initial.env);
+      fed : Feeding (given l.initial.feed) (left l.initial.feed) (given l.feed) (left l.feed)
+          (act (left l.feed) l.env).reads (act (left l.initial.feed) l.initial.env).reads;
       rows : All (IsWide l.initial.env) (left l.feed);
       stack : l.stack ≡ [];
       kept : SameFrame (beside l.initial.env l.env) l.env;

@@ -6,5 +6,6 @@ use Rattle.plain_run.proofs.graph.Graph.indegree.Goals as goal
 pub returns : goal.returns
 returns c =
     let table = c.self.inside.table.now in
-    let below : AreBelow table.vertices table.list = subst (λ (n : ℕ). AreBelow n table.list) c.vertices-vertices.ensures.value c.vertices-vertices.ensures.below in
+    let below : AreBelow table.vertices table.list =
+    subst (λ (n : ℕ). AreBelow n table.list) c.vertices-vertices.ensures.value c.vertices-vertices.ensures.below in
     rw (← c.self.view_is) (c.indeg.ensures.value ∙ ins_count table.vertices table.list c.args.v below)

@@ -16,8 +16,12 @@ overflow_cast-result-3 c =
 pub returns : goal.returns
 returns c =
     let there = sends_in c.args.self.now.split.value.program.program.sparse in
-    let same : c.sends-sends.result.now ≡ there = c.sends-sends.ensures.value ∙ ap (λ s. sends_in s.program.program.sparse) c.deref.ensures in
-    let vertices : length c.pushed.result.now ≡ length (pushed (plain_of c.args.self.now) c.args.name.now) = sym (length-map c.pushed.result.now (λ v. v.0)) ∙ ap length c.pushed.ensures.list in
-    let words : length c.sends-sends.result.now ≡ length (types_of there) = ap length same ∙ sym (length-map there (λ d. d.kind)) in
-    let bits : c.bits_before.result ≡ bool_bits (types_of there) = c.bits_before.ensures.value [] refl ∙ ap bool_bits (append-nil (types_of c.sends-sends.result.now) ∙ ap types_of same) in
+    let same : c.sends-sends.result.now ≡ there = c.sends-sends.ensures.value
+    ∙ ap (λ s. sends_in s.program.program.sparse) c.deref.ensures in
+    let vertices : length c.pushed.result.now ≡ length (pushed (plain_of c.args.self.now) c.args.name.now) =
+    sym (length-map c.pushed.result.now (λ v. v.0)) ∙ ap length c.pushed.ensures.list in
+    let words : length c.sends-sends.result.now ≡ length (types_of there) =
+    ap length same ∙ sym (length-map there (λ d. d.kind)) in
+    let bits : c.bits_before.result ≡ bool_bits (types_of there) = c.bits_before.ensures.value [] refl
+    ∙ ap bool_bits (append-nil (types_of c.sends-sends.result.now) ∙ ap types_of same) in
     cc (vertices, words, bits)

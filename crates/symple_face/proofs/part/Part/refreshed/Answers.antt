@@ -5,7 +5,10 @@ use Rattle.symple_face.proofs.PartLaws.{refresh_to_few, refresh_of_few}
 use Rattle.symple_face.proofs.part.Part.refreshed.Goals as goal
 
 pub returns-then-name-number-clause-few : goal.returns-then-name-number-clause-few
-returns-then-name-number-clause-few c = refresh_to_few _ c.args.name.now.to _ c.args.self.now.whole (c.list_at.ensures ∙ ap (λ ls. get_or ls c.args.name.now.to []) (ap lists_of c.deref.ensures.value))
+returns-then-name-number-clause-few c = refresh_to_few _ c.args.name.now.to _ c.args.self.now.whole
+    (c.list_at.ensures ∙ ap (λ ls. get_or ls c.args.name.now.to []) (ap lists_of c.deref.ensures.value))
 
 pub returns-else-name-number-clause-few : goal.returns-else-name-number-clause-few
-returns-else-name-number-clause-few c = refresh_of_few _ c.args.name.now.from _ c.args.self.now.whole (c.list_at-else-name-number.ensures ∙ ap (λ ls. get_or ls c.args.name.now.from []) (ap lists_of c.deref-else-name-number.ensures.value))
+returns-else-name-number-clause-few c = refresh_of_few _ c.args.name.now.from _ c.args.self.now.whole
+    (c.list_at-else-name-number.ensures ∙ ap (λ ls. get_or ls c.args.name.now.from [])
+    (ap lists_of c.deref-else-name-number.ensures.value))

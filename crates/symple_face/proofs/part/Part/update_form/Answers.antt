@@ -12,8 +12,10 @@ returns c =
     let all = updated (plain_of c.args.self.now) c.args.name.now in
     let count : c.count_within.result ≡ count_within range all =
     c.count_within.ensures.value
-    ∙ (sym (length-filter-map (λ v. v.0) (λ v. nat_le c.half_of.result.0 v && nat_lt v c.half_of.result.1) c.updated.result.now)
-    ∙ (ap (λ r. count_within r (map (λ v. v.0) c.updated.result.now)) c.half_of.ensures.value ∙ ap (λ l. count_within range l) c.updated.ensures.list)) in
+    ∙ (sym (length-filter-map (λ v. v.0) (λ v. nat_le c.half_of.result.0 v && nat_lt v c.half_of.result.1)
+    c.updated.result.now)
+    ∙ (ap (λ r. count_within r (map (λ v. v.0) c.updated.result.now)) c.half_of.ensures.value
+    ∙ ap (λ l. count_within range l) c.updated.ensures.list)) in
     let slots : c.slot_count.result ≡ length c.args.self.now.split.value.program.program.slots.items =
     c.slot_count.ensures ∙ ap (λ s. length s.program.program.slots.items) c.deref.ensures in
     let reduced : c.reduced_count.result ≡ length (reduced_in c.args.self.now.split.value.dense) =

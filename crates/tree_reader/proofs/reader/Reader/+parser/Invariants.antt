@@ -35,7 +35,8 @@ abbrev pub decreases-two : goal.decreases-two
 decreases-two l = l.room * 16
 
 abbrev pub invariant-binary-chain : goal.invariant-binary-chain
-invariant-binary-chain l = IsChain l.room l.layer (plain l.self.names.items l.fn.tokens) (view l.self.names.items l.left) l.depth (plain l.self.names.items l.tokens)
+invariant-binary-chain l = IsChain l.room l.layer (plain l.self.names.items l.fn.tokens)
+    (view l.self.names.items l.left) l.depth (plain l.self.names.items l.tokens)
 
 abbrev pub decreases-binary-chain : goal.decreases-binary-chain
 decreases-binary-chain l = l.room + 1 - l.depth

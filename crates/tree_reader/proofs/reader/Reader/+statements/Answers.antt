@@ -12,24 +12,39 @@ pub statements-returns-in_err-statement : goal.statements-returns-in_err-stateme
 statements-returns-in_err-statement t c =
     let names = c.args.self.now.names.items in
     let p = err_from_is_err_and c.from_residual.result c.from_residual.ensures.1 in
-    rw (p.1, p.2) (many_fails goes_on (statement_at (plain_rights c.args.rights) c.args.depth) names _ _ (plain names c.args.tokens.now) c.in_err-statement.field-0.0 c.statements.invariant (sym c.goes_on.ensures ∙ c.statements-test.true) c.in_err-statement.ensures)
+    rw (p.1, p.2) (many_fails goes_on (statement_at (plain_rights c.args.rights) c.args.depth) names _ _
+    (plain names c.args.tokens.now) c.in_err-statement.field-0.0 c.statements.invariant (sym c.goes_on.ensures
+    ∙ c.statements-test.true) c.in_err-statement.ensures)
 
 pub statements-statements-smaller : goal.statements-statements-smaller
 statements-statements-smaller t c =
     let names = c.args.self.now.names.items in
     let less = statement_shrinks (plain_rights c.args.rights) c.args.depth _ _ _ c.in_ok-statement.ensures in
-    omega (arith, less, length-map c.in_ok-statement.after.now (plain_sign names), length-map c.statements.tokens.now (plain_sign names))
+    omega (
+      arith,
+      less,
+      length-map c.in_ok-statement.after.now (plain_sign names),
+      length-map c.statements.tokens.now (plain_sign names),
+    )
 
 pub statements-statements-init : goal.statements-statements-init
-statements-statements-init t c = rw c.new-statements.ensures.items (many_starts goes_on (statement_at (plain_rights c.args.rights) c.args.depth) (plain c.args.self.now.names.items c.args.tokens.now))
+statements-statements-init t c = rw c.new-statements.ensures.items
+    (many_starts goes_on (statement_at (plain_rights c.args.rights) c.args.depth)
+    (plain c.args.self.now.names.items c.args.tokens.now))
 
 pub statements-statements-preserved : goal.statements-statements-preserved
 statements-statements-preserved t c =
     let names = c.args.self.now.names.items in
     let less = statement_shrinks (plain_rights c.args.rights) c.args.depth _ _ _ c.in_ok-statement.ensures in
-    let e : map (view_statement names) c.push.new.self.items ≡ map (view_statement names) c.statements.statements.items ++ view_statement names c.in_ok-statement.statement ∷ [] = rw c.in_ok-push.ensures.items (map_push _ c.statements.statements.items c.in_ok-statement.statement) in
-    rw e (many_goes_on goes_on (statement_at (plain_rights c.args.rights) c.args.depth) _ _ (plain names c.args.tokens.now) _ _ c.statements.invariant (sym c.goes_on.ensures ∙ c.statements-test.true) c.in_ok-statement.ensures less)
+    let e : map (view_statement names) c.push.new.self.items
+    ≡ map (view_statement names) c.statements.statements.items ++ view_statement names c.in_ok-statement.statement
+    ∷ [] = rw c.in_ok-push.ensures.items (map_push _ c.statements.statements.items c.in_ok-statement.statement) in
+    rw e (many_goes_on goes_on (statement_at (plain_rights c.args.rights) c.args.depth) _ _
+    (plain names c.args.tokens.now) _ _ c.statements.invariant (sym c.goes_on.ensures ∙ c.statements-test.true)
+    c.in_ok-statement.ensures less)
 
 pub statements-returns : goal.statements-returns
 statements-returns t c =
-    many_over goes_on (statement_at (plain_rights c.args.rights) c.args.depth) _ _ (plain c.args.self.now.names.items c.args.tokens.now) c.statements.invariant (sym c.goes_on.ensures ∙ c.statements-test.false)
+    many_over goes_on (statement_at (plain_rights c.args.rights) c.args.depth) _ _
+    (plain c.args.self.now.names.items c.args.tokens.now) c.statements.invariant (sym c.goes_on.ensures
+    ∙ c.statements-test.false)

@@ -26,4 +26,6 @@ decreases-statements-statements l = length l.tokens
 -- the statements read so far, and those that are left
 abbrev pub invariant-statements-statements : goal.invariant-statements-statements
 invariant-statements-statements l =
-    IsMany goes_on (statement_at (plain_rights l.rights) l.depth) (map (view_statement l.self.names.items) l.statements.items) (plain l.self.names.items l.tokens) (plain l.self.names.items l.fn.tokens)
+    IsMany goes_on (statement_at (plain_rights l.rights) l.depth)
+    (map (view_statement l.self.names.items) l.statements.items) (plain l.self.names.items l.tokens)
+    (plain l.self.names.items l.fn.tokens)

@@ -10,7 +10,9 @@ abbrev pub invariant-declarations : goal.invariant-declarations
 invariant-declarations l = record {
   few : vec_len l.declarations ≤ l.limit;
   read :
-      with_front (map (view_declaration l.self.names.items) l.declarations.items) (up_to (is_word l.keyword) (declaration_at l.keyword 64) (l.limit - vec_len l.declarations) (plain l.self.names.items l.tokens))
+      with_front (map (view_declaration l.self.names.items) l.declarations.items)
+      (up_to (is_word l.keyword) (declaration_at l.keyword 64) (l.limit - vec_len l.declarations)
+      (plain l.self.names.items l.tokens))
       ≡ up_to (is_word l.keyword) (declaration_at l.keyword 64) l.limit (plain l.self.names.items l.fn.tokens);
 }
 

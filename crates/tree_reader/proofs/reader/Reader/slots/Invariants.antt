@@ -11,7 +11,8 @@ abbrev pub invariant-slots : goal.invariant-slots
 invariant-slots l = record {
   few : vec_len l.slots ≤ 8;
   read :
-      with_front (map (view_slot l.self.names.items) l.slots.items) (up_to (is_word SLOT) slot_at (8 - vec_len l.slots) (plain l.self.names.items l.tokens))
+      with_front (map (view_slot l.self.names.items) l.slots.items)
+      (up_to (is_word SLOT) slot_at (8 - vec_len l.slots) (plain l.self.names.items l.tokens))
       ≡ up_to (is_word SLOT) slot_at 8 (plain l.self.names.items l.fn.tokens);
 }
 

@@ -9,7 +9,8 @@ abbrev pub invariant-totals : goal.invariant-totals
 invariant-totals l = record {
   few : vec_len l.totals ≤ 4;
   read :
-      with_front (map (view_total l.self.names.items) l.totals.items) (up_to (is_total l.version) (total_at 64) (4 - vec_len l.totals) (plain l.self.names.items l.tokens))
+      with_front (map (view_total l.self.names.items) l.totals.items)
+      (up_to (is_total l.version) (total_at 64) (4 - vec_len l.totals) (plain l.self.names.items l.tokens))
       ≡ up_to (is_total l.version) (total_at 64) 4 (plain l.self.names.items l.fn.tokens);
 }
 

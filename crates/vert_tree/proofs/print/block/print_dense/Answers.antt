@@ -12,10 +12,17 @@ returns c =
     let d = view_dense names c.args.dense.now in
     let lets : List ℕ = flat_map (printed_declaration (codes "let ")) d.lets in
     let e2 : string_bytes c.print_declarations.new.out ≡ string_bytes c.print_opening.new.out ++ lets =
-    c.in_ok-print_declarations.ensures ∙ ap (λ l. string_bytes c.print_opening.new.out ++ flat_map (printed_declaration (codes "let ")) (map (view_declaration names) l)) c.deref.ensures.value in
+    c.in_ok-print_declarations.ensures ∙ ap (λ l.
+    string_bytes c.print_opening.new.out
+    ++ flat_map (printed_declaration (codes "let ")) (map (view_declaration names) l)) c.deref.ensures.value in
     let e3 : string_bytes c.print_loop.new.out ≡ string_bytes c.print_declarations.new.out ++ printed_loop d.body =
-    c.in_ok-print_loop.ensures ∙ ap (λ l. string_bytes c.print_declarations.new.out ++ printed_loop (view_block names l)) c.deref-2.ensures.value in
+    c.in_ok-print_loop.ensures ∙ ap (λ l. string_bytes c.print_declarations.new.out
+    ++ printed_loop (view_block names l)) c.deref-2.ensures.value in
     let e4 : string_bytes c.print_block.new.out ≡ string_bytes c.print_loop.new.out ++ printed_block d.tail =
-    c.in_ok-print_block.ensures ∙ ap (λ l. string_bytes c.print_loop.new.out ++ printed_block (view_block names l)) c.deref-3.ensures.value in
-    on_ok_weaker c.push_str.result (λ e. ahead _ _ (printed_opening (codes "dense when ") d.test) _ _ c.in_ok-print_opening.ensures (ahead _ _ lets _ _ e2 (ahead _ _ (printed_loop d.body) _ _ e3 (ahead _ _ (printed_block d.tail) (codes "}\n") _ e4 e))))
-    (at_last c.push_str.result (string_bytes c.print_block.new.out) (string_bytes c.push_str.new.self) (codes "}\n") c.push_str.ensures.bytes)
+    c.in_ok-print_block.ensures ∙ ap (λ l. string_bytes c.print_loop.new.out ++ printed_block (view_block names l))
+    c.deref-3.ensures.value in
+    on_ok_weaker c.push_str.result (λ e. ahead _ _ (printed_opening (codes "dense when ") d.test) _ _
+    c.in_ok-print_opening.ensures (ahead _ _ lets _ _ e2
+    (ahead _ _ (printed_loop d.body) _ _ e3 (ahead _ _ (printed_block d.tail) (codes "}\n") _ e4 e))))
+    (at_last c.push_str.result (string_bytes c.print_block.new.out) (string_bytes c.push_str.new.self) (codes "}\n")
+    c.push_str.ensures.bytes)

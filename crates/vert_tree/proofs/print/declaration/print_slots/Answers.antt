@@ -14,7 +14,9 @@ pub lines-preserved : goal.lines-preserved
 lines-preserved c =
     let d : SlotDecl = record { name = record { span = nowhere; name = 0; what = Unread }; op = Min } in
     let i = c.lines.slot-index in
-    more_of printed_slot (view_slot c.args.names.now) _ (take i c.args.slots.now) (get_or c.args.slots.now i d) _ _ _ (take_more c.args.slots.now i d c.lines-test.true) c.lines.invariant c.in_ok-print_slot.ensures
+    more_of printed_slot (view_slot c.args.names.now) _ (take i c.args.slots.now) (get_or c.args.slots.now i d) _ _ _
+    (take_more c.args.slots.now i d c.lines-test.true) c.lines.invariant c.in_ok-print_slot.ensures
 
 pub returns : goal.returns
-returns c = c.lines.invariant ∙ ap (λ l. string_bytes c.args.out.now ++ flat_map printed_slot (map (view_slot c.args.names.now) l)) (take_all _ _ c.lines-test.false)
+returns c = c.lines.invariant ∙ ap (λ l. string_bytes c.args.out.now
+    ++ flat_map printed_slot (map (view_slot c.args.names.now) l)) (take_all _ _ c.lines-test.false)

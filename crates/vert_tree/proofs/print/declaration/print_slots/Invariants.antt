@@ -5,4 +5,5 @@ use Rattle.vert_tree.specs.Views.{view_slot}
 use Rattle.vert_tree.proofs.print.declaration.print_slots.Given as goal
 
 abbrev pub invariant-lines : goal.invariant-lines
-invariant-lines l = string_bytes l.out ≡ string_bytes l.initial.out ++ flat_map printed_slot (map (view_slot l.names) (take l.slot-index l.slots))
+invariant-lines l = string_bytes l.out ≡ string_bytes l.initial.out
+    ++ flat_map printed_slot (map (view_slot l.names) (take l.slot-index l.slots))
