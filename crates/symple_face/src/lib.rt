@@ -3,6 +3,8 @@
 //! holds of a graph, and the forms of its messages.
 #![tactic(auto)]
 
+mod action;
+mod ahead;
 mod degree;
 mod feed;
 mod laws;
@@ -11,8 +13,12 @@ mod part;
 mod plans;
 mod report;
 mod shape;
+mod site;
+mod start;
 mod words;
 
+pub use action::Action;
+pub use ahead::Ahead;
 pub use body_shape::BodyShape;
 pub use degree::Degree;
 pub use feed::Feed;
@@ -24,3 +30,5 @@ pub use outside::{
 };
 pub use part::Part;
 pub use report::Report;
+pub use site::{Restart, Site};
+pub use start::Start;

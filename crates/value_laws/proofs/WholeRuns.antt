@@ -12,7 +12,7 @@ use Rattle.vert_base.specs.Neighbours.{source, target}
 use Rattle.vert_tree.specs.Kinds.{kinds_of}
 use Rattle.vert_eval.specs.Rounds.{row_after, rows_after, vertices_of}
 use Rattle.vert_eval.specs.SourceRun.{Job, Run, Standing, by_ruling, first_row, first_rows, next_standing, played_at, rounds_from, scene_before, standing_after, then_runs}
-use Rattle.value_laws.specs.Fits.{IsEdge, IsFitting, IsRow, IsSized, PlaysInWords, RunsInWords, StandsInWords}
+use Rattle.word_kinds.specs.Fits.{IsEdge, IsFitting, IsRow, IsSized, PlaysInWords, RunsInWords, StandsInWords}
 use Rattle.value_laws.specs.Laws.{BeginsInWords, EdgesAreSized, GoesOnInWords, ResumedInWords, ScenesHaveWords, WholeInWords}
 use Rattle.value_laws.proofs.Rounds.{few_rounds}
 use Rattle.value_laws.proofs.Rows.{first_words, rows_words, totals_words}

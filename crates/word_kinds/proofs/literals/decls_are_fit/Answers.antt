@@ -1,8 +1,8 @@
 use Rattle.std.proofs.Common.{arith}
 use Rattle.vert_tree.specs.declared.program.Decl.{Decl}
-use Rattle.value_laws.specs.Fits.{expr_fits}
-use Rattle.value_laws.proofs.FitLaws.{one_fits_more}
-use Rattle.value_laws.proofs.literals.decls_are_fit.Goals as goal
+use Rattle.word_kinds.specs.Fits.{expr_fits}
+use Rattle.word_kinds.proofs.FitLaws.{one_fits_more}
+use Rattle.word_kinds.proofs.literals.decls_are_fit.Goals as goal
 
 pub loop-decl-preserved : goal.loop-decl-preserved
 loop-decl-preserved c =

@@ -11,7 +11,7 @@ use Rattle.vert_tree.specs.declared.statement.Stmt as statements
 use Rattle.vert_tree.specs.declared.statement.Stmt.TheOpen as level
 use Rattle.vert_tree.specs.declared.statement.Stmt.TheFolds.{fold-roll-Stmt}
 use Rattle.vert_tree.specs.declared.statement.Stmt.TheVariants.{rolls-If}
-use Rattle.value_laws.specs.Fits.{body_fits, expr_fits, level_fits, stmt_fits}
+use Rattle.word_kinds.specs.Fits.{body_fits, expr_fits, level_fits, stmt_fits}
 
 -- ---- lists
 pub one_fits_more : {X : Type 0} (p : X → Bool) (xs : List X) (i : ℕ) (x : X) → i < length xs → x ≡ get_or xs i x →

@@ -1,8 +1,8 @@
 use Rattle.std.proofs.Common.{arith}
 use Rattle.vert_tree.specs.declared.program.TotalDecl.{TotalDecl}
-use Rattle.value_laws.specs.Fits.{expr_fits}
-use Rattle.value_laws.proofs.FitLaws.{one_fits_more}
-use Rattle.value_laws.proofs.literals.totals_are_fit.Goals as goal
+use Rattle.word_kinds.specs.Fits.{expr_fits}
+use Rattle.word_kinds.proofs.FitLaws.{one_fits_more}
+use Rattle.word_kinds.proofs.literals.totals_are_fit.Goals as goal
 
 pub loop-total-preserved : goal.loop-total-preserved
 loop-total-preserved c =

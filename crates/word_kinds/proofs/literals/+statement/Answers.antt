@@ -1,7 +1,7 @@
 use Rattle.std.proofs.Common.{arith}
-use Rattle.value_laws.specs.Fits.{stmt_fits}
-use Rattle.value_laws.proofs.FitLaws.{if_else_fits, if_fits, one_fits_more}
-use Rattle.value_laws.proofs.literals.+statement.Goals as goal
+use Rattle.word_kinds.specs.Fits.{stmt_fits}
+use Rattle.word_kinds.proofs.FitLaws.{if_else_fits, if_fits, one_fits_more}
+use Rattle.word_kinds.proofs.literals.+statement.Goals as goal
 
 pub body_is_fit-loop-stmt-preserved : goal.body_is_fit-loop-stmt-preserved
 body_is_fit-loop-stmt-preserved t c =

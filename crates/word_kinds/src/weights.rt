@@ -3,7 +3,7 @@
 
 ghost use Rattle.std.specs.Prelude.{◌≡◌, FitsSigned};
 ghost use Rattle.std.specs.Int.{w32};
-ghost use Rattle.value_laws.specs.Fits.{HaveWeights};
+ghost use Rattle.word_kinds.specs.Fits.{HaveWeights};
 
 use vert_base::Edge;
 
