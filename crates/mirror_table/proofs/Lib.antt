@@ -16,6 +16,7 @@ pub mod ShareLaws
 pub mod MetLaws
 pub mod OrderPermutations
 pub mod MovedLaws
+pub mod WeightLaws
 pub mod PartLaws
 pub mod RangeLaws
 pub mod SplitLaws

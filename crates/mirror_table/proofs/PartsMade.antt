@@ -8,10 +8,10 @@ use Rattle.std.proofs.lemmas.List.Elements.{All-from_recursion}
 use Rattle.std.specs.declared.alloc.Global.{Global}
 use Rattle.std.specs.declared.vec.Vec.{Vec}
 use Rattle.std.proofs.lemmas.List.{length-map}
-use Rattle.std.proofs.lemmas.List.FromFn.{get_or-map-range_with_len, length-map-range_with_len}
+use Rattle.std.proofs.lemmas.List.FromFn.{length-map-range_with_len}
 use Rattle.vert_base.specs.declared.graph.Edge.{Edge}
 use Rattle.vert_base.specs.declared.graph.VertexId.{VertexId}
-use Rattle.vert_base.specs.Neighbours.{AreBelow, source, target, in_order, ins_of, outs_of}
+use Rattle.vert_base.specs.Neighbours.{AreBelow, source, target, in_order}
 use Rattle.chunk_split.specs.Chunks.{AreEnds, vertices_of}
 use Rattle.circulant_plan.specs.Ring.{lies_in}
 use Rattle.vert_base.specs.Ends.{start_of}
@@ -19,7 +19,7 @@ use Rattle.vert_base.proofs.Orders.{in_order_rises}
 use Rattle.symple_face.specs.declared.degree.Degree.{Degree}
 use Rattle.symple_face.specs.Parts.{PlainPart, chunk_vertices, degree_in, ends_met, for_others, lists_of, push_list, refresh_list}
 use Rattle.symple_face.specs.PartsOf.{known_of, part_of, push_of, scan_of}
-use Rattle.graph_table.proofs.FilterLaws.{all_filter, all_flat_map, all_passes, all_range, all_true, all_weaker, filter_same, flat_map_same}
+use Rattle.graph_table.proofs.FilterLaws.{all_filter, all_flat_map, all_passes, all_range, all_weaker, filter_same, flat_map_same}
 use Rattle.symple_face.proofs.ChunkLaws.{chunk_rises, chunk_within}
 use Rattle.symple_face.proofs.ListLaws.{other_list}
 use Rattle.mirror_table.proofs.PartLaws.{all_in_order, others_same, push_of_push, push_to_scan, refresh_of_scan, refresh_to_push, sources_below, targets_below}

@@ -7,6 +7,7 @@ ghost use Rattle.chunk_split.specs.Chunks.{vertices_of};
 ghost use Rattle.symple_face.specs.PartViews.{plain_of};
 ghost use Rattle.symple_face.specs.PartsOf.{part_of, parts_of};
 ghost use Rattle.mirror_table.specs.Shares.{IsShare};
+ghost use Rattle.mirror_table.specs.Weights.{HasWeights};
 
 use crate::degrees::{chosen, degrees, known};
 use crate::edges::{deal, taken};
@@ -19,6 +20,7 @@ use std::rc::Rc;
 use symple_face::{Degree, Part};
 use vert_base::limits::MACHINES;
 use vert_base::{Edge, Place, Want};
+use word_kinds::edges_have_weights;
 
 fn place(m: u8, machines: u8) -> Place<MACHINES>
     requires machine { m < machines }
@@ -104,12 +106,16 @@ pub fn parts(
         All (λ part. part.split.value ≡ split.now.value) parts.items) }
     ensures graph { IfOk result (λ parts. (n : ℕ) (edges : List Edge) → IsTableOf n edges table →
         AreBelow n edges → map plain_of parts.items ≡ parts_of cuts.now draws edges) }
+    ensures weights { IfOk result (λ _. HasWeights table) }
 {
     let _ends = cuts.ends();
     let _vertices = table.vertices();
     let edges = table.edges();
     let degrees = degrees(alloc, &table)?;
-    let mut shares = deal(alloc, table.into_lists(), cuts)?;
+    let lists = table.into_lists();
+    // An `i32` is read of each edge, which says that it fits 32 bits, and nothing else is done.
+    edges_have_weights(&lists.ins);
+    let mut shares = deal(alloc, lists, cuts)?;
     let mut parts = Vec::with_capacity(alloc, cuts.count() as usize)?;
     for m in 0..cuts.count() {
         let share = Share {
