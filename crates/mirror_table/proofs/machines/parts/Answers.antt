@@ -23,17 +23,23 @@ deal-requires-clause-targets c =
     let n = vertices_of c.args.cuts.now in
     let list = c.args.table.list in
     let outs = c.into_lists-lists.result.outs.items in
-    let below : AreBelow n list = subst (λ (q : ℕ). AreBelow q list) (c.vertices-vertices.ensures.value ∙ sym c.requires) c.vertices-vertices.ensures.below in
-    targets_below n outs (order_below source n list outs below (c.into_lists-lists.ensures.outs ∙ ap (λ q. in_order source q list) (sym c.requires)))
+    let below : AreBelow n list = subst (λ (q : ℕ). AreBelow q list) (c.vertices-vertices.ensures.value
+    ∙ sym c.requires) c.vertices-vertices.ensures.below in
+    targets_below n outs (order_below source n list outs below (c.into_lists-lists.ensures.outs
+    ∙ ap (λ q. in_order source q list) (sym c.requires)))
 
 pub loop-m-init : goal.loop-m-init
 loop-m-init c =
     let list = c.args.table.list in
     record {
       parts = ap (map plain_of) c.in_ok-parts.ensures.items;
-      split = subst (λ (ps : List Part). All (λ part. part.split.value ≡ c.args.split.now.value) ps) (sym c.in_ok-parts.ensures.items) (All-nil (λ (part : Part). part.split.value ≡ c.args.split.now.value));
-      left = all_left c.args.table.vertices c.args.cuts.now list c.into_lists-lists.result.ins.items c.into_lists-lists.result.outs.items (lists_in c.in_ok-shares.shares.scans.items) (lists_in c.in_ok-shares.shares.pushes.items)
-          c.requires c.into_lists-lists.ensures.order c.into_lists-lists.ensures.ins c.into_lists-lists.ensures.outs c.in_ok-shares.ensures.scans c.in_ok-shares.ensures.pushes;
+      split = subst (λ (ps : List Part). All (λ part. part.split.value ≡ c.args.split.now.value) ps)
+          (sym c.in_ok-parts.ensures.items) (All-nil (λ (part : Part). part.split.value ≡ c.args.split.now.value));
+      left = all_left c.args.table.vertices c.args.cuts.now list c.into_lists-lists.result.ins.items
+          c.into_lists-lists.result.outs.items (lists_in c.in_ok-shares.shares.scans.items)
+          (lists_in c.in_ok-shares.shares.pushes.items)
+          c.requires c.into_lists-lists.ensures.order c.into_lists-lists.ensures.ins c.into_lists-lists.ensures.outs
+          c.in_ok-shares.ensures.scans c.in_ok-shares.ensures.pushes;
     }
 
 pub loop-m-preserved : goal.loop-m-preserved
@@ -46,12 +52,14 @@ loop-m-preserved c =
     let size : c.vertices-vertices.result ≡ vertices_of ends = c.vertices-vertices.ensures.value ∙ sym c.requires in
     let within : vertices_of ends ≤ VERTICES = omega (arith, size, c.vertices-vertices.ensures.within) in
     let few : length list ≤ EDGES = omega (arith, c.edges-edges.ensures.value, c.edges-edges.ensures.within) in
-    let share : IsShare ends list c.edges-edges.result c.deref-in-loop-m.result.now m c.taken.result.items c.taken-in-loop-m.result.items = record {
+    let share : IsShare ends list c.edges-edges.result c.deref-in-loop-m.result.now m c.taken.result.items
+    c.taken-in-loop-m.result.items = record {
       within = within;
       few = few;
       below = subst (λ (q : ℕ). AreBelow q list) size c.vertices-vertices.ensures.below;
       counted = c.edges-edges.ensures.value;
-      known = c.deref-in-loop-m.ensures.value ∙ (c.in_ok-degrees.ensures ∙ ap (λ q. map (degree_in list list) (range_with_len 0 q)) (sym c.requires));
+      known = c.deref-in-loop-m.ensures.value
+          ∙ (c.in_ok-degrees.ensures ∙ ap (λ q. map (degree_in list list) (range_with_len 0 q)) (sym c.requires));
       scanned = c.taken.ensures.list ∙ c.loop-m.invariant.left.scan_each m self here;
       pushed = c.taken-in-loop-m.ensures.list ∙ c.loop-m.invariant.left.push_each m self here;
     } in
