@@ -1,5 +1,5 @@
 -- How the emissions to a slot, or the values of a total, become one.
-use Rattle.std.specs.Prelude.{ℕ, ℤ, pos, negsuc, ◌+◌, ◌-◌, ◌^◌, ◌==◌, ◌+ℤ◌, List, [], ◌∷◌, map, filter, fold, Option, Some, None}
+use Rattle.std.specs.Prelude.{ℕ, Bool, true, false, ℤ, pos, negsuc, ◌+◌, ◌-◌, ◌^◌, ◌==◌, ◌+ℤ◌, List, [], ◌∷◌, map, filter, fold, Option, Some, None}
 use Rattle.std.specs.Int.{w64, int_wrap, int_min, int_max}
 use Rattle.vert_base.specs.declared.value.Combine.{Combine}
 use Rattle.vert_base.specs.declared.value.Combine.TheVariants.{Min, Max, Sum, First}

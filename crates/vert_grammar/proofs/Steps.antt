@@ -1,5 +1,5 @@
 -- What the readers of the grammar do at each step, by their definitions.
-use Rattle.std.proofs.Common.{◌≡◌, ◌×◌, ℕ, zero, suc, pred, ◌≤◌, ◌<◌, true, false, eqb, ltb, List, [], ◌∷◌, Result, Ok, Err, refl, ap, arith}
+use Rattle.std.proofs.Common.{◌≡◌, ℕ, zero, suc, pred, ◌≤◌, ◌<◌, true, false, eqb, ltb, List, [], ◌∷◌, Result, Ok, Err, refl, ap, arith}
 use Rattle.std.specs.Prelude.{◌&&◌}
 use Rattle.std.proofs.lemmas.Bool.{eq-eqb, ne_eqb, le-ltb, lt-ltb}
 use Rattle.vert_lex.specs.Text.{Placed}

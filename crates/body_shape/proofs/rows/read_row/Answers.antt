@@ -16,7 +16,7 @@ returns c =
     let one : c.args.width + 1 ≡ suc c.args.width = omega arith in ap (λ w. 8 * w * c.args.place) one in
     let fields = c.read_words.ensures ∙ ap (λ k. words_in width (drop k body)) start in
     let active =
-    c.bool_of_word-row.ensures
+    c.is_set-row.ensures
     ∙ ap is_set (to_z-of_z w64 c.word_at.result (sfits_of c.word_at.type_inv) ∙ c.word_at.ensures)
     ∙ ap (λ k. is_set (word_of (take 8 (drop (k + 8 * width) body)))) start
     ∙ ap (λ bytes. is_set (word_of (take 8 bytes))) (sym (drop-drop (8 * width) (8 * suc width * c.args.place) body)) in
