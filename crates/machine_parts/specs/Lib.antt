@@ -3,5 +3,6 @@ pub mod Entering
 pub mod Flat
 pub mod Judging
 pub mod Neighbours
+pub mod Sending
 pub mod Spans
 pub mod Updates
