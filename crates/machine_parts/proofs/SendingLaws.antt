@@ -1,10 +1,10 @@
 -- What vertices send, one after another.
-use Rattle.std.proofs.Common.{◌≡◌, ℕ, zero, suc, ℤ, ◌+◌, ◌-◌, ◌/◌, ◌<◌, ◌≤◌, Bool, true, false, cond, Option, Some, None, Result, Ok, Err, OnOk, List, [], ◌∷◌, ◌++◌, length, get_or, set, take, drop, map, replicate, refl, sym, ap, subst, ◌∙◌, arith, length-append}
-use Rattle.std.proofs.lemmas.List.{append_assoc, drop_at, drop_more, length-map, length-replicate, length-take-le, map_more, set-get_or, set_at}
+use Rattle.std.proofs.Common.{◌≡◌, ℕ, zero, suc, ℤ, ◌+◌, ◌-◌, ◌/◌, ◌<◌, ◌≤◌, Bool, true, false, Option, Some, None, Result, Ok, Err, OnOk, List, [], ◌∷◌, ◌++◌, length, get_or, set, take, drop, map, replicate, refl, sym, ap, ◌∙◌, arith, length-append}
+use Rattle.std.proofs.lemmas.List.{append_assoc, drop_at, length-map, length-replicate, length-take-le, map_more, set_at}
 use Rattle.vert_base.specs.declared.graph.VertexId.{VertexId}
 use Rattle.body_shape.specs.Fit.{bit_len}
 use Rattle.body_shape.specs.Places.{places, there}
-use Rattle.body_shape.specs.Push.{AddsSend, bit_bytes, bytes_with, push_body}
+use Rattle.body_shape.specs.Push.{AddsSend, bit_bytes, push_body}
 use Rattle.body_shape.specs.Refresh.{rows_bytes}
 use Rattle.body_shape.proofs.FlagLaws.{length-bytes_with}
 use Rattle.vert_base.specs.declared.value.Row.{Row}
@@ -32,8 +32,13 @@ module _ (f : VertexId → Option (List ℤ)) (list : List VertexId) (at : ℕ) 
   pub upto_count : at ≤ length list → length (sends_upto f at list) ≡ length list
   upto_count le =
       let none : List Sends = replicate (length list - at) None in
-      omega (arith, length-append (map f (take at list)) none, front_count le, length-replicate {A = Sends} (length
-          list - at) None)
+      omega (
+        arith,
+        length-append (map f (take at list)) none,
+        front_count le,
+        length-replicate {A = Sends} (length
+            list - at) None,
+      )
 
   none_there : (n : ℕ) → there {X = List ℤ} (replicate n None) ≡ []
   none_there zero = refl
@@ -42,7 +47,7 @@ module _ (f : VertexId → Option (List ℤ)) (list : List VertexId) (at : ℕ) 
   pub upto_rest : at ≤ length list → there (drop at (sends_upto f at list)) ≡ []
   upto_rest le =
       ap there (drop_at (map f (take at list)) (replicate (length list - at) None) at (front_count le)) ∙
-          none_there (length list - at)
+      none_there (length list - at)
 
   pub upto_more : (d : VertexId) → at < length list → set (sends_upto f at list) at (f (get_or list at d)) ≡
       sends_upto f (at + 1) list
@@ -61,8 +66,14 @@ pub has_bit : (sends : List (Option (List ℤ))) (body : List ℕ) (at : ℕ) �
 has_bit sends body at is lt =
     let flags : List Bool = places sends in
     let size : length (bit_bytes flags) ≡ bit_len (length flags) = length-bytes_with (bit_len (length flags)) flags in
-    omega (arith, ap length is, length-append (bit_bytes flags) (rows_bytes (there sends)), size, length-map sends
-        (λ (s : Sends). is_there s))
+    omega (
+      arith,
+      ap length is,
+      length-append (bit_bytes flags) (rows_bytes (there sends)),
+      size,
+      length-map sends
+          (λ (s : Sends). is_there s),
+    )
   where
     is_there : Sends → Bool
     is_there None = false
@@ -93,20 +104,23 @@ on_ok_more (Err e) P Q more holds = tt
 pub bit_within : (f : VertexId → Option (List ℤ)) (list : List VertexId) (at : ℕ) (body : List ℕ) → body ≡
     push_body (sends_upto f at list) →
     at < length list → at / 8 < length body
-bit_within f list at body is lt = has_bit (sends_upto f at list) body at is (omega (arith, upto_count f list at
-    (omega arith)))
+bit_within f list at body is lt = has_bit (sends_upto f at list) body at is (omega (
+  arith,
+  upto_count f list at
+      (omega arith),
+))
 
 -- one vertex more
 pub vertex_told : (sparse : Sparse) (rows : List Row) (degrees : List Degree) (start at : ℕ) (list : List VertexId)
     (d : VertexId) (e : Degree)
     (first now read env : Env) (old new : List ℕ) → ArePlaced start (length rows) list → length degrees ≡ length
-        rows → at < length list →
+    rows → at < length list →
     settled now ≡ settled first → read ≡ with_rows (row_at rows ((get_or list at d).0 - start)) now →
     env ≡ entered (get_or list at d).0 (get_or degrees ((get_or list at d).0 - start) e) 0 read →
     old ≡ push_body (sends_upto (λ v. own_sends sparse rows degrees start first (v.0 - start)) at list) →
     TellsSends old at (sends_at (Some sparse) env) new →
     (settled env ≡ settled first) × (new ≡ push_body (sends_upto (λ v. own_sends sparse rows degrees start first
-        (v.0 - start)) (at + 1) list))
+    (v.0 - start)) (at + 1) list))
 vertex_told sparse rows degrees start at list d e first now read env old new placed each lt same read_is entered_is
     so_far tells =
     let f : VertexId → Option (List ℤ) = λ v. own_sends sparse rows degrees start first (v.0 - start) in
@@ -115,13 +129,12 @@ vertex_told sparse rows degrees start at list d e first now read env old new pla
     let whole : (get_or list at d).0 ≡ start + ((get_or list at d).0 - start) = omega (arith, own.0) in
     let inside : (get_or list at d).0 - start < length degrees = omega (arith, own.1, each) in
     let here : env ≡ entered (start + ((get_or list at d).0 - start)) (get_or degrees ((get_or list at d).0 -
-        start) e) 0 read =
-        entered_is ∙ ap (λ v. entered v (get_or degrees place e) 0 read) whole in
-    let sends : List Sends = sends_upto f at list in
-    (
+    start) e) 0 read =
+    entered_is ∙ ap (λ v. entered v (get_or degrees place e) 0 read) whole in
+    let sends : List Sends = sends_upto f at list in (
       settled_here rows degrees start place first now read env e same read_is here,
       tells sends so_far (omega (arith, upto_count f list at (omega arith))) (upto_rest f list at (omega arith))
-      ∙ ap (λ s. push_body (set sends at s)) (ap (sends_at (Some sparse)) (own_here rows degrees start place first
+          ∙ ap (λ s. push_body (set sends at s)) (ap (sends_at (Some sparse)) (own_here rows degrees start place first
           now read env e same read_is here inside))
-      ∙ ap push_body (upto_more f list at d lt),
+          ∙ ap push_body (upto_more f list at d lt),
     )

@@ -178,7 +178,7 @@ module _ (end : Edge → ℕ) (edges : List Edge) (order : IsNonDecreasingBy end
       let none : (P : Edge → Type 0) (xs : List Edge) → All P xs → ((e : Edge) → P e → end e ≡ k → ⊥)
       → filter same xs ≡ [] =
       λ P xs all other. filter_none same xs (all_weaker P (λ e. same e ≡ false) (λ e p. ne_eqb (end e) k (other e
-          p)) xs
+      p)) xs
       (recursion_from_All P xs all)) in
       let mid : filter same (take (prefix_len same (drop start edges)) (drop start edges))
       ≡ take (prefix_len same (drop start edges)) (drop start edges) =
@@ -328,7 +328,7 @@ ordered_below end n xs ys is = subst (All (λ e. end e < n)) (sym is)
 pub first_sources_are : (edges : List Edge) (span : Span) (sources part : List VertexId) (count : ℕ) → span.start +
     count ≤ span.end →
     IsSpan target edges span → map (λ v. v.0) sources ≡ map source edges → part ≡ slice_range sources span.start
-        (span.start + count) →
+    (span.start + count) →
     map (λ v. v.0) part ≡ map source (take count (bucket target span.vertex.0 edges))
 first_sources_are edges span sources part count within is same here =
     let number : VertexId → ℕ = λ v. v.0 in
@@ -337,10 +337,10 @@ first_sources_are edges span sources part count within is same here =
     ap (map number) (here ∙ ap (λ n. take n (drop span.start sources)) size)
     ∙ sym (take-map number count (drop span.start sources) ∙ refl)
     ∙ ap (take count) (sym (drop-map number span.start sources) ∙ ap (drop span.start) same ∙ drop-map source
-        span.start edges)
+    span.start edges)
     ∙ take-map source count (drop span.start edges)
     ∙ ap (map source) (sym (take-take count (span.end - span.start) (drop span.start edges) less) ∙ ap (take count)
-        is.stand)
+    is.stand)
 
 -- where a test holds of the first elements alone, these are those that pass it
 module _ {X : Type 0} (p q : X → Bool) (xs : List X) (i : ℕ) (d : X) (within : i ≤ length xs)
@@ -371,9 +371,9 @@ module _ {X : Type 0} (p q : X → Bool) (xs : List X) (i : ℕ) (d : X) (within
       sym (ap (filter q) (sym (take-append-drop i xs))
       ∙ filter-append q (take i xs) (drop i xs)
       ∙ ap (λ ys. ys ++ filter q (drop i xs)) (filter_none q (take i xs) (all_weaker (λ y. p y ≡ true) (λ y. q y ≡
-          false) (λ y h. other y ∙ ap not h) (take i xs) front))
+      false) (λ y h. other y ∙ ap not h) (take i xs) front))
       ∙ filter_all q (drop i xs) (all_weaker (λ y. p y ≡ false) (λ y. q y ≡ true) (λ y h. other y ∙ ap not h) (drop
-          i xs) behind))
+      i xs) behind))
 
 below_too : (a b v : ℕ) → a ≤ b → nat_lt b v ≡ true → nat_lt a v ≡ true
 below_too a b v le h = grind (arith, nat_tests)
@@ -397,7 +397,7 @@ within_bounds a b spans below is =
     ap (filter (λ s. nat_le a (vertex_of s))) is
     ∙ filter_filter (λ s. nat_le a (vertex_of s)) (λ s. nat_lt (vertex_of s) b) spans
     ∙ filter_agree (λ s. nat_lt (vertex_of s) b && nat_le a (vertex_of s)) (λ s. nat_le a (vertex_of s) && nat_lt
-        (vertex_of s) b)
+    (vertex_of s) b)
     (λ s. and_turned (nat_lt (vertex_of s) b) (nat_le a (vertex_of s))) spans
   where
     and_turned : (x y : Bool) → (x && y) ≡ (y && x)
@@ -412,4 +412,4 @@ pub below_in_order : (b : ℕ) (spans below : List Span) → below ≡ filter (�
     IsNonDecreasingBy vertex_of below
 below_in_order b spans below is up =
     subst (IsNonDecreasingBy vertex_of) (sym is) (IsNonDecreasingBy-filter vertex_of (λ s. nat_lt (vertex_of s) b)
-        spans up)
+    spans up)

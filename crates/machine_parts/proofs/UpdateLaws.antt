@@ -224,7 +224,8 @@ module _ (key place i : ℕ) (told : List (Option ℤ)) (first now : Rows Partia
         ap (with_told key x i) row_now ∙ sym (row_more key i told x row lt (omega (arith, wide)) here) in
         put
         ∙ ap (λ (r : List Partial). record now { rows = set now.rows place r }) next
-        ∙ ap (λ (p : Rows Partial). record p { rows = set p.rows place (with_values key (take (i + 1) told) row) }) so_far
+        ∙ ap (λ (p : Rows Partial). record p { rows = set p.rows place (with_values key (take (i + 1) told) row) })
+        so_far
         ∙ (λ j. record first { rows = set-set first.rows place old (with_values key (take (i + 1) told) row) j })
 
 -- what is left, over the partials with one vertex more

@@ -41,7 +41,7 @@ pub fn push_body(
     requires names { AreSendsPlaced (own_counts rows.now.width env.old) sparse.now }
     ensures { IfOk result (λ body. body.items
         ≡ push_body (map (λ v. own_sends sparse.now rows.now.rows degrees.now start env.old
-            (v.0 - start)) list.now)) }
+        (v.0 - start)) list.now)) }
 {
     let count = list.len();
     let size = count.div_ceil(8) + 8 * sparse.sends.len() * count;

@@ -8,8 +8,9 @@ tell-requires-clause-within c =
 
 pub vertices-preserved : goal.vertices-preserved
 vertices-preserved c =
-    let both = vertex_told c.args.sparse.now c.args.rows.now.rows c.args.degrees.now c.args.start c.vertices.at c.args.list.now
-        _ _ c.args.env.now c.vertices.env c.read_row_of.new.env c.enter.new.env c.vertices.body.items c.tell.new.body.items
-        c.requires.own c.requires.each c.vertices-test.true c.vertices.invariant.env c.read_row_of.ensures.row
-        c.enter.ensures.entered c.vertices.invariant.body c.in_ok-tell.ensures in
+    let both = vertex_told c.args.sparse.now c.args.rows.now.rows c.args.degrees.now c.args.start c.vertices.at
+    c.args.list.now
+    _ _ c.args.env.now c.vertices.env c.read_row_of.new.env c.enter.new.env c.vertices.body.items c.tell.new.body.items
+    c.requires.own c.requires.each c.vertices-test.true c.vertices.invariant.env c.read_row_of.ensures.row
+    c.enter.ensures.entered c.vertices.invariant.body c.in_ok-tell.ensures in
     record { env = both.0; body = both.1 }

@@ -11,5 +11,5 @@ invariant-vertices l = record {
   env : settled l.env ≡ settled l.initial.env;
   body : l.body.items
       ≡ push_body (sends_upto (λ v. own_sends l.sparse l.rows.rows l.degrees l.start l.initial.env (v.0 - l.start))
-          l.at l.list);
+      l.at l.list);
 }

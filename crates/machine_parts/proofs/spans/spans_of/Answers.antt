@@ -12,7 +12,7 @@ spans-init c = spanning_none (key_of c.args.side) c.args.edges.now c.new-spans.r
 pub overflow_add-end : goal.overflow_add-end
 overflow_add-end c =
     let fits = run_fits (key_of c.args.side) c.args.edges.now c.split_at.result.1.now c.spans.start
-        c.run_len-len.result
+    c.run_len-len.result
     c.end_of-vertex.result _ c.spans-test.true c.end_of-vertex.ensures c.split_at.ensures.back c.run_len-len.ensures
     in
     omega (arith, fits.0, c.requires.few)
@@ -20,7 +20,7 @@ overflow_add-end c =
 pub overflow_cast-end : goal.overflow_cast-end
 overflow_cast-end c =
     let fits = run_fits (key_of c.args.side) c.args.edges.now c.split_at.result.1.now c.spans.start
-        c.run_len-len.result
+    c.run_len-len.result
     c.end_of-vertex.result _ c.spans-test.true c.end_of-vertex.ensures c.split_at.ensures.back c.run_len-len.ensures
     in
     omega (arith, fits.0, c.requires.few)
@@ -28,7 +28,7 @@ overflow_cast-end c =
 pub spans-smaller : goal.spans-smaller
 spans-smaller c =
     let fits = run_fits (key_of c.args.side) c.args.edges.now c.split_at.result.1.now c.spans.start
-        c.run_len-len.result
+    c.run_len-len.result
     c.end_of-vertex.result _ c.spans-test.true c.end_of-vertex.ensures c.split_at.ensures.back c.run_len-len.ensures
     in
     omega (arith, fits.0, fits.1)
@@ -39,7 +39,7 @@ spans-preserved c =
     let stop = ap (λ n. start + n) (c.run_len-len.ensures ∙ ap
     (prefix_len (λ e. key_of c.args.side e == c.end_of-vertex.result)) c.split_at.ensures.back) in
     spanning_more (key_of c.args.side) c.args.edges.now c.spans.start _ c.end_of-vertex.result _
-        c.spans.spans.items _ _
+    c.spans.spans.items _ _
     c.requires.order c.spans-test.true c.end_of-vertex.ensures stop refl c.in_ok-push.ensures.items
     c.spans.invariant
 

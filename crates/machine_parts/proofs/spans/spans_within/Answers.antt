@@ -11,4 +11,4 @@ pub returns : goal.returns
 returns c =
     c.split_at_vertex-2.ensures.others
     ∙ within_bounds c.args.start c.args.end c.args.spans.now c.split_at_vertex.result.0.now
-        c.split_at_vertex.ensures.below
+    c.split_at_vertex.ensures.below
