@@ -1,7 +1,9 @@
-ghost use Rattle.machine_parts.specs.Seen.{OwnIsSeen};
+ghost use Rattle.machine_parts.specs.Seen.{OwnEdgesAreSeen, OwnIsSeen, OwnTotalIsSeen};
 
-/// The law that an environment entered at an own vertex is the one that a machine sees there. It
-/// does nothing.
+/// The law that an environment entered at an own vertex is the one that a machine sees there, and
+/// that what is counted of own vertices is what it sees of them. It does nothing.
 pub fn own_vertices()
-    ensures { OwnIsSeen }
+    ensures seen { OwnIsSeen }
+    ensures total { OwnTotalIsSeen }
+    ensures edges { OwnEdgesAreSeen }
 {}
