@@ -1,6 +1,7 @@
 -- Where the edges of each vertex stand in a list of edges.
 use Rattle.std.specs.Prelude.{◌≡◌, ◌≤◌, ◌<◌, ℕ, List, length, map, slice_range}
 use Rattle.std.specs.List.{All}
+use Rattle.std.specs.List.Sorted.{IsNonDecreasingBy}
 use Rattle.vert_base.specs.declared.graph.Edge.{Edge}
 use Rattle.vert_base.specs.Neighbours.{bucket, source, target}
 use Rattle.chunk_split.specs.Chunks.{vertices_of}
@@ -21,6 +22,11 @@ pub record IsSpan (end : Edge → ℕ) (edges : List Edge) (s : Span) : Type 0 w
 pub record AreSpans (end : Edge → ℕ) (n : ℕ) (edges : List Edge) (spans : List Span) : Type 0 where
   pub vertices : map vertex_of spans ≡ ends_met end n edges
   pub each : All (IsSpan end edges) spans
+
+-- spans stand by ascending vertex
+abbrev pub SpansRise : Type 0
+SpansRise = (end : Edge → ℕ) (n : ℕ) (edges : List Edge) (spans : List Span) → AreSpans end n edges spans →
+    IsNonDecreasingBy vertex_of spans
 
 -- the tables of a part: the targets of what is scanned, the sources of what is pushed over, each with its edges,
 -- and the source of each edge that is scanned

@@ -24,7 +24,7 @@ pub use counting::{active_rows, edges_ahead};
 pub use environment::{Setting, enter, new_env, read_row_of};
 pub use groups::Groups;
 pub use judging::rule;
-pub use laws::own_vertices;
+pub use laws::{own_vertices, rising_spans};
 pub use missing::first_missing;
 pub use part_feed::PartFeed;
 pub use ring_half::RingHalf;
