@@ -4,5 +4,6 @@ pub mod MissingLaws
 pub mod SeenLaws
 pub mod SendingLaws
 pub mod SpanLaws
+pub mod TargetLaws
 pub mod TotalLaws
 pub mod UpdateLaws

@@ -1,5 +1,5 @@
 ghost use Rattle.machine_parts.specs.Seen.{OwnEdgesAreSeen, OwnIsSeen, OwnTotalIsSeen};
-ghost use Rattle.machine_parts.specs.Spans.{SpansRise};
+ghost use Rattle.machine_parts.specs.Spans.{SpansRise, TargetsAreTold};
 
 /// The law that an environment entered at an own vertex is the one that a machine sees there, and
 /// that what is counted of own vertices is what it sees of them. It does nothing.
@@ -9,7 +9,9 @@ pub fn own_vertices()
     ensures edges { OwnEdgesAreSeen }
 {}
 
-/// The law that spans stand by ascending vertex, which its clause says. It does nothing.
+/// The law that spans stand by ascending vertex, and that the targets in a chunk are the vertices
+/// whose rows its machine tells. It does nothing.
 pub fn rising_spans()
-    ensures { SpansRise }
+    ensures rise { SpansRise }
+    ensures told { TargetsAreTold }
 {}
