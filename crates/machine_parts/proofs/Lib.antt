@@ -1,6 +1,9 @@
 pub mod CountLaws
 pub mod FlatLaws
 pub mod MissingLaws
+pub mod SeenLaws
+pub mod SendingLaws
 pub mod SpanLaws
+pub mod TargetLaws
 pub mod TotalLaws
 pub mod UpdateLaws

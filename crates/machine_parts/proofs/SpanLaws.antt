@@ -1,12 +1,13 @@
 -- Edges with one end stand side by side in a list in order of it.
 use Rattle.std.proofs.Common.{◌≡◌, ℕ, zero, suc, ◌+◌, ◌-◌, ◌<◌, ◌≤◌, Bool, true, false, ◌||◌, cond, List, [], ◌∷◌, ◌++◌, length, get_or, take, drop, map, refl, ap, sym, subst, ◌∙◌, arith, ⊎_elim}
 use Rattle.std.specs.Prelude.{◌==◌, ◌&&◌, nat_le, nat_lt, not}
-use Rattle.std.proofs.lemmas.List.Kept.{IsNonDecreasingBy-filter}
+use Rattle.std.proofs.lemmas.List.FromFn.{get_or-range_with_len, length-range_with_len}
+use Rattle.std.proofs.lemmas.List.Kept.{AllPairs-from_increasing, IsNonDecreasingBy-filter, IsStrictlyIncreasing-filter}
 use Rattle.std.specs.List.{All, AllByRecursion, filter, list_any, prefix_len, range_with_len, slice_range}
-use Rattle.std.specs.List.Sorted.{IsNonDecreasingBy, IsPartitionPoint, IsPartitionedBy}
+use Rattle.std.specs.List.Sorted.{IsNonDecreasingBy, IsPartitionPoint, IsPartitionedBy, IsStrictlyIncreasing}
 use Rattle.std.proofs.lemmas.Bool.Decides.{nat_tests}
-use Rattle.std.proofs.lemmas.Bool.{cases_lt, eq-eqb, eqb-true, ne_eqb, eqb-false}
-use Rattle.std.proofs.lemmas.List.{append-nil, drop-map, get_or-drop, get_or-take, get_or_default, length-drop, length-take, map_push, take-append-drop, take-map, take-take, take_all}
+use Rattle.std.proofs.lemmas.Bool.{cases_eq, cases_lt, eq-eqb, eqb-true, ne_eqb, eqb-false}
+use Rattle.std.proofs.lemmas.List.{append-nil, drop-map, get_or-drop, get_or-map, get_or-take, get_or_default, length-drop, length-map, length-take, map_push, take-append-drop, take-map, take-take, take_all}
 use Rattle.std.proofs.lemmas.List.Elements.{filter_agree, All-from_get_or, All-from_recursion, All-get_or, All-push, filter-append, recursion_from_All}
 use Rattle.std.proofs.lemmas.List.Folds.{list_any-append, list_any_at, list_any_none}
 use Rattle.std.proofs.lemmas.List.Sums.{prefix_len-le-length, prefix_len_is, prefix_len_passes, prefix_len_stops, prefix_len-drop_yes}
@@ -18,7 +19,7 @@ use Rattle.vert_base.proofs.Orders.{Rises, in_order_below, in_order_rises}
 use Rattle.graph_table.proofs.FilterLaws.{all_range, all_weaker, filter_all, filter_filter, filter_none, filter_same}
 use Rattle.circulant_plan.proofs.SpanLaws.{range_split}
 use Rattle.symple_face.specs.Parts.{ends_met}
-use Rattle.machine_parts.specs.Spans.{AreSpans, IsSpan, vertex_of}
+use Rattle.machine_parts.specs.Spans.{AreSpans, IsSpan, SpansRise, vertex_of}
 use Rattle.machine_parts.specs.declared.spans.Span.{Span}
 
 -- whether a vertex is an end of one of the edges
@@ -413,3 +414,24 @@ pub below_in_order : (b : ℕ) (spans below : List Span) → below ≡ filter (�
 below_in_order b spans below is up =
     subst (IsNonDecreasingBy vertex_of) (sym is) (IsNonDecreasingBy-filter vertex_of (λ s. nat_lt (vertex_of s) b)
     spans up)
+
+range_rises : (n : ℕ) → IsStrictlyIncreasing (range_with_len 0 n)
+range_rises n k lt =
+    let inside : k + 1 < n = omega (arith, length-range_with_len 0 n) in
+    omega (arith, get_or-range_with_len 0 n k 0 (omega arith), get_or-range_with_len 0 n (k + 1) 0 inside)
+
+pub spans_rise : SpansRise
+spans_rise end n edges spans are i j d le lt =
+    let ids : List ℕ = map vertex_of spans in
+    let increasing : IsStrictlyIncreasing (map vertex_of spans) =
+    subst IsStrictlyIncreasing (sym are.vertices)
+    (IsStrictlyIncreasing-filter (met end edges) (range_with_len 0 n) (range_rises n)) in
+    ⊎_elim
+    (λ (same : i ≡ j). let here : vertex_of (get_or spans i d) ≡ vertex_of (get_or spans j d) =
+    ap (λ k. vertex_of (get_or spans k d)) same in omega arith)
+    (λ (other : i ≡ j → ⊥).
+    let low : i < j = omega arith in
+    let within : j < length (map vertex_of spans) = omega (arith, length-map spans vertex_of) in
+    let above = AllPairs-from_increasing ids increasing i j 0 low within in
+    omega (arith, above, get_or-map vertex_of spans i d 0 (omega arith), get_or-map vertex_of spans j d 0 lt))
+    (cases_eq i j)

@@ -3,5 +3,7 @@ pub mod Entering
 pub mod Flat
 pub mod Judging
 pub mod Neighbours
+pub mod Seen
+pub mod Sending
 pub mod Spans
 pub mod Updates

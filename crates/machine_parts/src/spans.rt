@@ -75,7 +75,8 @@ pub fn first_sources<'a>(sources: &'a [VertexId], span: &Span, count: u32) -> &'
     requires within { span.now.end ≤ length sources.now }
     ensures { (edges : List Edge) → IsSpan target edges span.now
         → map (λ v. v.0) sources.now ≡ map source edges
-        → map (λ v. v.0) result.now ≡ map source (take count (bucket target span.now.vertex.0 edges)) }
+        → map (λ v. v.0) result.now
+        ≡ map source (take count (bucket target span.now.vertex.0 edges)) }
 {
     let start = span.start as usize;
     &sources[start..start + count as usize]

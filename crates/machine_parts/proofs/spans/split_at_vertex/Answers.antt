@@ -1,5 +1,5 @@
 -- A search by halves finds where the vertices reach a number.
-use Rattle.std.proofs.Common.{[], List, length, ◌∙◌, rules, of_calls}
+use Rattle.std.proofs.Common.{◌∙◌, rules, of_calls}
 use Rattle.std.specs.Prelude.{nat_le, nat_lt}
 use Rattle.std.proofs.lemmas.Fn.{always_returns_same}
 use Rattle.machine_parts.specs.declared.spans.Span.{Span}
