@@ -1,6 +1,6 @@
 -- The close of a dense round at a vertex makes the source's row.
-use Rattle.std.proofs.Common.{◌≡◌, ◌<◌, ◌+◌, ◌⊎◌, inl, inr, ℕ, zero, suc, ℤ, Bool, true, false, List, [], ◌∷◌, ◌++◌, length, map, refl, sym, ap, subst, ◌∙◌, Option, None, Some, append-nil, arith}
-use Rattle.std.specs.Prelude.{◌==◌, drop, if◌then◌else◌, nat_lt, option_map, option_to_list, slice_get, slice_index_or, take, unwrap_or}
+use Rattle.std.proofs.Common.{◌≡◌, ◌<◌, ◌+◌, ◌⊎◌, inl, inr, ℕ, suc, ℤ, Bool, true, false, List, [], ◌∷◌, ◌++◌, length, refl, sym, ap, subst, ◌∙◌, Option, None, append-nil, arith}
+use Rattle.std.specs.Prelude.{drop, if◌then◌else◌, nat_lt, option_map, option_to_list, slice_index_or, take, unwrap_or}
 use Rattle.std.specs.List.{flat_map, range_with_len}
 use Rattle.std.proofs.lemmas.Bool.{eq-eqb, ne_eqb}
 use Rattle.std.proofs.lemmas.List.{length-map}
@@ -34,7 +34,6 @@ use Rattle.circulant_plan.specs.Ring.{AreEndsUpTo, IsInChunk, members_by_steps}
 use Rattle.circulant_plan.proofs.ReadingLaws.{not_below, reads_in_turn}
 use Rattle.circulant_plan.proofs.SpanLaws.{is_below}
 use Rattle.instrument.specs.declared.split.Split.{Split}
-use Rattle.instrument.specs.declared.split.SplitLoop.{SplitLoop}
 use Rattle.instrument.specs.Continued.{IsSplit, whole}
 use Rattle.instrument.specs.Loops.{is_reduced, loop_split, places_where}
 use Rattle.instrument.specs.Segments.{carried_words, given, only_lets, own_words, with_words}
@@ -44,7 +43,7 @@ use Rattle.order_laws.specs.Agreement.{SameButNeighbour}
 use Rattle.value_laws.specs.Blind.{SameButKey}
 use Rattle.value_laws.proofs.Blind.{lets_keyed, run_keyed, tail_anywhere, value_keyed}
 use Rattle.symple_face.specs.CoreClose.{closed_row, closing_words, tail_at, tail_env, values_of}
-use Rattle.symple_face.specs.CoreScan.{mark_after, sent_by_segment, told_words}
+use Rattle.symple_face.specs.CoreScan.{sent_by_segment, told_words}
 use Rattle.symple_face.specs.CoreSight.{none, program_of}
 use Rattle.symple_face.specs.CoreTakes.{classes_of, reduced_ops, slot_count}
 use Rattle.symple_face.specs.Ideal.{told_state}
@@ -60,7 +59,7 @@ use Rattle.round_laws.proofs.Partials.{behind_at, filled_behind, filled_first, s
 use Rattle.round_laws.proofs.Ranges.{joined_more, same_below}
 use Rattle.round_laws.proofs.Readable.{tail_read}
 use Rattle.round_laws.proofs.Seen.{seen_environment}
-use Rattle.round_laws.proofs.Steps.{no_words, unhanded}
+use Rattle.round_laws.proofs.Steps.{unhanded}
 
 -- ---- the closing words
 -- before anything was handed on, the own words stand

@@ -1,8 +1,6 @@
 -- A take of a message that is kept leaves a machine as the source's run says.
-use Rattle.std.proofs.Common.{◌≡◌, ◌⊎◌, inl, inr, ℕ, ℤ, true, List, [], refl, sym, ap, subst, ◌∙◌, Option, None, Some}
+use Rattle.std.proofs.Common.{◌≡◌, inl, inr, ℕ, List, [], refl, sym, ap, subst, ◌∙◌, Option, None, Some}
 use Rattle.std.specs.Prelude.{◌+◌, ◌==◌, ◌&&◌, if◌then◌else◌, is_some, nat_le, nat_lt, not}
-use Rattle.vert_base.specs.declared.message.Name.{Name}
-use Rattle.vert_base.specs.declared.message.NameKind.{NameKind}
 use Rattle.vert_base.specs.declared.message.NameKind.TheVariants as kind
 use Rattle.vert_base.specs.declared.value.Ruling.{Ruling}
 use Rattle.vert_base.specs.declared.value.Ruling.TheVariants as ruling
@@ -14,12 +12,12 @@ use Rattle.circulant_plan.specs.Ring.{order_of}
 use Rattle.body_shape.specs.Verdict.{judged_read}
 use Rattle.symple_face.specs.CoreSight.{body_of, known, known_totals, program_of, total_count}
 use Rattle.symple_face.specs.CoreTakes.{own_partials}
-use Rattle.symple_face.specs.CoreWork.{core_take, kept, taken}
-use Rattle.symple_face.specs.Ideal.{ideal_body, ideal_sent, machines_of, owner_of}
+use Rattle.symple_face.specs.CoreWork.{kept, taken}
+use Rattle.symple_face.specs.Ideal.{ideal_sent, machines_of, owner_of}
 use Rattle.symple_face.specs.Source.{Source, scene, stand}
 use Rattle.symple_face.specs.State.{State, machine}
 use Rattle.round_laws.specs.FoldTakes.{TakesWhatIsKept}
-use Rattle.round_laws.specs.IsIdeal.{HoldsBody, IsIdeal, came_words, dense_words, half_at, awaits_begin, is_open, is_past, is_worked, keys_below, sends_came, sparse_words, step_came, words_by}
+use Rattle.round_laws.specs.IsIdeal.{HoldsBody, IsIdeal, came_words, half_at, awaits_begin, is_open, is_past, is_worked, keys_below, sends_came, sparse_words, step_came, words_by}
 use Rattle.round_laws.specs.Partials.{partial_ops, sent_words}
 use Rattle.round_laws.specs.SparseClose.{push_buckets}
 use Rattle.round_laws.proofs.Held.{all_placed, apart_names, still_found}

@@ -1,16 +1,14 @@
 -- A take of an ideal update leaves a machine as the source's run says.
-use Rattle.std.proofs.Common.{◌≡◌, ◌≢◌, ◌<◌, ◌≤◌, ◌+◌, ◌-◌, ℕ, zero, suc, ℤ, Bool, true, false, List, [], ◌∷◌, ◌++◌, length, map, refl, sym, ap, subst, ◌∙◌, Option, None, Some, append-nil, arith, ⊎_elim}
-use Rattle.std.specs.Prelude.{◌==◌, ◌&&◌, ◌||◌, if◌then◌else◌, is_some, nat_le, nat_lt, option_to_list, replicate, slice_index, slice_index_or}
-use Rattle.std.specs.List.{filter, list_any, range_with_len}
+use Rattle.std.proofs.Common.{◌≡◌, ◌<◌, ◌≤◌, ◌+◌, ◌-◌, ℕ, zero, suc, ℤ, Bool, true, false, List, [], ◌∷◌, ◌++◌, length, map, refl, sym, ap, subst, ◌∙◌, Option, None, Some, append-nil, arith, ⊎_elim}
+use Rattle.std.specs.Prelude.{◌==◌, ◌&&◌, ◌||◌, if◌then◌else◌, is_some, nat_lt, option_to_list, replicate, slice_index, slice_index_or}
+use Rattle.std.specs.List.{filter, list_any}
 use Rattle.std.proofs.lemmas.Bool.{cases_Bool, cases_lt, eq-eqb, eqb-true, ne_eqb}
 use Rattle.std.proofs.lemmas.List.{length-map}
 use Rattle.std.proofs.lemmas.List.FromFn.{get_or-map-range_with_len}
 use Rattle.vert_base.specs.declared.graph.Edge.{Edge}
 use Rattle.vert_base.specs.declared.message.Name.{Name}
 use Rattle.vert_base.specs.declared.message.NameKind.TheVariants as kind
-use Rattle.vert_base.specs.declared.value.Ruling.TheVariants as ruling
 use Rattle.vert_base.specs.Letters.{Letter, found, placed}
-use Rattle.vert_base.specs.Names.{same_name}
 use Rattle.vert_base.specs.Neighbours.{ins_of}
 use Rattle.vert_base.proofs.LetterLaws.{placed_law}
 use Rattle.vert_tree.specs.declared.program.Dense.{Dense}
@@ -39,7 +37,7 @@ use Rattle.symple_face.proofs.ChunkLaws.{lies_high, lies_is, lies_low}
 use Rattle.symple_face.proofs.ListLaws.{other_list}
 use Rattle.round_laws.specs.FoldUpdates.{IsUpdate, TakesUpdates, updated_list}
 use Rattle.round_laws.specs.IdealScans.{RunsDense, step_members}
-use Rattle.round_laws.specs.IsIdeal.{HoldsBody, IsIdeal, came_words, dense_words, half_at, is_open, is_past, keys_below, step_came, words_by}
+use Rattle.round_laws.specs.IsIdeal.{HoldsBody, IsIdeal, came_words, dense_words, half_at, is_past, keys_below, step_came, words_by}
 use Rattle.round_laws.specs.Partials.{partial_ops, sent_words}
 use Rattle.round_laws.specs.Scans.{Sees}
 use Rattle.round_laws.specs.Vertices.{are_some, members_at}

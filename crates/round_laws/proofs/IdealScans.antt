@@ -1,24 +1,21 @@
 -- A scan at a vertex is ideal.
-use Rattle.std.proofs.Common.{◌≡◌, ◌+◌, ℕ, suc, List, ◌++◌, refl, sym, ap, subst, ◌∙◌, Option, None, Some, arith}
+use Rattle.std.proofs.Common.{◌≡◌, ◌+◌, ℕ, suc, List, ◌++◌, sym, ap, subst, ◌∙◌, None, Some, arith}
 use Rattle.vert_base.specs.declared.graph.Edge.{Edge}
 use Rattle.vert_tree.specs.declared.program.Dense.{Dense}
 use Rattle.vert_tree.specs.declared.program.Program.{Program}
 use Rattle.slot_merge.specs.Combine.{slot_values}
 use Rattle.vert_eval.specs.declared.environment.Env.{Env}
 use Rattle.vert_eval.specs.Rounds.{Scene, slot_ops}
-use Rattle.vert_eval.specs.Runs.{Ran}
 use Rattle.instrument.specs.Continued.{IsSplit}
 use Rattle.instrument.specs.Loops.{loop_split}
 use Rattle.dep_layout.specs.Spelling.{State as LoopState}
-use Rattle.body_shape.specs.Update.{Sent}
 use Rattle.symple_face.specs.CoreScan.{Scanned, fresh, scanned, sent_by_segment}
 use Rattle.symple_face.specs.CoreSight.{program_of}
 use Rattle.symple_face.specs.Ideal.{block_env, first_members, ideal_ran, ideal_sent, machines_of, members_in, ran_with, ring_with, state_at, told_state}
 use Rattle.symple_face.specs.Ring.{operands}
-use Rattle.symple_face.specs.Shapes.{reduced_in}
 use Rattle.symple_face.specs.Sight.{Sight}
 use Rattle.symple_face.specs.Source.{Source, scene}
-use Rattle.round_laws.specs.IdealScans.{FreshScansAreIdeal, IsIdealScan, RunsDense, ScansAreIdeal, step_members}
+use Rattle.round_laws.specs.IdealScans.{FreshScansAreIdeal, IsIdealScan, ScansAreIdeal, step_members}
 use Rattle.round_laws.specs.Scans.{ScansAs, Sees, ran_behind, ring_after, width_of}
 use Rattle.round_laws.proofs.Ranges.{steps_more}
 use Rattle.round_laws.proofs.Scans.{reduced_are, scans_afresh, scans_the_ring}

@@ -1,11 +1,9 @@
 -- The rows that the close of a sparse round makes of ideal contents are the source's.
-use Rattle.std.proofs.Common.{◌≡◌, ◌≢◌, ◌⊎◌, inl, inr, ◌<◌, ◌≤◌, ◌+◌, ◌-◌, ℕ, zero, suc, ℤ, Bool, true, false, List, [], ◌∷◌, length, map, refl, sym, ap, subst, ◌∙◌, Option, None, Some, arith, ⊎_elim}
-use Rattle.std.specs.Prelude.{◌==◌, ◌&&◌, if◌then◌else◌, is_some, nat_lt, not, slice_index}
-use Rattle.std.specs.List.{AllByRecursion, filter, flat_map}
-use Rattle.std.proofs.lemmas.Bool.{cases_Bool, cases_lt, eq-eqb, eqb-true, ne_eqb}
-use Rattle.vert_base.specs.declared.graph.Edge.{Edge}
+use Rattle.std.proofs.Common.{◌≡◌, inl, inr, ◌<◌, ◌≤◌, ◌+◌, ◌-◌, ℕ, suc, ℤ, Bool, true, false, List, [], ◌∷◌, length, map, refl, sym, ap, subst, ◌∙◌, Some, arith, ⊎_elim}
+use Rattle.std.specs.Prelude.{◌==◌, ◌&&◌, if◌then◌else◌, is_some, slice_index}
+use Rattle.std.specs.List.{AllByRecursion, flat_map}
+use Rattle.std.proofs.lemmas.Bool.{cases_lt, eq-eqb, ne_eqb}
 use Rattle.vert_base.specs.declared.message.Name.{Name}
-use Rattle.vert_base.specs.declared.message.NameKind.{NameKind}
 use Rattle.vert_base.specs.declared.message.NameKind.TheVariants as kind
 use Rattle.vert_base.specs.declared.value.Ruling.TheVariants as ruling
 use Rattle.vert_base.specs.Letters.{Letter, found}
@@ -24,7 +22,7 @@ use Rattle.circulant_plan.specs.Standing.{Standing}
 use Rattle.circulant_plan.proofs.ReadingLaws.{not_below, turns_at_its_end}
 use Rattle.circulant_plan.proofs.SpanLaws.{is_below}
 use Rattle.graph_table.proofs.FilterLaws.{all_range, all_weaker, filter_none, map_same}
-use Rattle.symple_face.specs.CoreClose.{closed_partials, closed_row, closed_rows}
+use Rattle.symple_face.specs.CoreClose.{closed_row, closed_rows}
 use Rattle.symple_face.specs.CoreSight.{none, own_sight, program_of}
 use Rattle.symple_face.specs.CoreSparse.{key_of}
 use Rattle.symple_face.specs.CoreTakes.{own_partials}

@@ -1,26 +1,25 @@
 -- What a machine sees of the source's round.
-use Rattle.std.proofs.Common.{◌≡◌, ◌≢◌, ◌<◌, ◌≤◌, ◌+◌, ◌-◌, ℕ, Bool, true, false, List, [], ◌∷◌, length, map, refl, sym, ap, subst, ◌∙◌, arith}
+use Rattle.std.proofs.Common.{◌≡◌, ◌<◌, ◌≤◌, ◌-◌, ℕ, Bool, true, false, List, [], ◌∷◌, length, map, refl, sym, ap, subst, ◌∙◌, arith}
 use Rattle.std.specs.Prelude.{◌==◌, ◌&&◌, ◌||◌, if◌then◌else◌, not, slice_index}
-use Rattle.std.specs.List.{AllByRecursion, filter, list_any, range_with_len}
+use Rattle.std.specs.List.{AllByRecursion, list_any}
 use Rattle.std.proofs.lemmas.Bool.{eq-eqb, eqb-true, ne_eqb}
 use Rattle.std.proofs.lemmas.List.{length-map}
 use Rattle.std.proofs.lemmas.List.FromFn.{get_or-map-range_with_len}
 use Rattle.vert_base.specs.declared.graph.Edge.{Edge}
 use Rattle.vert_base.specs.declared.value.Row.{Row}
 use Rattle.vert_base.specs.Neighbours.{ins_of, source}
-use Rattle.vert_eval.specs.Rounds.{Scene, empty_row, indegree, outdegree, row_at}
-use Rattle.chunk_split.specs.Chunks.{AreEnds, vertices_of}
+use Rattle.vert_eval.specs.Rounds.{Scene, empty_row, row_at}
+use Rattle.chunk_split.specs.Chunks.{AreEnds}
 use Rattle.circulant_plan.specs.Names.{refresh_name}
 use Rattle.circulant_plan.specs.Ring.{lies_in, members_with, start_of}
 use Rattle.graph_table.proofs.FilterLaws.{all_map, all_passes, all_weaker, map-map}
-use Rattle.body_shape.specs.Refresh.{HasFields, PlainRow, plain_row, refresh_body, rows_read}
+use Rattle.body_shape.specs.Refresh.{HasFields, PlainRow, plain_row, rows_read}
 use Rattle.body_shape.proofs.RefreshLaws.{refresh_back}
 use Rattle.symple_face.specs.CoreSight.{beside, degree_among, degree_of, field_count, held_body, known_totals, mirror_row, mirrors, own_row, own_sight, sight_at, told_row, told_rows}
-use Rattle.symple_face.specs.declared.degree.Degree.{Degree}
 use Rattle.symple_face.specs.Parts.{PlainPart, chunk_vertices, degree_in, refresh_list}
 use Rattle.symple_face.specs.PartsOf.{known_of, part_of}
 use Rattle.symple_face.specs.Sight.{Sight}
-use Rattle.symple_face.specs.State.{State, machine}
+use Rattle.symple_face.specs.State.{State}
 use Rattle.symple_face.proofs.ChunkLaws.{lies_high, lies_low, lies_within}
 use Rattle.symple_face.proofs.ListLaws.{other_list}
 use Rattle.round_laws.specs.Scans.{Sees, SeesLoop}

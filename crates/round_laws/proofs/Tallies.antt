@@ -1,5 +1,5 @@
 -- The tallies of a round, summed.
-use Rattle.std.proofs.Common.{◌≡◌, ◌≢◌, ◌<◌, ◌≤◌, ◌+◌, ◌-◌, ℕ, zero, suc, ℤ, Bool, true, false, List, [], ◌∷◌, length, map, sum, refl, sym, ap, ◌∙◌, arith, cond}
+use Rattle.std.proofs.Common.{◌≡◌, ◌≢◌, ◌≤◌, ◌+◌, ◌-◌, ℕ, zero, suc, ℤ, Bool, true, false, List, [], ◌∷◌, length, map, sum, refl, sym, ap, ◌∙◌, arith, cond}
 use Rattle.std.specs.Prelude.{fold, get_or, if◌then◌else◌, is_some}
 use Rattle.std.specs.List.{AllByRecursion, filter, list_all, range_with_len}
 use Rattle.std.proofs.lemmas.Bool.{and_parts}
@@ -15,7 +15,7 @@ use Rattle.vert_tree.specs.Limits.{is_limited, is_shallow, mode_stands, names_st
 use Rattle.vert_tree.specs.Places.{is_placed}
 use Rattle.vert_tree.specs.Readable.{declares_once, is_readable, is_total_op, totals_combine}
 use Rattle.vert_tree.specs.Typed.{is_typed}
-use Rattle.slot_merge.specs.Combine.{combined_of, neutral, total_of}
+use Rattle.slot_merge.specs.Combine.{combined_of, total_of}
 use Rattle.vert_eval.specs.Rounds.{empty_row, env_at, outdegree, row_at, vertices_of}
 use Rattle.vert_eval.specs.SourceRun.{active_edges, active_vertices, scene_of, total_after}
 use Rattle.vert_eval.specs.Values.{value_of}

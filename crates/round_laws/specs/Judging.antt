@@ -8,7 +8,7 @@ use Rattle.chunk_split.specs.Chunks.{AreEnds}
 use Rattle.instrument.specs.declared.split.Split.{Split}
 use Rattle.body_shape.specs.Tally.{Counted}
 use Rattle.symple_face.specs.CoreJudge.{counted, ruling_by}
-use Rattle.symple_face.specs.Ideal.{ideal_count, ideal_reads, machines_of}
+use Rattle.symple_face.specs.Ideal.{ideal_count, ideal_reads}
 use Rattle.symple_face.specs.Parts.{chunk_vertices}
 use Rattle.symple_face.specs.PartsOf.{part_of}
 use Rattle.symple_face.specs.Source.{Source, job_of, stand}
