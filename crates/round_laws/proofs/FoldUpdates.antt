@@ -215,6 +215,7 @@ module _ (src : Source) (d : Dense) (most m : ℕ) (state : State) (given : Lett
             lies_is cut (slice_index ends m) v above high
             ∙ ap (λ b. (if b then 0 else 1) == 1) (sym (not_above (start_of ends m) cut v above) ∙ is))
             (cases_lt v cut)
+
         by : (h : ℕ) → h ≤ 1 → is_within (half_in ends m h) v ≡ (half_at src m v == h)
         by zero le = half_zero (is_within (half_in ends m 0) v)
         by (suc zero) le = upper (is_within (half_in ends m 0) v) refl

@@ -146,8 +146,10 @@ module _ (src : Source) (d : Dense) (most m round : ℕ) (state : State) (dense 
         where
           got : ℕ → Bool
           got key = is_some (found (update_name round key (half_at run m v) (order_of m key p) m) state.held)
+
           own : ℕ → Bool
           own key = key + 1 == p && is_past at key (half_at run m v)
+
           last : (key : ℕ) → p ≤ key + 1 → own key ≡ nat_lt key p
           last key late =
               ⊎_elim
@@ -200,6 +202,7 @@ module _ (src : Source) (d : Dense) (most m round : ℕ) (state : State) (dense 
         where
           split_is : loop_carry src.split.dense ≡ (loop_split d).carry
           split_is = ap loop_carry (src.split.split ∙ ap (option_map loop_split) dense)
+
           by : (o : Option Carry) → loop_carry src.split.dense ≡ o → ((loop_split d).carry ≡ None)
               ⊎ (ring_at s v ≡ told_state (width_of src.split) (ring_after sc d env (members_of sc.graph v)))
           by None none = inl (sym split_is ∙ none)

@@ -69,11 +69,12 @@ module _ (src : Source) (d : Dense) (g : Sight) (round v c step key : ℕ)
       (got.state ≡ state_at run round v c (step + 1)) × IsIdealScan run round v c step got
   scan_ideal h sees =
       let scan : LoopState → Scanned = λ st. scanned src.split d g key here v st in
-      let runs = scans_the_ring src.split d g s key v before here h sees in
-      (ap (λ st. (scan st).state) (ring_is step) ∙ runs.0
-      ∙ ap (λ l. told_state (width_of src.split) (ring_after s d env l)) (sym next_is) ∙ sym (ring_is (step + 1)),
-      subst (λ st. IsIdealScan run round v c step (scan st)) (sym (ring_is step))
-      (ideal_by (scan (told_state (width_of src.split) (ring_after s d env before))) h runs.1))
+      let runs = scans_the_ring src.split d g s key v before here h sees in (
+        ap (λ st. (scan st).state) (ring_is step) ∙ runs.0
+            ∙ ap (λ l. told_state (width_of src.split) (ring_after s d env l)) (sym next_is) ∙ sym (ring_is (step + 1)),
+        subst (λ st. IsIdealScan run round v c step (scan st)) (sym (ring_is step))
+            (ideal_by (scan (told_state (width_of src.split) (ring_after s d env before))) h runs.1),
+      )
 
   fresh_ideal : IsSplit (program_of src.split) d env → Sees g s v here → (loop_split d).carry ≡ None →
       IsIdealScan run round v c step (scanned src.split d g key here v (fresh src.split))

@@ -76,6 +76,7 @@ pushes_worked src at x is past (y ∷ ys) all some =
     no_body : (l : Letter) → HoldsBody kind.Push src at l → is_worked (Some l) ≡ true
     no_body l (inl empty) = ap (λ b. length b == 0) empty
     no_body l (inr early) = let wrong : true ≡ false = sym early.1 ∙ past in cc
+
     by : (b : Bool) → same_name y.name x ≡ b → is_some (if b then Some y else found x ys) ≡ true →
         (is_some (found x ys) ≡ true → is_worked (found x ys) ≡ true) → is_worked (if b then Some y else found x ys) ≡ true
     by true same here rest =
@@ -132,6 +133,7 @@ module _ (src : Source) (sparse : Sparse) (most m round : ℕ) (state : State) (
             ∙ pushes_worked src at (push_name round (owner_of ends u) m) refl refl state.held is.bodies
             (closing.taken (owner_of ends u) (owner_low ends u are.0 (subst (λ k. u < k) sized lt))
             (λ e. absurd (clash (sym (eq-eqb (owner_of ends u) m e) ∙ other))))
+
     module _ (v : ℕ) (lies : lies_in ends m v ≡ true) where
       low : start_of ends m ≤ v
       low = lies_low ends m v lies

@@ -139,17 +139,20 @@ closed_more [] (o ∷ own) before xs ts came place h l m leaves = absurd h
 closed_more (c ∷ cs) [] before xs ts came place h l m leaves = absurd h
 closed_more (c ∷ cs) (o ∷ own) [] xs ts came place h l m leaves = absurd h
 closed_more (c ∷ cs) (o ∷ own) (b ∷ before) [] ts came place h l m leaves = absurd m
-closed_more (Constant ∷ cs) (o ∷ own) (b ∷ before) (x ∷ xs) ts came place h l m leaves =
-    (m.0, closed_more cs own before xs ts came (place + 1) h.1 l.1 m.1
-    (λ j op is. leaves (suc j) op is ∙ ap (λ k. left_with op (came k)) (omega arith)))
+closed_more (Constant ∷ cs) (o ∷ own) (b ∷ before) (x ∷ xs) ts came place h l m leaves = (
+  m.0,
+  closed_more cs own before xs ts came (place + 1) h.1 l.1 m.1
+      (λ j op is. leaves (suc j) op is ∙ ap (λ k. left_with op (came k)) (omega arith)),
+)
 closed_more (Carried ∷ cs) (o ∷ own) (b ∷ before) (x ∷ xs) ts came place h l m leaves =
     closed_more cs own before xs ts came (place + 1) h l.1 m.1
     (λ j op is. leaves (suc j) op is ∙ ap (λ k. left_with op (came k)) (omega arith))
 closed_more (Reduced op ∷ cs) (o ∷ own) (b ∷ before) (x ∷ xs) [] came place h l m leaves = absurd h
-closed_more (Reduced op ∷ cs) (o ∷ own) (b ∷ before) (x ∷ xs) (t ∷ ts) came place h l m leaves =
-    (one_operand op o b x t (came place) h.0 l.0 (leaves 0 op refl ∙ ap (λ k. left_with op (came k)) (omega arith)),
-    closed_more cs own before xs ts came (place + 1) h.1 l.1 m.1
-    (λ j other is. leaves (suc j) other is ∙ ap (λ k. left_with other (came k)) (omega arith)))
+closed_more (Reduced op ∷ cs) (o ∷ own) (b ∷ before) (x ∷ xs) (t ∷ ts) came place h l m leaves = (
+  one_operand op o b x t (came place) h.0 l.0 (leaves 0 op refl ∙ ap (λ k. left_with op (came k)) (omega arith)),
+  closed_more cs own before xs ts came (place + 1) h.1 l.1 m.1
+      (λ j other is. leaves (suc j) other is ∙ ap (λ k. left_with other (came k)) (omega arith)),
+)
 
 -- with no operand more
 closed_still : (cs : List Class) (own xs : List ℤ) (ts : List (Option ℤ)) (came : ℕ → Option ℤ) (place : ℕ) →
@@ -163,9 +166,10 @@ closed_still (Constant ∷ cs) (o ∷ own) (x ∷ xs) ts came place none h =
     (h.0, closed_still cs own xs ts came (place + 1) none h.1)
 closed_still (Carried ∷ cs) (o ∷ own) (x ∷ xs) ts came place none h = closed_still cs own xs ts came (place + 1) none h
 closed_still (Reduced op ∷ cs) (o ∷ own) (x ∷ xs) [] came place none h = absurd h
-closed_still (Reduced op ∷ cs) (o ∷ own) (x ∷ xs) (t ∷ ts) came place none h =
-    (h.0 ∙ ap (with_operand op o) (sym (ap (both_of op t) (none place) ∙ nothing_more op t)),
-    closed_still cs own xs ts came (place + 1) none h.1)
+closed_still (Reduced op ∷ cs) (o ∷ own) (x ∷ xs) (t ∷ ts) came place none h = (
+  h.0 ∙ ap (with_operand op o) (sym (ap (both_of op t) (none place) ∙ nothing_more op t)),
+  closed_still cs own xs ts came (place + 1) none h.1,
+)
 
 -- where nothing is marked there is no operand
 pub unmarked_none : (env : Env) (place : ℕ) → env.touched ≡ 0 → operand_at place env ≡ None

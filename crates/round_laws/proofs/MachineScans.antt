@@ -172,9 +172,10 @@ module _ (src : Source) (d : Dense) (most m round step h v : ℕ) (state : State
 
     from_ideal : received_at s round step h v ≡ ideal v → IsIdealHere s
     from_ideal is =
-        let scans = scans_ideal src d g round v c step step runs split sees in
-        (subst (IsIdealScan src round v c step) (sym (scan_is (ideal v) is)) scans.1,
-        λ carries. ap (λ x. x.state) (scan_is (ideal v) is) ∙ scans.0)
+        let scans = scans_ideal src d g round v c step step runs split sees in (
+          subst (IsIdealScan src round v c step) (sym (scan_is (ideal v) is)) scans.1,
+          λ carries. ap (λ x. x.state) (scan_is (ideal v) is) ∙ scans.0,
+        )
 
     split_carry : loop_carry src.split.dense ≡ (loop_split d).carry
     split_carry = ap loop_carry (src.split.split ∙ ap (option_map loop_split) (ap (λ x. x.dense) runs.program ∙ runs.dense))
@@ -196,10 +197,11 @@ module _ (src : Source) (d : Dense) (most m round step h v : ℕ) (state : State
         never : true ≡ false → ⊥
         never e = cc
     by_cases false more is later =
-        let free : (loop_split d).carry ≡ None = sym split_carry ∙ none_carried (loop_carry src.split.dense) is in
-        (subst (IsIdealScan src round v c step) (sym (scan_is (fresh src.split) (received_is false more is later)))
-        (fresh_scans_ideal src d g round v c step step runs split sees free),
-        λ carries. absurd (never (sym carries ∙ is)))
+        let free : (loop_split d).carry ≡ None = sym split_carry ∙ none_carried (loop_carry src.split.dense) is in (
+          subst (IsIdealScan src round v c step) (sym (scan_is (fresh src.split) (received_is false more is later)))
+              (fresh_scans_ideal src d g round v c step step runs split sees free),
+          λ carries. absurd (never (sym carries ∙ is)),
+        )
       where
         never : true ≡ false → ⊥
         never e = cc

@@ -54,15 +54,18 @@ fills_values at [] buckets words bound key [] [] lt tells are = tt
 fills_values at [] buckets words bound key (x ∷ xs) [] lt tells are = tt
 fills_values at [] buckets words bound key xs (q ∷ qs) lt tells are = absurd are
 fills_values at (op ∷ ops) buckets words bound key xs [] lt tells are = absurd are
-fills_values at (op ∷ ops) buckets words bound key [] (q ∷ qs) lt tells are =
-    (filled_still op (buckets at) bound key (words at) q (tells_here at words [] tells) are.0,
-    fills_values (at + 1) ops buckets words bound key [] qs lt (tells_none at words tells) are.1)
-fills_values at (op ∷ ops) buckets words bound key (None ∷ xs) (q ∷ qs) lt tells are =
-    (filled_still op (buckets at) bound key (words at) q (tells_here at words (None ∷ xs) tells) are.0,
-    fills_values (at + 1) ops buckets words bound key xs qs lt (tells_next at words None xs tells) are.1)
-fills_values at (op ∷ ops) buckets words bound key (Some x ∷ xs) (q ∷ qs) lt tells are =
-    (filled_word op (buckets at) bound key (words at) x q lt (tells_here at words (Some x ∷ xs) tells) are.0,
-    fills_values (at + 1) ops buckets words bound key xs qs lt (tells_next at words (Some x) xs tells) are.1)
+fills_values at (op ∷ ops) buckets words bound key [] (q ∷ qs) lt tells are = (
+  filled_still op (buckets at) bound key (words at) q (tells_here at words [] tells) are.0,
+  fills_values (at + 1) ops buckets words bound key [] qs lt (tells_none at words tells) are.1,
+)
+fills_values at (op ∷ ops) buckets words bound key (None ∷ xs) (q ∷ qs) lt tells are = (
+  filled_still op (buckets at) bound key (words at) q (tells_here at words (None ∷ xs) tells) are.0,
+  fills_values (at + 1) ops buckets words bound key xs qs lt (tells_next at words None xs tells) are.1,
+)
+fills_values at (op ∷ ops) buckets words bound key (Some x ∷ xs) (q ∷ qs) lt tells are = (
+  filled_word op (buckets at) bound key (words at) x q lt (tells_here at words (Some x ∷ xs) tells) are.0,
+  fills_values (at + 1) ops buckets words bound key xs qs lt (tells_next at words (Some x) xs tells) are.1,
+)
 
 pub fills_sent : FillsSent
 fills_sent ops buckets bound key sent qs lt are =

@@ -124,9 +124,10 @@ module _ (split : Split) (d : Dense) (g : Sight) (s : Scene) (key v : ℕ) (e : 
   ran_as : (rs : RingState) (ran : Ran) → scan_from rs ≡ scanned_by split d ran →
       ((scan_from rs).state ≡ told_state (width_of split) (state_with ran.flow (given (loop_split d) ran.env)))
       × ScansAs split d (scan_from rs) ran
-  ran_as rs ran is =
-      (ap (λ x. x.state) is ∙ told_with (width_of split) ran.flow (given (loop_split d) ran.env),
-      record { sent = ap (λ x. x.sent) is; reads = ap (λ x. x.reads) is })
+  ran_as rs ran is = (
+    ap (λ x. x.state) is ∙ told_with (width_of split) ran.flow (given (loop_split d) ran.env),
+    record { sent = ap (λ x. x.sent) is; reads = ap (λ x. x.reads) is },
+  )
 
   -- from a ring state, where the test is true
   scans_on : is_set (value_of d.when_test env) ≡ true → (rs : RingState) →
@@ -180,25 +181,27 @@ module _ (split : Split) (d : Dense) (g : Sight) (s : Scene) (key v : ℕ)
       λ members. ap (λ b. if b then state_of s d at_v members else Fresh) test in
       let runs = scans_on split d g s key v e es h sees test (state_of s d at_v before) in
       let ran : ran_behind s d at_v before (e ∷ es) ≡ step_ran s d at_v (e ∷ es) (state_of s d at_v before) =
-      ap (λ b. if b then step_ran s d at_v (e ∷ es) (state_of s d at_v before) else leaves at_v) test in
-      (ap (λ rs. (scan (e ∷ es) rs).state) (chosen before) ∙ runs.0
-      ∙ ap told ((grows s d at_v (program_of split) h before (e ∷ es)).state ∙ sym (chosen (before ++ (e ∷ es)))),
-      record {
-        sent = ap (λ rs. (scan (e ∷ es) rs).sent) (chosen before) ∙ runs.1.sent ∙ ap (sent_by_segment split d) (sym ran);
-        reads = ap (λ rs. (scan (e ∷ es) rs).reads) (chosen before) ∙ runs.1.reads ∙ ap (λ r. r.reads) (sym ran);
-      })
+      ap (λ b. if b then step_ran s d at_v (e ∷ es) (state_of s d at_v before) else leaves at_v) test in (
+        ap (λ rs. (scan (e ∷ es) rs).state) (chosen before) ∙ runs.0
+            ∙ ap told ((grows s d at_v (program_of split) h before (e ∷ es)).state ∙ sym (chosen (before ++ (e ∷ es)))),
+        record {
+          sent = ap (λ rs. (scan (e ∷ es) rs).sent) (chosen before) ∙ runs.1.sent ∙ ap (sent_by_segment split d) (sym ran);
+          reads = ap (λ rs. (scan (e ∷ es) rs).reads) (chosen before) ∙ runs.1.reads ∙ ap (λ r. r.reads) (sym ran);
+        },
+      )
   with_test before e es sees false test =
       let fresh_yet : (members : List Edge) → ring_after s d at_v members ≡ Fresh =
       λ members. ap (λ b. if b then state_of s d at_v members else Fresh) test in
       let by : scan (e ∷ es) (ring_after s d at_v before) ≡ passed split (told Fresh) =
       ap (scan (e ∷ es)) (fresh_yet before) ∙ passes_by split d g s key v e es h sees test in
       let ran : ran_behind s d at_v before (e ∷ es) ≡ leaves at_v =
-      ap (λ b. if b then step_ran s d at_v (e ∷ es) (state_of s d at_v before) else leaves at_v) test in
-      (ap (λ x. x.state) by ∙ ap told (sym (fresh_yet (before ++ (e ∷ es)))),
-      record {
-        sent = ap (λ x. x.sent) by ∙ nothing_is_sent split d at_v h refl ∙ ap (sent_by_segment split d) (sym ran);
-        reads = ap (λ x. x.reads) by ∙ ap (λ r. r.reads) (sym ran);
-      })
+      ap (λ b. if b then step_ran s d at_v (e ∷ es) (state_of s d at_v before) else leaves at_v) test in (
+        ap (λ x. x.state) by ∙ ap told (sym (fresh_yet (before ++ (e ∷ es)))),
+        record {
+          sent = ap (λ x. x.sent) by ∙ nothing_is_sent split d at_v h refl ∙ ap (sent_by_segment split d) (sym ran);
+          reads = ap (λ x. x.reads) by ∙ ap (λ r. r.reads) (sym ran);
+        },
+      )
 
   scans_ring : (before members : List Edge) → Sees g s v members → IsScan before members
   scans_ring before [] sees =

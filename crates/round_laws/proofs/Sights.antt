@@ -203,10 +203,11 @@ module _ (most m : ℕ) (state : State) (sc : Scene) (are : AreEnds most sc.grap
       (sees_by d v (told_at d told v lies) (own_too d told))
 
 pub own_are_seen : OwnAreSeen
-own_are_seen most m s sc are stands =
-    (subst (λ x. SeesScene (own_sight x sc.round) sc) (sym (same most m s sc are stands)) (round_seen most m s sc are stands),
-    λ v lies. subst (λ x. SeesVertex (own_sight x sc.round) sc v) (sym (same most m s sc are stands))
-    (own_seen most m s sc are stands v lies))
+own_are_seen most m s sc are stands = (
+  subst (λ x. SeesScene (own_sight x sc.round) sc) (sym (same most m s sc are stands)) (round_seen most m s sc are stands),
+  λ v lies. subst (λ x. SeesVertex (own_sight x sc.round) sc v) (sym (same most m s sc are stands))
+      (own_seen most m s sc are stands v lies),
+)
 
 pub own_scans_seen : OwnScansAreSeen
 own_scans_seen most m v s sc are stands lies = own_scan most m s sc are stands v lies
