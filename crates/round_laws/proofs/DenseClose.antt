@@ -108,17 +108,21 @@ nothing_joined (k ∷ ks) = nothing_joined ks
 lets_filled : (at place p : ℕ) (cs : List Class) (left : ℕ → Env) (buckets : ℕ → ℕ → List ℤ) (qs : List Partial) →
     AreFilled at (reduced_ops cs) buckets (p + 1) qs →
     ((j k : ℕ) → buckets (at + j) k ≡
-    (if nat_lt k p then option_to_list (slice_index_or (operands (places_where is_reduced place cs) (left k)) j None) else [])) →
+    (if nat_lt k p then option_to_list (slice_index_or (operands (places_where is_reduced place cs) (left k)) j None)
+    else [])) →
     values_of qs ≡ combined_operands left (range_with_len 0 p) place cs
 lets_filled at place p [] left buckets [] are each = refl
 lets_filled at place p [] left buckets (q ∷ qs) are each = absurd are
-lets_filled at place p (Constant ∷ cs) left buckets qs are each = lets_filled at (place + 1) p cs left buckets qs are each
-lets_filled at place p (Carried ∷ cs) left buckets qs are each = lets_filled at (place + 1) p cs left buckets qs are each
+lets_filled at place p (Constant ∷ cs) left buckets qs are each =
+    lets_filled at (place + 1) p cs left buckets qs are each
+lets_filled at place p (Carried ∷ cs) left buckets qs are each =
+    lets_filled at (place + 1) p cs left buckets qs are each
 lets_filled at place p (Reduced op ∷ cs) left buckets [] are each = absurd are
 lets_filled at place p (Reduced op ∷ cs) left buckets (q ∷ qs) are each =
     let words : ℕ → List ℤ = λ k. option_to_list (operand_at place (left k)) in
     let here : at ≡ at + 0 = omega arith in
-    let first : (k : ℕ) → buckets at k ≡ (if nat_lt k p then words k else []) = λ k. ap (λ i. buckets i k) here ∙ each 0 k in
+    let first : (k : ℕ) → buckets at k ≡ (if nat_lt k p then words k else []) = λ k. ap (λ i. buckets i k) here
+    ∙ each 0 k in
     let below : (k : ℕ) → k < p → buckets at k ≡ words k =
     λ k lt. first k ∙ ap (λ b. if b then words k else []) (is_below k p lt) in
     let last : buckets at p ≡ [] = first p ∙ ap (λ b. if b then words p else []) (not_below p p (omega arith)) in
@@ -129,7 +133,8 @@ lets_filled at place p (Reduced op ∷ cs) left buckets (q ∷ qs) are each =
     let next : (j : ℕ) → at + 1 + j ≡ at + suc j = λ j. omega arith in
     ap (λ o. o ∷ values_of qs) value
     ∙ ap (λ os. combined op (operand_words left (range_with_len 0 p) place) ∷ os)
-    (lets_filled (at + 1) (place + 1) p cs left buckets qs are.1 (λ j k. ap (λ i. buckets i k) (next j) ∙ each (suc j) k))
+    (lets_filled (at + 1) (place + 1) p cs left buckets qs are.1
+    (λ j k. ap (λ i. buckets i k) (next j) ∙ each (suc j) k))
 
 -- ---- environments
 -- lets change nothing but the locals
@@ -224,9 +229,11 @@ module _ (split : Split) (d : Dense) (g : Sight) (s : Scene) (p c v : ℕ)
         subst (λ l. AreFilled (length slots) (reduced_ops l) buckets (p + 1) (drop (length slots) ps)) classes_are
         (filled_behind slots (reduced_ops (classes_of split.dense)) buckets (p + 1) ps filled) in
         let each : (j k : ℕ) → buckets (length slots + j) k ≡
-        (if nat_lt k p then option_to_list (slice_index_or (operands (places_where is_reduced 0 cs) (steps k).env) j None) else []) =
+        (if nat_lt k p then option_to_list
+        (slice_index_or (operands (places_where is_reduced 0 cs) (steps k).env) j None) else []) =
         λ j k. ap (λ xs. if nat_lt k p then xs else [])
-        (ap option_to_list (behind_at (slot_values 0 slots (ran k).emitted) (operands (loop_split d).reduced.items (ran k).env)
+        (ap option_to_list (behind_at (slot_values 0 slots (ran k).emitted)
+        (operands (loop_split d).reduced.items (ran k).env)
         (length slots) j (length-slot_values 0 slots (ran k).emitted)
         ∙ ap (λ r. slice_index_or (operands (loop_split d).reduced.items r.env) j None) (runs k))) in
         ap (λ n. values_of (drop n ps)) (sym many)
@@ -288,15 +295,19 @@ module _ (split : Split) (d : Dense) (g : Sight) (s : Scene) (p c v : ℕ)
           (run d.tail.items (tail_env split d seen ps st)).emitted ≡ (run d.tail.items looped.env).emitted
       tail_emits ps filled =
           let locals : List ℤ = looped.env.locals.items in
-          let told : tail_env split d seen ps st ≡ with_words locals seen = ap (λ l. with_words l seen) (lets_are ps filled) in
+          let told : tail_env split d seen ps st ≡ with_words locals seen =
+          ap (λ l. with_words l seen) (lets_are ps filled) in
           ap (λ e. (run d.tail.items e).emitted) told
-          ∙ (run_keyed d.tail.items (with_words locals env) (with_words locals seen) (ap (with_words locals) keyed)).emitted
-          ∙ sym (tail_anywhere d.tail.items (tail_read (program_of split) d h.typed h.dense) (with_words locals env) looped.env
+          ∙ (run_keyed d.tail.items (with_words locals env) (with_words locals seen)
+          (ap (with_words locals) keyed)).emitted
+          ∙ sym (tail_anywhere d.tail.items (tail_read (program_of split) d h.typed h.dense)
+          (with_words locals env) looped.env
           left_env).emitted
 
       -- and the partials have the source's values
       values_are : (ps : List Partial) → AreFilled 0 (partial_ops split) buckets (p + 1) ps →
-          values_of (take (slot_count split) (with_emissions p ps (run d.tail.items (tail_env split d seen ps st)).emitted)) ≡
+          values_of (take (slot_count split)
+          (with_emissions p ps (run d.tail.items (tail_env split d seen ps st)).emitted)) ≡
           slot_values 0 (slot_ops (program_of split)) (gathered (program_of split) ruling.Dense s v).emitted
       values_are ps filled =
           let slots : List Combine = slot_ops (program_of split) in
@@ -308,20 +319,25 @@ module _ (split : Split) (d : Dense) (g : Sight) (s : Scene) (p c v : ℕ)
           filled_first 0 slots (reduced_ops (classes_of split.dense)) more (p + 1) qs
           (fills_emissions (partial_ops split) buckets (p + 1) p tail ps (omega arith) filled) in
           ap (λ n. values_of (take n qs)) (sym many)
-          ∙ slots_filled slots more (p + 1) (gathered (program_of split) ruling.Dense s v).emitted (take (length slots) qs)
+          ∙ slots_filled slots more (p + 1) (gathered (program_of split) ruling.Dense s v).emitted
+          (take (length slots) qs)
           first (λ j op is.
           let words : ℕ → List ℤ = λ k. option_to_list (combined op (words_for j (steps k).emitted)) in
           let at : (k : ℕ) → k < p → buckets j k ≡ words k =
           λ k lt. ap (λ b. if b then sent_words (sent_by_segment split d (ran k)) j else []) (is_below k p lt)
-          ∙ ap option_to_list (slot_value_at slots (ran k).emitted (operands (loop_split d).reduced.items (ran k).env) j op is
+          ∙ ap option_to_list (slot_value_at slots (ran k).emitted
+          (operands (loop_split d).reduced.items (ran k).env) j op is
           ∙ ap (λ r. combined op (words_for j r.emitted)) (runs k)) in
           let below : (k : ℕ) → k < p → more j k ≡ words k =
-          λ k lt. ap (λ b. if b then buckets j k ++ words_for j tail else buckets j k) (ne_eqb p k (λ e. omega arith)) ∙ at k lt in
+          λ k lt. ap (λ b. if b then buckets j k ++ words_for j tail else buckets j k)
+          (ne_eqb p k (λ e. omega arith)) ∙ at k lt in
           let last : more j p ≡ words_for j (run d.tail.items looped.env).emitted =
           ap (λ b. if b then buckets j p ++ words_for j tail else buckets j p) (eq-eqb p p refl)
-          ∙ ap (λ b. (if b then sent_words (sent_by_segment split d (ran p)) j else []) ++ words_for j tail) (not_below p p (omega arith))
+          ∙ ap (λ b. (if b then sent_words (sent_by_segment split d (ran p)) j else []) ++ words_for j tail)
+          (not_below p p (omega arith))
           ∙ ap (words_for j) (tail_emits ps filled) in
-          ap (combined op) (joined_steps (more j) words p below ∙ ap (λ l. flat_map words (range_with_len 0 p) ++ l) last)
+          ap (combined op) (joined_steps (more j) words p below
+          ∙ ap (λ l. flat_map words (range_with_len 0 p) ++ l) last)
           ∙ round_words (program_of split) d s p c v h test are within lies op j)
 
   -- ---- where the test is false
@@ -336,14 +352,17 @@ module _ (split : Split) (d : Dense) (g : Sight) (s : Scene) (p c v : ℕ)
         let slots : List Combine = slot_ops (program_of split) in
         let many : length slots ≡ slot_count split = length-map (program_of split).slots.items (λ x. x.op) in
         let there : dense_part s (program_of split).dense members env ≡ leaves env =
-        ap (λ o. dense_part s o members env) h.dense ∙ ap (λ b. if b then dense_block s d members env else leaves env) test in
+        ap (λ o. dense_part s o members env) h.dense
+        ∙ ap (λ b. if b then dense_block s d members env else leaves env) test in
         ap (λ n. values_of (take n ps)) (sym many)
-        ∙ slots_filled slots buckets (p + 1) (gathered (program_of split) ruling.Dense s v).emitted (take (length slots) ps)
+        ∙ slots_filled slots buckets (p + 1) (gathered (program_of split) ruling.Dense s v).emitted
+        (take (length slots) ps)
         (filled_first 0 slots (reduced_ops (classes_of split.dense)) buckets (p + 1) ps filled)
         (λ j op is.
         let none_at : (k : ℕ) → k < p → buckets j k ≡ [] =
         λ k lt. ap (λ b. if b then sent_words (sent_by_segment split d (ran k)) j else []) (is_below k p lt)
-        ∙ ap option_to_list (slot_value_at slots (ran k).emitted (operands (loop_split d).reduced.items (ran k).env) j op is
+        ∙ ap option_to_list (slot_value_at slots (ran k).emitted
+        (operands (loop_split d).reduced.items (ran k).env) j op is
         ∙ ap (λ r. combined op (words_for j r.emitted)) (idle k)) in
         let last : buckets j p ≡ [] =
         ap (λ b. if b then sent_words (sent_by_segment split d (ran p)) j else []) (not_below p p (omega arith)) in
@@ -359,7 +378,8 @@ module _ (split : Split) (d : Dense) (g : Sight) (s : Scene) (p c v : ℕ)
   row_by values is =
       ap (λ xs. updated (program_of split).update.items (seen_env g v 0 xs)) is
       ∙ ap (updated (program_of split).update.items)
-      (seen_environment g s v 0 (slot_values 0 (slot_ops (program_of split)) (gathered (program_of split) ruling.Dense s v).emitted)
+      (seen_environment g s v 0 (slot_values 0 (slot_ops (program_of split))
+      (gathered (program_of split) ruling.Dense s v).emitted)
       all here)
 
   closes : (ps : List Partial) (st : LoopState) → AreFilled 0 (partial_ops split) buckets (p + 1) ps →

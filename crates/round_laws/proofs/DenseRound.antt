@@ -69,7 +69,8 @@ round_words program d s p c v split test are within lies op slot =
     let order : members_by_steps s.graph.ends p c 0 p ins ≡ all =
     reads_in_turn s.graph.vertices p c v s.graph.ends s.graph.edges are within lies in
     let by_steps : looped.emitted ≡ flat_map emits steps =
-    ap (λ l. (whole s d env l).emitted) (sym order) ∙ (by_machines s d env program split s.graph.ends p c p ins).emitted in
+    ap (λ l. (whole s d env l).emitted) (sym order)
+    ∙ (by_machines s d env program split s.graph.ends p c p ins).emitted in
     let there : dense_part s program.dense all env ≡ dense_block s d all env =
     ap (λ o. dense_part s o all env) split.dense ∙ ap (λ b. if b then dense_block s d all env else leaves env) test in
     parts_then op (λ k. words_for slot (emits k)) steps tail
@@ -82,7 +83,8 @@ round_by_machines program d s p c v split test are within lies op slot q filled 
     let env : Env = env_at s v (no_values (slot_ops program)) in
     let ins : List Edge = ins_of s.graph.vertices s.graph.edges v in
     let tail : List ℤ = words_for slot (run d.tail.items (whole s d env (members_of s.graph v)).env).emitted in
-    let combines : ℕ → List ℤ = λ k. option_to_list (combined op (words_for slot (machine_ran s d env s.graph.ends p c ins k).emitted)) in
+    let combines : ℕ → List ℤ = λ k. option_to_list
+    (combined op (words_for slot (machine_ran s d env s.graph.ends p c ins k).emitted)) in
     let bucket : ℕ → List ℤ = dense_bucket op slot s d env p c v in
     let steps : List ℕ = range_with_len 0 p in
     let one : p + 1 ≡ suc p = omega arith in
@@ -90,7 +92,8 @@ round_by_machines program d s p c v split test are within lies op slot q filled 
     ap (λ b. if b then combines p else if p == p then tail else []) (not_below p p (omega arith))
     ∙ ap (λ b. if b then tail else []) (eq-eqb p p refl) in
     let below : flat_map bucket steps ≡ flat_map combines steps =
-    same_below bucket combines p (λ k lt. ap (λ b. if b then combines k else if k == p then tail else []) (is_below k p lt)) in
+    same_below bucket combines p (λ k lt. ap (λ b. if b then combines k else if k == p then tail else [])
+    (is_below k p lt)) in
     has_value op bucket (p + 1) q filled
     ∙ ap (combined op) (ap (λ k. flat_map bucket (range_with_len 0 k)) one ∙ joined_more bucket p
     ∙ ap (λ l. l ++ bucket p) below ∙ ap (λ l. flat_map combines steps ++ l) last)

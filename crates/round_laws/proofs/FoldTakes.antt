@@ -24,7 +24,8 @@ use Rattle.round_laws.proofs.Held.{all_placed, apart_names, still_found}
 
 -- with a message more that is no verdict, the machine knows what it knew
 module _ (s : State) (l : Letter) (no_verdict : l.name.kind ≡ kind.Verdict → ⊥) where
-  verdict_stays : found (verdict_name s.at.round (machine s)) (placed l s.held) ≡ found (verdict_name s.at.round (machine s)) s.held
+  verdict_stays : found (verdict_name s.at.round (machine s)) (placed l s.held) ≡
+      found (verdict_name s.at.round (machine s)) s.held
   verdict_stays =
       still_found l s.held (verdict_name s.at.round (machine s))
       (apart_names l.name (verdict_name s.at.round (machine s)) (λ e. no_verdict (ap (λ x. x.kind) e)))
@@ -34,7 +35,8 @@ module _ (s : State) (l : Letter) (no_verdict : l.name.kind ≡ kind.Verdict →
 
   pub totals_stay : known_totals (kept s l) ≡ known_totals s
   totals_stay =
-      ap (λ o. if machine s == 0 then s.judged.totals else (judged_read (total_count s.split) (body_of o)).totals) verdict_stays
+      ap (λ o. if machine s == 0 then s.judged.totals else
+      (judged_read (total_count s.split) (body_of o)).totals) verdict_stays
 
 -- a message that is no update and no push
 pub record IsAside (l : Letter) : Type 0 where
@@ -45,7 +47,8 @@ module _ (src : Source) (m : ℕ) (s : State) (l : Letter) (aside : IsAside l) w
   abbrev held : List Letter
   held = placed l s.held
 
-  updates_stay : (step h k to : ℕ) → found (update_name s.at.round step h k to) held ≡ found (update_name s.at.round step h k to) s.held
+  updates_stay : (step h k to : ℕ) → found (update_name s.at.round step h k to) held ≡
+      found (update_name s.at.round step h k to) s.held
   updates_stay step h k to =
       still_found l s.held (update_name s.at.round step h k to)
       (apart_names l.name (update_name s.at.round step h k to) (λ e. aside.update (ap (λ x. x.kind) e)))
@@ -73,7 +76,8 @@ module _ (src : Source) (m : ℕ) (s : State) (l : Letter) (aside : IsAside l) w
   sparse_stays (Some sparse) v place key =
       λ i. push_buckets src.split sparse (scene src s.at.round) v (λ u. sends_stay u i) place key
 
-  words_stay : (r : Ruling) (v place key : ℕ) → words_by r src m s.at held v place key ≡ words_by r src m s.at s.held v place key
+  words_stay : (r : Ruling) (v place key : ℕ) → words_by r src m s.at held v place key ≡
+      words_by r src m s.at s.held v place key
   words_stay ruling.Stop v place key = refl
   words_stay ruling.Dense v place key =
       ap (λ b. if b then sent_words (ideal_sent src s.at.round v m key) place else []) (step_stays v key)
@@ -83,7 +87,8 @@ module _ (src : Source) (m : ℕ) (s : State) (l : Letter) (aside : IsAside l) w
   came_stay v = λ i place key.
       if is_open s.at.spot then words_stay (stand src s.at.round).ruling v place key i else []
 
-  kept_ideal : (l.name.kind ≡ kind.Verdict → ⊥) → IsIdeal src m s → HoldsBody l.name.kind src s.at l → IsIdeal src m (kept s l)
+  kept_ideal : (l.name.kind ≡ kind.Verdict → ⊥) → IsIdeal src m s → HoldsBody l.name.kind src s.at l →
+      IsIdeal src m (kept s l)
   kept_ideal no_verdict is body = record {
     part = is.part;
     split = is.split;
@@ -107,7 +112,8 @@ takes_kept src m s l is (inl refresh) body =
       update = λ e. let wrong : kind.Refresh ≡ kind.Update = sym refresh ∙ e in cc;
       push = λ e. let wrong : kind.Refresh ≡ kind.Push = sym refresh ∙ e in cc;
     } in
-    let no_verdict : l.name.kind ≡ kind.Verdict → ⊥ = λ e. let wrong : kind.Refresh ≡ kind.Verdict = sym refresh ∙ e in cc in
+    let no_verdict : l.name.kind ≡ kind.Verdict → ⊥ = λ e. let wrong : kind.Refresh ≡ kind.Verdict = sym refresh
+    ∙ e in cc in
     subst (IsIdeal src m) (sym (ap (λ k. taken k s l) refresh))
     (kept_ideal src m s l aside no_verdict is (subst (λ k. HoldsBody k src s.at l) (sym refresh) body))
 takes_kept src m s l is (inr (inl dep)) body =
@@ -123,6 +129,7 @@ takes_kept src m s l is (inr (inr tally)) body =
       update = λ e. let wrong : kind.Tally ≡ kind.Update = sym tally ∙ e in cc;
       push = λ e. let wrong : kind.Tally ≡ kind.Push = sym tally ∙ e in cc;
     } in
-    let no_verdict : l.name.kind ≡ kind.Verdict → ⊥ = λ e. let wrong : kind.Tally ≡ kind.Verdict = sym tally ∙ e in cc in
+    let no_verdict : l.name.kind ≡ kind.Verdict → ⊥ = λ e. let wrong : kind.Tally ≡ kind.Verdict = sym tally
+    ∙ e in cc in
     subst (IsIdeal src m) (sym (ap (λ k. taken k s l) tally))
     (kept_ideal src m s l aside no_verdict is (subst (λ k. HoldsBody k src s.at l) (sym tally) body))

@@ -58,7 +58,8 @@ among_kept test v xs b is =
     ∙ any_same (λ u. test u && (u == v)) (λ u. b && (u == v)) xs (λ u.
     ⊎_elim
     (λ (here : (u == v) ≡ true). ap (λ x. x && (u == v)) (ap test (eqb-true u v here) ∙ is))
-    (λ (other : (u == v) ≡ false). ap (λ x. test u && x) other ∙ none (test u) ∙ sym (none b) ∙ ap (λ x. b && x) (sym other))
+    (λ (other : (u == v) ≡ false). ap (λ x. test u && x) other ∙ none (test u) ∙ sym (none b)
+    ∙ ap (λ x. b && x) (sym other))
     (cases_Bool (u == v)))
     ∙ any_and b (λ u. u == v) xs
   where
@@ -67,12 +68,14 @@ among_kept test v xs b is =
     none false = refl
 
 -- what stands beside a vertex that isn't of a list
-beside_none : {X : Type 0} (d : X) (us : List ℕ) (v : ℕ) (xs : List X) → list_any (λ u. u == v) us ≡ false → beside d v us xs ≡ d
+beside_none : {X : Type 0} (d : X) (us : List ℕ) (v : ℕ) (xs : List X) → list_any (λ u. u == v) us ≡ false →
+    beside d v us xs ≡ d
 beside_none d [] v xs none = refl
 beside_none d (u ∷ us) v [] none = refl
 beside_none d (u ∷ us) v (x ∷ xs) none = by (u == v) none (beside_none d us v xs)
   where
-    by : (b : Bool) → (b || list_any (λ u. u == v) us) ≡ false → (list_any (λ u. u == v) us ≡ false → beside d v us xs ≡ d) →
+    by : (b : Bool) → (b || list_any (λ u. u == v) us) ≡ false →
+        (list_any (λ u. u == v) us ≡ false → beside d v us xs ≡ d) →
         (if b then x else beside d v us xs) ≡ d
     by true h rest = cc
     by false h rest = rest h
@@ -149,7 +152,8 @@ module _ (src : Source) (d : Dense) (most m : ℕ) (state : State) (given : Lett
 
   tells : (v : ℕ) → update_of s name (ideal_body src name) v ≡ beside (unsent src.split) v list (map ideal list)
   tells v =
-      ap (λ vs. beside (unsent src.split) v vs (sents_read (slot_count src.split) (length (reduced_in src.split.dense)) (length vs)
+      ap (λ vs. beside (unsent src.split) v vs
+      (sents_read (slot_count src.split) (length (reduced_in src.split.dense)) (length vs)
       (ideal_body src name))) list_is
       ∙ ap (beside (unsent src.split) v list)
       (update_back (length list) (slot_count src.split) (length (reduced_in src.split.dense)) (map ideal list) u.suits)
@@ -173,7 +177,8 @@ module _ (src : Source) (d : Dense) (most m : ℕ) (state : State) (given : Lett
     among_refreshed : list_any (λ x. x == v) (refresh_list ends m k edges) ≡ are_some (members_at ends edges k v)
     among_refreshed =
         ap (list_any (λ x. x == v)) (refreshed_law most ends edges m k are machine sender)
-        ∙ among_kept (λ x. are_some (members_at ends edges k x)) v (chunk_vertices ends m) (are_some (members_at ends edges k v)) refl
+        ∙ among_kept (λ x. are_some (members_at ends edges k x)) v (chunk_vertices ends m)
+        (are_some (members_at ends edges k v)) refl
         ∙ ap (λ b. are_some (members_at ends edges k v) && b)
         (any_range v (start_of ends m) (slice_index ends m - start_of ends m) low (omega (arith, low, high)))
         ∙ whole (are_some (members_at ends edges k v))
@@ -188,23 +193,27 @@ module _ (src : Source) (d : Dense) (most m : ℕ) (state : State) (given : Lett
         among_kept (is_within (half_in ends m u.half)) v (refresh_list ends m k edges) b is
         ∙ ap (λ x. b && x) among_refreshed
 
-    told_outside : is_within (half_in ends m u.half) v ≡ false → update_of s name (ideal_body src name) v ≡ unsent src.split
+    told_outside : is_within (half_in ends m u.half) v ≡ false → update_of s name (ideal_body src name) v ≡
+        unsent src.split
     told_outside out = tells v ∙ beside_none (unsent src.split) list v (map ideal list) (among false out)
 
     told_inside : is_within (half_in ends m u.half) v ≡ true → update_of s name (ideal_body src name) v ≡ ideal v
     told_inside in_half = tells v ∙ by (are_some (members_at ends edges k v)) refl
       where
-        by : (b : Bool) → are_some (members_at ends edges k v) ≡ b → beside (unsent src.split) v list (map ideal list) ≡ ideal v
+        by : (b : Bool) → are_some (members_at ends edges k v) ≡ b →
+            beside (unsent src.split) v list (map ideal list) ≡ ideal v
         by true some = beside_is (unsent src.split) ideal list v (among true in_half ∙ some)
         by false none =
             beside_none (unsent src.split) list v (map ideal list) (among true in_half ∙ none)
-            ∙ idle v (ap (λ n. members_with ends k (ins_of n edges v)) sized ∙ no_members (members_at ends edges k v) none)
+            ∙ idle v (ap (λ n. members_with ends k (ins_of n edges v)) sized
+            ∙ no_members (members_at ends edges k v) none)
 
     -- ---- halves
     half_is : is_within (half_in ends m u.half) v ≡ (half_at src m v == u.half)
     half_is = by u.half u.halves
       where
-        upper : (w : Bool) → is_within (half_in ends m 0) v ≡ w → is_within (half_in ends m 1) v ≡ ((if w then 0 else 1) == 1)
+        upper : (w : Bool) → is_within (half_in ends m 0) v ≡ w → is_within (half_in ends m 1) v ≡
+            ((if w then 0 else 1) == 1)
         upper w is =
             let cut : ℕ = cut_of (start_of ends m) (slice_index ends m) in
             ⊎_elim
@@ -236,18 +245,22 @@ module _ (src : Source) (d : Dense) (most m : ℕ) (state : State) (given : Lett
 
     before_step : half_at src m v ≡ u.half → step_came src m state.at state.held v u.step ≡ false
     before_step e =
-        ap (λ b. if b then is_some (found (asked u.step) state.held) else u.step + 1 == p && is_past state.at u.step (half_at src m v))
+        ap (λ b. if b then is_some (found (asked u.step) state.held) else u.step + 1 == p && is_past state.at u.step
+        (half_at src m v))
         (is_below (u.step + 1) p u.early)
         ∙ ap (λ x. is_some (found x state.held)) (asked_is e ∙ sym u.name) ∙ ap is_some u.new
 
     after_step : half_at src m v ≡ u.half → step_came src m state.at held v u.step ≡ true
     after_step e =
-        ap (λ b. if b then is_some (found (asked u.step) held) else u.step + 1 == p && is_past state.at u.step (half_at src m v))
+        ap (λ b. if b then is_some (found (asked u.step) held) else u.step + 1 == p && is_past state.at u.step
+        (half_at src m v))
         (is_below (u.step + 1) p u.early)
         ∙ ap (λ x. is_some (found x held)) (asked_is e)
-        ∙ ap is_some (placed_law noted state.held name ∙ ap (λ b. if b then Some noted else found name state.held) (same_as_self name))
+        ∙ ap is_some (placed_law noted state.held name
+        ∙ ap (λ b. if b then Some noted else found name state.held) (same_as_self name))
 
-    other_step : (key : ℕ) → (name ≡ asked key → ⊥) → step_came src m state.at held v key ≡ step_came src m state.at state.held v key
+    other_step : (key : ℕ) → (name ≡ asked key → ⊥) → step_came src m state.at held v key ≡
+        step_came src m state.at state.held v key
     other_step key apart =
         ap (λ o. if nat_lt (key + 1) p then is_some o else key + 1 == p && is_past state.at key (half_at src m v))
         (still_found noted state.held (asked key) (apart_names name (asked key) apart))
@@ -271,7 +284,8 @@ module _ (src : Source) (d : Dense) (most m : ℕ) (state : State) (given : Lett
         ∙ ap (λ b. if b then sent_words (ideal v) place else []) (sym (after_step e))
     at_step place false is =
         let apart : name ≡ asked u.step → ⊥ =
-        λ e. (let clash : true ≡ false = sym (eq-eqb (half_at src m v) u.half (sym (ap (λ x. x.half) e))) ∙ is in absurd cc) in
+        λ e. (let clash : true ≡ false = sym (eq-eqb (half_at src m v) u.half (sym (ap (λ x. x.half) e)))
+        ∙ is in absurd cc) in
         ap (λ x. words state.held place u.step ++ sent_words x place) (told_outside (half_is ∙ is))
         ∙ ap (λ o. words state.held place u.step ++ option_to_list o)
         (none_at (slot_count src.split) (length (reduced_in src.split.dense)) place)
@@ -279,7 +293,8 @@ module _ (src : Source) (d : Dense) (most m : ℕ) (state : State) (given : Lett
         ∙ same_words place u.step apart
 
     at_key : (place key : ℕ) (b : Bool) → (u.step == key) ≡ b →
-        (if b then words state.held place key ++ sent_words told place else words state.held place key) ≡ words held place key
+        (if b then words state.held place key ++ sent_words told place else words state.held place key) ≡
+        words held place key
     at_key place key true is =
         let e : u.step ≡ key = eqb-true u.step key is in
         subst (λ x. words state.held place x ++ sent_words told place ≡ words held place x) e
@@ -299,15 +314,20 @@ module _ (src : Source) (d : Dense) (most m : ℕ) (state : State) (given : Lett
 
     partials_are : own_partials (take_update s l) v ≡ after_take v
     partials_are =
-        get_or-map-range_with_len after_take (start_of ends m) (slice_index ends m - start_of ends m) (v - start_of ends m) v []
+        get_or-map-range_with_len after_take (start_of ends m) (slice_index ends m - start_of ends m)
+        (v - start_of ends m) v []
         (omega (arith, low, high)) (omega (arith, low))
 
-    filled : AreFilled 0 (partial_ops src.split) (came_words src m state.at state.held v) (keys_below src) (own_partials s v) →
-        AreFilled 0 (partial_ops src.split) (came_words src m state.at held v) (keys_below src) (own_partials (take_update s l) v)
+    filled : AreFilled 0 (partial_ops src.split) (came_words src m state.at state.held v) (keys_below src)
+        (own_partials s v) →
+        AreFilled 0 (partial_ops src.split) (came_words src m state.at held v) (keys_below src)
+        (own_partials (take_update s l) v)
     filled before =
-        subst (λ qs. AreFilled 0 (partial_ops src.split) (came_words src m state.at held v) (keys_below src) qs) (sym partials_are)
+        subst (λ qs. AreFilled 0 (partial_ops src.split) (came_words src m state.at held v) (keys_below src) qs)
+        (sym partials_are)
         (subst (λ ws. AreFilled 0 (partial_ops src.split) ws (keys_below src) (after_take v)) more_words
-        (fills_sent (partial_ops src.split) (came_words src m state.at state.held v) (keys_below src) u.step told (own_partials s v)
+        (fills_sent (partial_ops src.split) (came_words src m state.at state.held v) (keys_below src) u.step told
+        (own_partials s v)
         (omega (arith, u.early)) before))
 
   no_verdict : name.kind ≡ kind.Verdict → ⊥
@@ -321,7 +341,8 @@ module _ (src : Source) (d : Dense) (most m : ℕ) (state : State) (given : Lett
     ruling = λ knows. is.ruling (sym (known_stays s noted no_verdict) ∙ knows);
     totals = λ knows. totals_stay s noted no_verdict ∙ is.totals (sym (known_stays s noted no_verdict) ∙ knows);
     bodies = all_placed (λ x. HoldsBody x.name.kind src state.at x) noted state.held refl is.bodies;
-    many = length-map (chunk_vertices ends m) (λ x. with_sent u.step (update_of s name (ideal_body src name) x) (own_partials s x));
+    many = length-map (chunk_vertices ends m)
+        (λ x. with_sent u.step (update_of s name (ideal_body src name) x) (own_partials s x));
     partials = λ v lies. filled v lies (is.partials v lies);
     ring = is.ring;
     reading = is.reading;

@@ -78,7 +78,8 @@ module _ (src : Source) (m : ℕ) (state : State) (other : m ≢ 0)
 
   totals_told : known_totals (kept s l) ≡ (stand src r).totals
   totals_told =
-      ap (λ b. if b then state.judged.totals else (judged_read (total_count src.split) (body_of (found name held))).totals)
+      ap (λ b. if b then state.judged.totals else
+      (judged_read (total_count src.split) (body_of (found name held))).totals)
       (ne_eqb m 0 other)
       ∙ ap (λ o. (judged_read (total_count src.split) (body_of o)).totals)
       (placed_law l state.held name ∙ ap (λ b. if b then Some l else found name state.held) (same_as_self name))
@@ -145,7 +146,8 @@ module _ (src : Source) (m : ℕ) (state : State) (other : m ≢ 0)
           ∙ map_same (ring_held src m begins) (ring_held src m ends) (chunk_vertices src.job.graph.ends m)
           (all_true _ no_ring (chunk_vertices src.job.graph.ends m));
       reading = is.reading
-          ∙ map_same (reads_held src m begins) (reads_held src m ends) (targets_of s.part) (all_true _ no_reads (targets_of s.part));
+          ∙ map_same (reads_held src m begins) (reads_held src m ends) (targets_of s.part)
+          (all_true _ no_reads (targets_of s.part));
       reads = is.reads;
       judged = is.judged;
       report = is.report;

@@ -80,7 +80,8 @@ half_low src c v = by (is_within (half_in src.job.graph.ends c 0) v)
     by false = omega arith
 
 module _ (src : Source) (d : Dense) (most m round : ℕ) (state : State) (dense : (program_of src.split).dense ≡ Some d)
-    (are : AreEnds most src.job.graph.ends) (few : most ≤ 64) (sized : src.job.graph.vertices ≡ vertices_of src.job.graph.ends)
+    (are : AreEnds most src.job.graph.ends) (few : most ≤ 64)
+    (sized : src.job.graph.vertices ≡ vertices_of src.job.graph.ends)
     (machine : m < machines_of src) where
   abbrev run : Source
   run = with_program src (program_of src.split)
@@ -174,7 +175,8 @@ module _ (src : Source) (d : Dense) (most m round : ℕ) (state : State) (dense 
           lowered 0 (partial_ops src.split) (step_buckets src.split d ran p) (keys_below run) (p + 1) (own_partials s v)
           (λ place key le. ap (λ b. if b then sent_words (sent_by_segment src.split d (ran key)) place else [])
           (not_below key p (omega (arith, le))))
-          (subst (λ ws. AreFilled 0 (partial_ops src.split) ws (keys_below run) (own_partials s v)) words_are (is.partials v lies))
+          (subst (λ ws. AreFilled 0 (partial_ops src.split) ws (keys_below run) (own_partials s v)) words_are
+          (is.partials v lies))
 
       upto : AreEndsUpTo src.job.graph.vertices p ends
       upto = subst (λ n. AreEndsUpTo n p ends) (sym sized) (ends_reach most ends are)
@@ -188,7 +190,8 @@ module _ (src : Source) (d : Dense) (most m round : ℕ) (state : State) (dense 
           (v - start_of ends m) v (fresh src.split) (omega (arith, low, high)) (omega (arith, low))
           ∙ ap (λ b. if b then state_at run round v m p else fresh src.split)
           (ap (λ x. is_dense x && is_past at (chunk_of m m p) (half_at run m v)) closing.dense
-          ∙ past (chunk_of m m p) (half_at run m v) (mod-lt (m + p - 1 - m) (omega (arith, machine))) (half_low run m v))
+          ∙ past (chunk_of m m p) (half_at run m v) (mod-lt (m + p - 1 - m) (omega (arith, machine)))
+          (half_low run m v))
           ∙ ap (λ o. told_state (width_of src.split) (ring_with run round v m p o)) dense
           ∙ ap (λ l. told_state (width_of src.split) (ring_after sc d env l))
           (reads_in_turn src.job.graph.vertices p m v ends src.job.graph.edges upto machine (low, high))
@@ -213,7 +216,8 @@ module _ (src : Source) (d : Dense) (most m round : ℕ) (state : State) (dense 
       row_closed =
           let seen = own_are_seen most m s sc are stands in
           ap (λ o. closed_row src.split (own_sight s round) (with_tail o s round v) v) dense
-          ∙ closes_dense src.split d (own_sight s round) sc p m v (own_partials s v) (ring_at s v) (split v) seen.0 (seen.1 v lies)
+          ∙ closes_dense src.split d (own_sight s round) sc p m v (own_partials s v) (ring_at s v) (split v) seen.0
+          (seen.1 v lies)
           upto machine (low, high) filled ring_or
 
       row_stands : row_after (program_of src.split) ruling.Dense sc v ≡ row_at (stand run (round + 1)).rows v
@@ -228,7 +232,8 @@ module _ (src : Source) (d : Dense) (most m round : ℕ) (state : State) (dense 
         (all_range (λ v. closed_row src.split (own_sight s round) (closed_partials s round true v) v ≡
         row_at (stand run (round + 1)).rows v) (start_of ends m) (slice_index ends m - start_of ends m)
         (λ v lo hi.
-        let lies : lies_in ends m v ≡ true = lies_is (start_of ends m) (slice_index ends m) v lo (omega (arith, hi, lo)) in
+        let lies : lies_in ends m v ≡ true =
+        lies_is (start_of ends m) (slice_index ends m) v lo (omega (arith, hi, lo)) in
         row_closed v lies ∙ row_stands v lies))
 
   of_state : ((v : ℕ) → IsSplit (program_of src.split) d (block_env run round v)) → IsIdeal run m state →
@@ -236,7 +241,8 @@ module _ (src : Source) (d : Dense) (most m round : ℕ) (state : State) (dense 
       closed_rows state round true ≡ map (row_at (stand run (round + 1)).rows) (chunk_vertices ends m)
   of_state split is closing =
       let same : state ≡ s = λ i. record state { part = is.part i; split = is.split i; at = closing.spot i } in
-      subst (λ x. closed_rows x round true ≡ map (row_at (stand run (round + 1)).rows) (chunk_vertices ends m)) (sym same)
+      subst (λ x. closed_rows x round true ≡ map (row_at (stand run (round + 1)).rows) (chunk_vertices ends m))
+      (sym same)
       (rows_closed split (subst (IsIdeal run m) same is) (subst (ClosesDenseRound run m round) same closing))
 
 pub dense_rows_ideal : DenseRowsAreIdeal

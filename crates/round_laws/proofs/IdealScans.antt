@@ -48,15 +48,21 @@ module _ (src : Source) (d : Dense) (g : Sight) (round v c step key : ℕ)
   ran_is : ideal_ran run round v c step ≡ ran_behind s d env before here
   ran_is = ap (ran_with run round v c step) dense
 
-  sent_is : IsSplit (program_of src.split) d env → ideal_sent run round v c step ≡ sent_by_segment src.split d (ran_behind s d env before here)
+  sent_is : IsSplit (program_of src.split) d env → ideal_sent run round v c step ≡
+      sent_by_segment src.split d (ran_behind s d env before here)
   sent_is h = λ i. record {
     values = slot_values 0 (slot_ops (program_of src.split)) (ran_is i).emitted;
     operands = operands (reduced_are src.split d env h i) (ran_is i).env;
   }
 
-  ideal_by : (got : Scanned) → IsSplit (program_of src.split) d env → ScansAs src.split d got (ran_behind s d env before here) →
+  ideal_by : (got : Scanned) → IsSplit (program_of src.split) d env →
+      ScansAs src.split d got (ran_behind s d env before here) →
       IsIdealScan run round v c step got
-  ideal_by got h like = record { sent = like.sent ∙ sym (sent_is h); reads = like.reads ∙ sym (ap (λ r. r.reads) ran_is) }
+  ideal_by got h like = record {
+    sent = like.sent ∙ sym (sent_is h);
+    reads = like.reads
+        ∙ sym (ap (λ r. r.reads) ran_is);
+  }
 
   next_is : first_members run v c (step + 1) ≡ before ++ here
   next_is =
@@ -87,8 +93,10 @@ scans_ideal src d g round v c step key runs =
     subst
     (λ program. (let of : Source = with_program src program in
     IsSplit program d (block_env of round v) → Sees g (scene of round) v (step_members of v c step) →
-    ((scanned src.split d g key (step_members of v c step) v (state_at of round v c step)).state ≡ state_at of round v c (step + 1))
-    × IsIdealScan of round v c step (scanned src.split d g key (step_members of v c step) v (state_at of round v c step))))
+    ((scanned src.split d g key (step_members of v c step) v (state_at of round v c step)).state ≡
+    state_at of round v c (step + 1))
+    × IsIdealScan of round v c step
+    (scanned src.split d g key (step_members of v c step) v (state_at of round v c step))))
     runs.program
     (scan_ideal src d g round v c step key (ap (λ p. p.dense) runs.program ∙ runs.dense))
 

@@ -49,8 +49,10 @@ owner_low : (ends : List ℕ) (u : ℕ) → 1 ≤ length ends → u < vertices_o
 owner_low [] u some lt = absurd (omega arith)
 owner_low (end ∷ ends) u some lt =
     ⊎_elim
-    (λ (below : u < end). subst (λ b. (if b then 0 else owner_of ends u + 1) < suc (length ends)) (sym (is_below u end below)) (omega arith))
-    (λ (above : end ≤ u). subst (λ b. (if b then 0 else owner_of ends u + 1) < suc (length ends)) (sym (not_below u end above))
+    (λ (below : u < end). subst (λ b. (if b then 0 else owner_of ends u + 1) < suc (length ends))
+    (sym (is_below u end below)) (omega arith))
+    (λ (above : end ≤ u). subst (λ b. (if b then 0 else owner_of ends u + 1) < suc (length ends))
+    (sym (not_below u end above))
     (later ends above (owner_low ends u) lt))
     (cases_lt u end)
   where
@@ -67,8 +69,10 @@ owner_low (end ∷ ends) u some lt =
         omega (arith, inner)
 
 -- past the begin, a push that was taken was worked
-pushes_worked : (src : Source) (at : Standing) (x : Name) → x.kind ≡ kind.Push → awaits_begin at.spot ≡ false → (held : List Letter) →
-    AllByRecursion (λ l. HoldsBody l.name.kind src at l) held → is_some (found x held) ≡ true → is_worked (found x held) ≡ true
+pushes_worked : (src : Source) (at : Standing) (x : Name) → x.kind ≡ kind.Push → awaits_begin at.spot ≡ false →
+    (held : List Letter) →
+    AllByRecursion (λ l. HoldsBody l.name.kind src at l) held → is_some (found x held) ≡ true →
+    is_worked (found x held) ≡ true
 pushes_worked src at x is past [] all some = cc
 pushes_worked src at x is past (y ∷ ys) all some =
     by (same_name y.name x) refl some (pushes_worked src at x is past ys all.1)
@@ -78,7 +82,8 @@ pushes_worked src at x is past (y ∷ ys) all some =
     no_body l (inr early) = let wrong : true ≡ false = sym early.1 ∙ past in cc
 
     by : (b : Bool) → same_name y.name x ≡ b → is_some (if b then Some y else found x ys) ≡ true →
-        (is_some (found x ys) ≡ true → is_worked (found x ys) ≡ true) → is_worked (if b then Some y else found x ys) ≡ true
+        (is_some (found x ys) ≡ true → is_worked (found x ys) ≡ true) →
+        is_worked (if b then Some y else found x ys) ≡ true
     by true same here rest =
         no_body y (subst (λ k. HoldsBody k src at y) (ap (λ n. n.kind) (names_law y.name x same) ∙ is) all.0)
     by false same here rest = rest here
@@ -89,7 +94,8 @@ clash e = cc
 and_false : (b c : Bool) → b ≡ false → (b && c) ≡ false
 and_false b c is = ap (λ x. x && c) is
 
-module _ (src : Source) (sparse : Sparse) (most m round : ℕ) (state : State) (program : program_of src.split ≡ src.job.program)
+module _ (src : Source) (sparse : Sparse) (most m round : ℕ) (state : State)
+    (program : program_of src.split ≡ src.job.program)
     (block : src.job.program.sparse ≡ Some sparse) (are : AreEnds most src.job.graph.ends)
     (sized : src.job.graph.vertices ≡ vertices_of src.job.graph.ends) (machine : m < machines_of src) where
   abbrev ends : List ℕ
@@ -127,7 +133,8 @@ module _ (src : Source) (sparse : Sparse) (most m round : ℕ) (state : State) (
     all_came u lt = by (owner_of ends u == m) refl
       where
         by : (b : Bool) → (owner_of ends u == m) ≡ b → came u ≡ true
-        by true own = ap (λ b. if b then true else is_worked (found (push_name round (owner_of ends u) m) state.held)) own
+        by true own = ap (λ b. if b then true else is_worked
+            (found (push_name round (owner_of ends u) m) state.held)) own
         by false other =
             ap (λ b. if b then true else is_worked (found (push_name round (owner_of ends u) m) state.held)) other
             ∙ pushes_worked src at (push_name round (owner_of ends u) m) refl refl state.held is.bodies
@@ -158,23 +165,28 @@ module _ (src : Source) (sparse : Sparse) (most m round : ℕ) (state : State) (
       -- no key is above the vertices
       none_above : (place key : ℕ) → n ≤ key → buckets place key ≡ []
       none_above place key le =
-          ap (λ es. words_for place (flat_map (emitted_over sc (slot_ops (program_of src.split)) sparse (env_at sc v (none src.split))) es))
+          ap (λ es. words_for place (flat_map
+          (emitted_over sc (slot_ops (program_of src.split)) sparse (env_at sc v (none src.split))) es))
           (filter_none (λ e. key_of n (turn_of ends v) (source e) == key && came (source e)) (members_of sc.graph v)
-          (all_weaker (λ e. source e < n) (λ e. (key_of n (turn_of ends v) (source e) == key && came (source e)) ≡ false)
+          (all_weaker (λ e. source e < n)
+          (λ e. (key_of n (turn_of ends v) (source e) == key && came (source e)) ≡ false)
           (λ e lt. let below = low_keys n (turn_of ends v) (source e) turn_low lt in
           and_false (key_of n (turn_of ends v) (source e) == key) (came (source e))
-          (ne_eqb (key_of n (turn_of ends v) (source e)) key (λ q. omega (arith, q, below, le)))) (members_of sc.graph v)
+          (ne_eqb (key_of n (turn_of ends v) (source e)) key (λ q. omega (arith, q, below, le))))
+          (members_of sc.graph v)
           (members_below n (turn_of ends v) v src.job.graph.edges)))
 
       filled : AreFilled 0 (partial_ops src.split) buckets n (own_partials s v)
       filled =
           lowered 0 (partial_ops src.split) buckets (keys_below src) n (own_partials s v) none_above
-          (subst (λ ws. AreFilled 0 (partial_ops src.split) ws (keys_below src) (own_partials s v)) words_are (is.partials v lies))
+          (subst (λ ws. AreFilled 0 (partial_ops src.split) ws (keys_below src) (own_partials s v)) words_are
+          (is.partials v lies))
 
       row_closed : closed_row src.split (own_sight s round) (own_partials s v) v ≡ row_at (stand src (round + 1)).rows v
       row_closed =
           let seen = own_are_seen most m s sc are stands in
-          closes_sparse src.split sparse (own_sight s round) sc v (own_partials s v) own_block seen.0 (seen.1 v lies) turn_low
+          closes_sparse src.split sparse (own_sight s round) sc v (own_partials s v) own_block seen.0
+          (seen.1 v lies) turn_low
           came all_came filled
           ∙ ap (λ x. row_after x ruling.Sparse sc v) program
           ∙ row_next src round v ruling.Sparse closing.begun closing.sparse
@@ -187,14 +199,16 @@ module _ (src : Source) (sparse : Sparse) (most m round : ℕ) (state : State) (
         (all_range (λ v. closed_row src.split (own_sight s round) (own_partials s v) v ≡
         row_at (stand src (round + 1)).rows v) (start_of ends m) (slice_index ends m - start_of ends m)
         (λ v lo hi.
-        let lies : lies_in ends m v ≡ true = lies_is (start_of ends m) (slice_index ends m) v lo (omega (arith, hi, lo)) in
+        let lies : lies_in ends m v ≡ true =
+        lies_is (start_of ends m) (slice_index ends m) v lo (omega (arith, hi, lo)) in
         row_closed v lies))
 
   of_state : IsIdeal src m state → ClosesSparseRound src m round state →
       closed_rows state round false ≡ map (row_at (stand src (round + 1)).rows) (chunk_vertices ends m)
   of_state is closing =
       let same : state ≡ s = λ i. record state { part = is.part i; split = is.split i; at = closing.spot i } in
-      subst (λ x. closed_rows x round false ≡ map (row_at (stand src (round + 1)).rows) (chunk_vertices ends m)) (sym same)
+      subst (λ x. closed_rows x round false ≡ map (row_at (stand src (round + 1)).rows) (chunk_vertices ends m))
+      (sym same)
       (rows_closed (subst (IsIdeal src m) same is) (subst (ClosesSparseRound src m round) same closing))
 
 pub sparse_rows_ideal : SparseRowsAreIdeal

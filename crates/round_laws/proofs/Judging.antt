@@ -41,7 +41,8 @@ use Rattle.round_laws.proofs.Tallies.{sum-passing}
 use Rattle.round_laws.proofs.Vertices.{own_law}
 
 -- ---- the ruling
-stops_same : (o : Option Expr) → option_all (expr_read in_stop) o ≡ true → (a b : Env) → SameButVertex a b → stops o b ≡ stops o a
+stops_same : (o : Option Expr) → option_all (expr_read in_stop) o ≡ true → (a b : Env) → SameButVertex a b →
+    stops o b ≡ stops o a
 stops_same None read a b same = refl
 stops_same (Some test) read a b same = ap is_set (stop_anywhere test read a b same)
 
@@ -55,7 +56,8 @@ judges_as_source state ends draws m round edges rows sums is active edges_out =
     let rule : Bool → ℕ → ℕ → _ = λ b x y.
     if b then ruling.Stop else ruling_of x y (length edges) (round + 1) program.limit program.mode in
     ap (λ q. ruling_by (record state { part = q }) round sums) is
-    ∙ ap (λ b. rule b sums.active sums.edges) (stops_same program.stop (stop_read program state.split.program.typed) env seen refl)
+    ∙ ap (λ b. rule b sums.active sums.edges)
+    (stops_same program.stop (stop_read program state.split.program.typed) env seen refl)
     ∙ ap (λ x. rule (stops program.stop env) x sums.edges) active
     ∙ ap (rule (stops program.stop env) (active_vertices rows)) edges_out
 
@@ -96,7 +98,8 @@ module _ (src : Source) (most m round : ℕ) (split : Split) (ends : List ℕ) (
   active v = (row_at rows v).active
 
   actives : active_vertices own_rows ≡ length (filter active own)
-  actives = ap length (filter-map (λ (r : Row). r.active) (row_at rows) own) ∙ length-map (filter active own) (row_at rows)
+  actives = ap length (filter-map (λ (r : Row). r.active) (row_at rows) own)
+      ∙ length-map (filter active own) (row_at rows)
 
   edges_are : edges_ahead part own_rows ≡ sum (map (outdegree job.graph) (filter active own))
   edges_are =
@@ -113,7 +116,12 @@ module _ (src : Source) (most m round : ℕ) (split : Split) (ends : List ℕ) (
       (λ v. value_of t.value (env_at (scene_of job round rows []) v []))
       (λ v lies. ap (value_of t.value) (seen_environment g (scene_of job round rows []) v 0 []
       (record { n = refl; round = refl; draws = refl; totals = refl })
-      (record { row = row_is v lies; ins = ap (λ x. x.ins) (degree_is v lies); outs = ap (λ x. x.outs) (degree_is v lies) }))))
+      (record {
+        row = row_is v lies;
+        ins = ap (λ x. x.ins) (degree_is v lies);
+        outs =
+            ap (λ x. x.outs) (degree_is v lies);
+      }))))
 
   totals_are : (ts : List TotalDecl) → map (chunk_total part own_rows round) ts ≡ map (ideal.chunk_total run round m) ts
   totals_are [] = refl
@@ -125,8 +133,10 @@ pub counts_ideal : CountsAreIdeal
 counts_ideal src most m round split ends draws edges reads is are machine read =
     let run : Source = record src { job = job_of split ends draws edges } in
     let same : run ≡ src = λ i. record src { job = sym is i } in
-    subst (λ x. sum (map length reads) ≡ sum (map (λ v. length (ideal.ideal_reads x round m v)) (meaning.vertices_of x.job.graph)) →
-    counted (part_of ends draws edges m) split (map (row_at (stand x (round + 1)).rows) (chunk_vertices ends m)) reads round ≡
+    subst (λ x. sum (map length reads) ≡
+    sum (map (λ v. length (ideal.ideal_reads x round m v)) (meaning.vertices_of x.job.graph)) →
+    counted (part_of ends draws edges m) split
+    (map (row_at (stand x (round + 1)).rows) (chunk_vertices ends m)) reads round ≡
     ideal.ideal_count x round m) same
     (λ counts i. record {
       active = actives src most m round split ends draws edges are machine i;

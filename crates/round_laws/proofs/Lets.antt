@@ -72,7 +72,8 @@ operands_more f steps step place (Carried ∷ cs) = operands_more f steps step (
 operands_more f steps step place (Reduced op ∷ cs) =
     let rest = combined_operands f (steps ++ step ∷ []) (place + 1) cs in
     let come : Option ℤ = both_of op (combined op (operand_words f steps place)) (operand_at place (f step)) in
-    ap (λ o. o ∷ rest) (word_more op f steps step place) ∙ ap (λ os. come ∷ os) (operands_more f steps step (place + 1) cs)
+    ap (λ o. o ∷ rest) (word_more op f steps step place)
+    ∙ ap (λ os. come ∷ os) (operands_more f steps step (place + 1) cs)
 
 -- ---- words that are own ones, carried ones, or own ones combined with these operands
 abbrev AreClosed : List Class → List ℤ → List ℤ → List (Option ℤ) → Type 0
@@ -123,7 +124,8 @@ one_operand : (op : Combine) (own before x : ℤ) (t o : Option ℤ) → before 
     combined_of op before x ≡ with_operand op own (both_of op t o)
 one_operand op own before x t None is stays leaves =
     ap (combined_of op before) leaves ∙ stays ∙ is ∙ ap (with_operand op own) (sym (nothing_more op t))
-one_operand op own before x None (Some y) is stays leaves = ap (λ b. combined_of op b x) is ∙ ap (combined_of op own) leaves
+one_operand op own before x None (Some y) is stays leaves = ap (λ b. combined_of op b x) is
+    ∙ ap (combined_of op own) leaves
 one_operand op own before x (Some z) (Some y) is stays leaves =
     ap (λ b. combined_of op b x) is ∙ ap (combined_of op (combined_of op own z)) leaves ∙ combined_of-assoc op own z y
 

@@ -8,7 +8,8 @@ use Rattle.slot_merge.specs.Filled.{AreFilled, Filled, under_key}
 use Rattle.slot_merge.specs.Partials.{above}
 
 under_first : (key : ℕ) (w : ℕ × ℤ) (ws : List (ℕ × ℤ)) (b : Bool) → (w.0 == key) ≡ b →
-    under_key key (w ∷ ws) ≡ map (λ (x : ℕ × ℤ). x.1) (cond b (w ∷ filter (λ x. x.0 == key) ws) (filter (λ x. x.0 == key) ws))
+    under_key key (w ∷ ws) ≡ map (λ (x : ℕ × ℤ). x.1)
+    (cond b (w ∷ filter (λ x. x.0 == key) ws) (filter (λ x. x.0 == key) ws))
 under_first key w ws b is =
     ap (λ c. map (λ (x : ℕ × ℤ). x.1) (cond c (w ∷ filter (λ x. x.0 == key) ws) (filter (λ x. x.0 == key) ws))) is
 
@@ -28,7 +29,8 @@ above_low low (w ∷ ws) none =
     filled_not : {x : ℤ} {xs : List ℤ} → x ∷ xs ≡ [] → ⊥
     filled_not e = cc
 
-lowered_one : (op : Combine) (bucket : ℕ → List ℤ) (bound low : ℕ) (q : Partial) → ((key : ℕ) → low ≤ key → bucket key ≡ []) →
+lowered_one : (op : Combine) (bucket : ℕ → List ℤ) (bound low : ℕ) (q : Partial) →
+    ((key : ℕ) → low ≤ key → bucket key ≡ []) →
     Filled op bucket bound q → Filled op bucket low q
 lowered_one op bucket bound low q none f = record {
   words = f.words;
@@ -38,7 +40,8 @@ lowered_one op bucket bound low q none f = record {
 }
 
 pub lowered : (at : ℕ) (ops : List Combine) (buckets : ℕ → ℕ → List ℤ) (bound low : ℕ) (qs : List Partial) →
-    ((place key : ℕ) → low ≤ key → buckets place key ≡ []) → AreFilled at ops buckets bound qs → AreFilled at ops buckets low qs
+    ((place key : ℕ) → low ≤ key → buckets place key ≡ []) → AreFilled at ops buckets bound qs →
+    AreFilled at ops buckets low qs
 lowered at [] buckets bound low [] none are = tt
 lowered at [] buckets bound low (q ∷ qs) none are = absurd are
 lowered at (op ∷ ops) buckets bound low [] none are = absurd are

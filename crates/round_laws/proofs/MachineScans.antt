@@ -107,7 +107,8 @@ module _ (src : Source) (d : Dense) (most m round step h v : ℕ) (state : State
         (λ (own : (c == m) ≡ true).
         let is : c ≡ m = eqb-true c m own in
         subst (λ k. Sees (sight_at state round k) (scene src round) v (members_with ends m (members_in src v))) (sym is)
-        (own_scans_seen most m v state (scene src round) are holds.stands (subst (λ k. lies_in ends k v ≡ true) is lies)))
+        (own_scans_seen most m v state (scene src round) are holds.stands
+        (subst (λ k. lies_in ends k v ≡ true) is lies)))
         (λ (other : (c == m) ≡ false).
         told_scans_seen most m c v state (scene src round) are holds.stands
         (holds.told (λ e. absurd (clash (sym (eq-eqb c m e) ∙ other)))) lies)
@@ -129,13 +130,15 @@ module _ (src : Source) (d : Dense) (most m round step h v : ℕ) (state : State
         let last : step - 1 + 1 ≡ step = omega (arith, later) in
         let lower : step - 1 + 1 < p = omega (arith, later, holds.step_low) in
         ap (λ k. chunk_of k (step - 1) p)
-        (ap (λ k. before_machine k p) (sym reader ∙ ap (λ x. order_of c x p) (sym last)) ∙ turns.before c (step - 1) chunk_low lower)
+        (ap (λ k. before_machine k p) (sym reader ∙ ap (λ x. order_of c x p) (sym last))
+        ∙ turns.before c (step - 1) chunk_low lower)
         ∙ turns.chunk c (step - 1) chunk_low (omega (arith, lower))
 
     body_is : 0 < step → ideal_body src needed ≡ spelled (map ideal (vertices_within half))
     body_is later =
         let last : step - 1 + 1 ≡ step = omega (arith, later) in
-        ap (λ k. spelled (map (λ x. state_at src round x k (step - 1 + 1)) (vertices_within (half_in ends k h)))) (same_chunk later)
+        ap (λ k. spelled (map (λ x. state_at src round x k (step - 1 + 1)) (vertices_within (half_in ends k h))))
+        (same_chunk later)
         ∙ ap (λ n. spelled (map (λ x. state_at src round x c n) (vertices_within half))) last
 
     abbrev received_by : Bool → LoopState
@@ -168,7 +171,8 @@ module _ (src : Source) (d : Dense) (most m round step h v : ℕ) (state : State
     abbrev IsIdealHere : State → Type 0
     IsIdealHere x =
         IsIdealScan src round v c step (scanned_at x round step h v)
-        × (is_some (loop_carry src.split.dense) ≡ true → (scanned_at x round step h v).state ≡ state_at src round v c (step + 1))
+        × (is_some (loop_carry src.split.dense) ≡ true → (scanned_at x round step h v).state ≡
+        state_at src round v c (step + 1))
 
     from_ideal : received_at s round step h v ≡ ideal v → IsIdealHere s
     from_ideal is =
@@ -178,13 +182,15 @@ module _ (src : Source) (d : Dense) (most m round step h v : ℕ) (state : State
         )
 
     split_carry : loop_carry src.split.dense ≡ (loop_split d).carry
-    split_carry = ap loop_carry (src.split.split ∙ ap (option_map loop_split) (ap (λ x. x.dense) runs.program ∙ runs.dense))
+    split_carry = ap loop_carry (src.split.split
+        ∙ ap (option_map loop_split) (ap (λ x. x.dense) runs.program ∙ runs.dense))
 
     none_carried : (o : Option Carry) → is_some o ≡ false → o ≡ None
     none_carried None is = refl
     none_carried (Some x) is = cc
 
-    by_cases : (carries more : Bool) → is_some (loop_carry src.split.dense) ≡ carries → nat_lt 0 step ≡ more → IsIdealHere s
+    by_cases : (carries more : Bool) → is_some (loop_carry src.split.dense) ≡ carries → nat_lt 0 step ≡ more →
+        IsIdealHere s
     by_cases true true is later =
         from_ideal (received_is true true is later ∙ received_told is (ltb-true 0 step later))
     by_cases true false is later =
@@ -207,7 +213,8 @@ module _ (src : Source) (d : Dense) (most m round step h v : ℕ) (state : State
         never e = cc
 
     ideal_here : IsIdealHere state
-    ideal_here = subst IsIdealHere (sym same) (by_cases (is_some (loop_carry src.split.dense)) (nat_lt 0 step) refl refl)
+    ideal_here = subst IsIdealHere (sym same)
+        (by_cases (is_some (loop_carry src.split.dense)) (nat_lt 0 step) refl refl)
 
 pub machine_scans_ideal : MachineScansAreIdeal
 machine_scans_ideal src d most m round step h v s runs are split holds lies inside =

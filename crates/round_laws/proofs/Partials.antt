@@ -25,7 +25,8 @@ filled_still op bucket bound key words q none f = record {
   low = f.low;
 }
 
-filled_word : (op : Combine) (bucket : ℕ → List ℤ) (bound key : ℕ) (words : List ℤ) (word : ℤ) (q : Partial) → key < bound →
+filled_word : (op : Combine) (bucket : ℕ → List ℤ) (bound key : ℕ) (words : List ℤ) (word : ℤ) (q : Partial) →
+    key < bound →
     words ≡ word ∷ [] → Filled op bucket bound q → Filled op (with_more bucket key words) bound (with_word key word q)
 filled_word op bucket bound key words word q lt is f =
     subst (λ ws. Filled op (with_more bucket key ws) bound (with_word key word q)) (sym is)
@@ -72,7 +73,8 @@ fills_sent ops buckets bound key sent qs lt are =
     fills_values 0 ops buckets
     (λ place. option_to_list (slice_index_or (sent.values ++ sent.operands) place None)) bound key
     (sent.values ++ sent.operands) qs lt
-    (λ j. let here : 0 + j ≡ j = omega arith in ap (λ k. option_to_list (slice_index_or (sent.values ++ sent.operands) k None)) here)
+    (λ j. let here : 0 + j ≡ j = omega arith in ap
+    (λ k. option_to_list (slice_index_or (sent.values ++ sent.operands) k None)) here)
     are
 
 -- ---- partials in two parts
@@ -118,7 +120,8 @@ slot_values_filled at (op ∷ ops) buckets bound es (q ∷ qs) are each =
 
 -- what stands at the place of a slot
 slot_at : (at : ℕ) (ops : List Combine) (es : List Emission) (more : List (Option ℤ)) (j : ℕ) (op : Combine) →
-    slice_get ops j ≡ Some op → slice_index_or (slot_values at ops es ++ more) j None ≡ combined op (words_for (at + j) es)
+    slice_get ops j ≡ Some op → slice_index_or (slot_values at ops es ++ more) j None ≡
+    combined op (words_for (at + j) es)
 slot_at at [] es more j op is = cc
 slot_at at (o ∷ ops) es more zero op is =
     let same : o ≡ op = cc in
@@ -144,9 +147,11 @@ pub filled_behind : (ops more : List Combine) (buckets : ℕ → ℕ → List �
     AreFilled 0 (ops ++ more) buckets bound qs → AreFilled (length ops) more buckets bound (drop (length ops) qs)
 filled_behind ops more buckets bound qs are =
     let here : 0 + length ops ≡ length ops = omega arith in
-    subst (λ n. AreFilled n more buckets bound (drop (length ops) qs)) here (filled_rest 0 ops more buckets bound qs are)
+    subst (λ n. AreFilled n more buckets bound (drop (length ops) qs)) here
+    (filled_rest 0 ops more buckets bound qs are)
 
-pub slots_filled : (ops : List Combine) (buckets : ℕ → ℕ → List ℤ) (bound : ℕ) (es : List Emission) (qs : List Partial) →
+pub slots_filled : (ops : List Combine) (buckets : ℕ → ℕ → List ℤ) (bound : ℕ) (es : List Emission)
+    (qs : List Partial) →
     AreFilled 0 ops buckets bound qs →
     ((j : ℕ) (op : Combine) → slice_get ops j ≡ Some op →
     combined op (flat_map (buckets j) (range_with_len 0 bound)) ≡ combined op (words_for j es)) →

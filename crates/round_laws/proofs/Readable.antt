@@ -43,7 +43,8 @@ blocks_read p typed =
     (d.0, (and_parts (option_all sparse_read p.sparse) _ d.1).0)
 
 -- a tail reads no neighbour
-pub tail_read : (p : Program) (d : Dense) → is_typed p ≡ true → p.dense ≡ Some d → body_read in_tests d.tail.items ≡ true
+pub tail_read : (p : Program) (d : Dense) → is_typed p ≡ true → p.dense ≡ Some d → body_read in_tests d.tail.items ≡
+    true
 tail_read p d typed e =
     let all : dense_read d ≡ true = ap (option_all dense_read) (sym e) ∙ (blocks_read p typed).0 in
     let a = and_parts (expr_read in_tests d.when_test) _ all in
@@ -51,7 +52,8 @@ tail_read p d typed e =
     (and_parts (body_read in_loop d.body.items) _ b.1).1
 
 -- a sparse body reads of the neighbour nothing but the weight of its edge
-pub pushed_read : (p : Program) (k : Sparse) → is_typed p ≡ true → p.sparse ≡ Some k → body_read in_sparse k.body.items ≡ true
+pub pushed_read : (p : Program) (k : Sparse) → is_typed p ≡ true → p.sparse ≡ Some k →
+    body_read in_sparse k.body.items ≡ true
 pushed_read p k typed e =
     let all : sparse_read k ≡ true = ap (option_all sparse_read) (sym e) ∙ (blocks_read p typed).1 in
     let a = and_parts (expr_read in_tests k.when_test) _ all in

@@ -64,7 +64,8 @@ same_either false x = refl
 
 -- ---- at a vertex with members
 told_with : (width : ℕ) (flow : Flow) (words : List ℤ) →
-    (let st : LoopState = record { mark = mark_after flow; words = words } in st) ≡ told_state width (state_with flow words)
+    (let st : LoopState = record { mark = mark_after flow; words = words } in st) ≡
+    told_state width (state_with flow words)
 told_with width Going words = refl
 told_with width Broke words = refl
 
@@ -83,8 +84,10 @@ module _ (split : Split) (d : Dense) (g : Sight) (s : Scene) (key v : ℕ) (e : 
       SameButKey (begun (loop_split d) d.lets.items received env) (begun (loop_split d) d.lets.items received seen)
   begun_keyed received =
       let cs = (loop_split d).classes.locals.items in
-      ap (λ first. let b : Env = record (with_words (with_neutral cs (with_received cs received first.locals.items)) first) { touched = 0 } in b)
-      (lets_keyed d.lets.items (record env { locals = record { items = [] } }) (record seen { locals = record { items = [] } })
+      ap (λ first. let b : Env = record
+      (with_words (with_neutral cs (with_received cs received first.locals.items)) first) { touched = 0 } in b)
+      (lets_keyed d.lets.items (record env { locals = record { items = [] } })
+      (record seen { locals = record { items = [] } })
       (ap (λ x. let a : Env = record x { locals = record { items = [] } } in a) keyed))
 
   -- the segment that a machine runs is the source's
@@ -142,7 +145,8 @@ module _ (split : Split) (d : Dense) (g : Sight) (s : Scene) (key v : ℕ) (e : 
       (refl, record { sent = nothing_is_sent split d env h refl; reads = refl })
 
   -- where the test is false the state is passed on
-  passes_by : is_set (value_of d.when_test env) ≡ false → scan_from Fresh ≡ passed split (told_state (width_of split) Fresh)
+  passes_by : is_set (value_of d.when_test env) ≡ false → scan_from Fresh ≡
+      passed split (told_state (width_of split) Fresh)
   passes_by test =
       let st : LoopState = told_state (width_of split) Fresh in
       ap (λ x. if not (is_set x) then passed split st else scanned_by split d (segment_seen d g (e ∷ es) st seen))
@@ -185,7 +189,8 @@ module _ (split : Split) (d : Dense) (g : Sight) (s : Scene) (key v : ℕ)
         ap (λ rs. (scan (e ∷ es) rs).state) (chosen before) ∙ runs.0
             ∙ ap told ((grows s d at_v (program_of split) h before (e ∷ es)).state ∙ sym (chosen (before ++ (e ∷ es)))),
         record {
-          sent = ap (λ rs. (scan (e ∷ es) rs).sent) (chosen before) ∙ runs.1.sent ∙ ap (sent_by_segment split d) (sym ran);
+          sent = ap (λ rs. (scan (e ∷ es) rs).sent) (chosen before) ∙ runs.1.sent
+              ∙ ap (sent_by_segment split d) (sym ran);
           reads = ap (λ rs. (scan (e ∷ es) rs).reads) (chosen before) ∙ runs.1.reads ∙ ap (λ r. r.reads) (sym ran);
         },
       )

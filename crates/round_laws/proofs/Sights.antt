@@ -49,7 +49,8 @@ pub beside_is : {X : Type 0} (d : X) (f : ℕ → X) (us : List ℕ) (v : ℕ) �
     beside d v us (map f us) ≡ f v
 beside_is d f [] v some = cc
 beside_is d f (u ∷ us) v some =
-    by_place (u == v) u v (f u) (beside d v us (map f us)) f (list_any (λ u. u == v) us) refl refl (beside_is d f us v) some
+    by_place (u == v) u v (f u) (beside d v us (map f us)) f (list_any (λ u. u == v) us) refl refl
+    (beside_is d f us v) some
 
 -- the row of an own vertex among those of the chunk
 pub row_of_own : (rows : List Row) (ends : List ℕ) (m v : ℕ) → lies_in ends m v ≡ true →
@@ -60,7 +61,8 @@ row_of_own rows ends m v lies =
     let high : v < slice_index ends m = lies_high ends m v lies in
     get_or-map-range_with_len (row_at rows) a (slice_index ends m - a) (v - a) v empty_row (omega arith) (omega arith)
 
-module _ (most m : ℕ) (state : State) (sc : Scene) (are : AreEnds most sc.graph.ends) (stands : StandsIn m state sc) where
+module _ (most m : ℕ) (state : State) (sc : Scene) (are : AreEnds most sc.graph.ends)
+    (stands : StandsIn m state sc) where
   abbrev ends : List ℕ
   ends = sc.graph.ends
 
@@ -77,7 +79,13 @@ module _ (most m : ℕ) (state : State) (sc : Scene) (are : AreEnds most sc.grap
   same = λ i. record state { part = stands.part i }
 
   round_seen : SeesScene (own_sight s sc.round) sc
-  round_seen = record { n = sym stands.sized; round = refl; draws = refl; totals = ap known_totals (sym same) ∙ stands.totals }
+  round_seen = record {
+    n = sym stands.sized;
+    round = refl;
+    draws = refl;
+    totals = ap known_totals (sym same)
+        ∙ stands.totals;
+  }
 
   -- ---- degrees and rows
   degrees_are : (v : ℕ) → knows ends edges m v ≡ true → degree_of part v ≡ degree_in edges edges v
@@ -97,7 +105,8 @@ module _ (most m : ℕ) (state : State) (sc : Scene) (are : AreEnds most sc.grap
 
   own_seen : (v : ℕ) → lies_in ends m v ≡ true → SeesVertex (own_sight s sc.round) sc v
   own_seen v lies =
-      vertex_by (own_sight s sc.round) v (own_row_is v lies) refl refl (own_law most ends edges m v are stands.machine lies)
+      vertex_by (own_sight s sc.round) v (own_row_is v lies) refl refl
+      (own_law most ends edges m v are stands.machine lies)
 
   -- ---- a scan of chunk d
   module _ (d : ℕ) where
@@ -112,20 +121,30 @@ module _ (most m : ℕ) (state : State) (sc : Scene) (are : AreEnds most sc.grap
         ∙ ap (λ x. if not b && x then mirror_row s sc.round d v else own_row s v) lies
 
     -- the sources of members that lie here are own vertices
-    loop_by : (v : ℕ) (e : Edge) (es : List Edge) → SeesVertex g sc v → ((u : ℕ) → lies_in ends m u ≡ true → SeesVertex g sc u) →
+    loop_by : (v : ℕ) (e : Edge) (es : List Edge) → SeesVertex g sc v →
+        ((u : ℕ) → lies_in ends m u ≡ true → SeesVertex g sc u) →
         AllByRecursion (λ x. lies_in ends m (source x) ≡ true) (e ∷ es) → SeesLoop g sc v (e ∷ es)
     loop_by v e es here own all = record {
-      scene = record { n = sym stands.sized; round = refl; draws = refl; totals = ap known_totals (sym same) ∙ stands.totals };
+      scene = record {
+        n = sym stands.sized;
+        round = refl;
+        draws = refl;
+        totals = ap known_totals (sym same)
+            ∙ stands.totals;
+      };
       vertex = here;
-      sources = all_weaker (λ x. lies_in ends m (source x) ≡ true) (λ x. SeesVertex g sc (source x)) (λ x. own (source x)) (e ∷ es) all;
+      sources = all_weaker (λ x. lies_in ends m (source x) ≡ true) (λ x. SeesVertex g sc (source x))
+          (λ x. own (source x)) (e ∷ es) all;
     }
 
     abbrev here : ℕ → List Edge
     here v = members_with ends m (ins_of sc.graph.vertices edges v)
 
-    sees_by : (v : ℕ) → (are_some (here v) ≡ true → SeesVertex g sc v) → ((u : ℕ) → lies_in ends m u ≡ true → SeesVertex g sc u) →
+    sees_by : (v : ℕ) → (are_some (here v) ≡ true → SeesVertex g sc v) →
+        ((u : ℕ) → lies_in ends m u ≡ true → SeesVertex g sc u) →
         Sees g sc v (here v)
-    sees_by v vertex own = by (here v) refl (all_passes (λ e. lies_in ends m (source e)) (ins_of sc.graph.vertices edges v))
+    sees_by v vertex own = by (here v) refl
+        (all_passes (λ e. lies_in ends m (source e)) (ins_of sc.graph.vertices edges v))
       where
         by : (ms : List Edge) → here v ≡ ms → AllByRecursion (λ x. lies_in ends m (source x) ≡ true) ms → Sees g sc v ms
         by [] is all = tt
@@ -154,7 +173,8 @@ module _ (most m : ℕ) (state : State) (sc : Scene) (are : AreEnds most sc.grap
       rows_told : told_rows s sc.round d ≡ map (row_at sc.rows) list
       rows_told =
           let rows : List PlainRow = map (λ v. plain_row (row_at sc.rows v)) list in
-          ap (λ l. map told_row (rows_read (field_count state.split) (length l) (held_body state (refresh_name sc.round d m)))) mirrors_are
+          ap (λ l. map told_row (rows_read (field_count state.split) (length l)
+          (held_body state (refresh_name sc.round d m)))) mirrors_are
           ∙ ap (λ body. map told_row (rows_read (field_count state.split) (length list) body)) told.body
           ∙ ap (map told_row) (refresh_back (length list) (field_count state.split) rows
           (length-map list (λ v. plain_row (row_at sc.rows v)))
@@ -197,14 +217,16 @@ module _ (most m : ℕ) (state : State) (sc : Scene) (are : AreEnds most sc.grap
       subst (λ x. Sees (sight_at x sc.round m) sc v (within v)) (sym same)
       (sees_by m v (λ some. own_at m refl v lies) (own_at m refl))
 
-  told_scan : (d v : ℕ) → IsTold m d state sc → lies_in ends d v ≡ true → Sees (sight_at state sc.round d) sc v (within v)
+  told_scan : (d v : ℕ) → IsTold m d state sc → lies_in ends d v ≡ true →
+      Sees (sight_at state sc.round d) sc v (within v)
   told_scan d v told lies =
       subst (λ x. Sees (sight_at x sc.round d) sc v (within v)) (sym same)
       (sees_by d v (told_at d told v lies) (own_too d told))
 
 pub own_are_seen : OwnAreSeen
 own_are_seen most m s sc are stands = (
-  subst (λ x. SeesScene (own_sight x sc.round) sc) (sym (same most m s sc are stands)) (round_seen most m s sc are stands),
+  subst (λ x. SeesScene (own_sight x sc.round) sc) (sym (same most m s sc are stands))
+      (round_seen most m s sc are stands),
   λ v lies. subst (λ x. SeesVertex (own_sight x sc.round) sc v) (sym (same most m s sc are stands))
       (own_seen most m s sc are stands v lies),
 )

@@ -38,7 +38,8 @@ and_true false c is = refl
 -- the sources of the members of a vertex are vertices
 pub members_below : (n t v : ℕ) (edges : List Edge) → AllByRecursion (λ e. source e < n) (turned t (ins_of n edges v))
 members_below n t v edges =
-    let low : AllByRecursion (λ e. source e < n) (ins_of n edges v) = in_order_below source n (filter (λ e. target e == v) edges) in
+    let low : AllByRecursion (λ e. source e < n) (ins_of n edges v) =
+    in_order_below source n (filter (λ e. target e == v) edges) in
     all_append (λ e. source e < n) (filter (λ e. nat_le t (source e)) (ins_of n edges v))
     (filter (λ e. nat_lt (source e) t) (ins_of n edges v))
     (all_filter (λ e. source e < n) (λ e. nat_le t (source e)) (ins_of n edges v) low)
@@ -56,8 +57,10 @@ closes_sparse split sparse g s v ps is all here low came each filled =
     let key : Edge → ℕ = λ e. key_of n t (source e) in
     let source_emits : List Emission = (gathered (program_of split) ruling.Sparse s v).emitted in
     let there : source_emits ≡ flat_map emits members = ap (λ o. (sparse_part s slots o members env).emitted) is in
-    let by_key : (j : ℕ) → flat_map (push_buckets split sparse s v came j) (range_with_len 0 n) ≡ words_for j (flat_map emits members) =
-    λ j. flat_map_same (push_buckets split sparse s v came j) (λ k. words_for j (flat_map emits (bucket key k members))) (range_with_len 0 n)
+    let by_key : (j : ℕ) → flat_map (push_buckets split sparse s v came j) (range_with_len 0 n) ≡
+    words_for j (flat_map emits members) =
+    λ j. flat_map_same (push_buckets split sparse s v came j)
+    (λ k. words_for j (flat_map emits (bucket key k members))) (range_with_len 0 n)
     (all_true _ (λ k. ap (λ l. words_for j (flat_map emits l))
     (filter_same (λ e. key e == k && came (source e)) (λ e. key e == k) members
     (all_weaker (λ e. source e < n) (λ e. (key e == k && came (source e)) ≡ (key e == k))
@@ -72,4 +75,5 @@ closes_sparse split sparse g s v ps is all here low came each filled =
     (filled_first 0 slots (reduced_ops (classes_of split.dense)) (push_buckets split sparse s v came) n ps filled)
     (λ j op at. ap (combined op) (by_key j ∙ ap (words_for j) (sym there))) in
     ap (λ xs. updated (program_of split).update.items (seen_env g v 0 xs)) values
-    ∙ ap (updated (program_of split).update.items) (seen_environment g s v 0 (slot_values 0 slots source_emits) all here)
+    ∙ ap (updated (program_of split).update.items)
+    (seen_environment g s v 0 (slot_values 0 slots source_emits) all here)

@@ -82,7 +82,8 @@ all_totals ts a f first each_of (k ∷ ks) is are =
 
 -- ---- lists
 -- what stands at each place of a list
-each_place : {X : Type 0} (d : X) (c : ℕ) (xs : List X) → map (λ v. get_or xs (v - c) d) (range_with_len c (length xs)) ≡ xs
+each_place : {X : Type 0} (d : X) (c : ℕ) (xs : List X) →
+    map (λ v. get_or xs (v - c) d) (range_with_len c (length xs)) ≡ xs
 each_place d c [] = refl
 each_place d c (x ∷ xs) =
     let here : c - c ≡ 0 = omega arith in
@@ -105,7 +106,8 @@ pub sum-passing : {X : Type 0} (test : X → Bool) (f : X → ℕ) (xs : List X)
     sum (map f (filter test xs)) ≡ sum (map (λ x. if test x then f x else 0) xs)
 sum-passing test f [] = refl
 sum-passing test f (x ∷ xs) =
-    by (test x) (sum-passing test f xs) ∙ sym (sum-more (if test x then f x else 0) (map (λ x. if test x then f x else 0) xs))
+    by (test x) (sum-passing test f xs)
+    ∙ sym (sum-more (if test x then f x else 0) (map (λ x. if test x then f x else 0) xs))
   where
     by : (b : Bool) → sum (map f (filter test xs)) ≡ sum (map (λ x. if test x then f x else 0) xs) →
         sum (map f (cond b (x ∷ filter test xs) (filter test xs))) ≡
@@ -145,7 +147,8 @@ each_total P h (t ∷ ts) all =
     (h t (no_first t.op parts.0), each_total P h ts parts.1)
 
 module _ (src : Source) (most round : ℕ) (typed : is_typed src.job.program ≡ true)
-    (are : chunks.AreEnds most src.job.graph.ends) (sized : src.job.graph.vertices ≡ chunks.vertices_of src.job.graph.ends)
+    (are : chunks.AreEnds most src.job.graph.ends)
+    (sized : src.job.graph.vertices ≡ chunks.vertices_of src.job.graph.ends)
     (many : length (stand src (round + 1)).rows ≡ src.job.graph.vertices) where
   abbrev rows : List Row
   rows = (stand src (round + 1)).rows
@@ -178,13 +181,16 @@ module _ (src : Source) (most round : ℕ) (typed : is_typed src.job.program ≡
       ∙ sym (length-filter-map (range_with_len 0 (length rows)))
       ∙ ap active_vertices (rows_are rows)
     where
-      length-filter-map : (vs : List ℕ) → length (filter (λ r. r.active) (map (row_at rows) vs)) ≡ length (filter active vs)
-      length-filter-map vs = ap length (filter-map (λ (r : Row). r.active) (row_at rows) vs) ∙ length-map (filter active vs) (row_at rows)
+      length-filter-map : (vs : List ℕ) → length (filter (λ r. r.active) (map (row_at rows) vs)) ≡
+          length (filter active vs)
+      length-filter-map vs = ap length (filter-map (λ (r : Row). r.active) (row_at rows) vs)
+          ∙ length-map (filter active vs) (row_at rows)
 
   edges_sum : sum (each p (λ m. (count m).edges)) ≡ active_edges src.job.graph rows
   edges_sum =
       ap sum (map_same (λ m. (count m).edges)
-      (λ m. sum (map (λ v. if active v then outdegree src.job.graph v else 0) (chunk_vertices ends m))) (range_with_len 0 p)
+      (λ m. sum (map (λ v. if active v then outdegree src.job.graph v else 0) (chunk_vertices ends m)))
+      (range_with_len 0 p)
       (all_true _ (λ m. sum-passing active (outdegree src.job.graph) (chunk_vertices ends m)) (range_with_len 0 p)))
       ∙ sums_by_chunks most ends (λ v. if active v then outdegree src.job.graph v else 0) are
       ∙ ap (λ vs. sum (map (λ v. if active v then outdegree src.job.graph v else 0) vs)) (sym vertices_are)
@@ -211,8 +217,10 @@ module _ (src : Source) (most round : ℕ) (typed : is_typed src.job.program ≡
         active = (all_active ts (count 0) count (others_of p 0) ∙ over_machines (λ m. (count m).active) ∙ active_sum) i;
         edges = (all_edges ts (count 0) count (others_of p 0) ∙ over_machines (λ m. (count m).edges) ∙ edges_sum) i;
         reads = (all_reads ts (count 0) count (others_of p 0) ∙ over_machines (λ m. (count m).reads)) i;
-        totals = (all_totals ts (count 0) count (chunk_total src round 0) (chunk_total src round) (others_of p 0) refl (λ k. refl)
-            ∙ map_same (λ t. fold (combined_of t.op) (chunk_total src round 0 t) (map (λ k. chunk_total src round k t) (others_of p 0)))
+        totals = (all_totals ts (count 0) count (chunk_total src round 0) (chunk_total src round)
+            (others_of p 0) refl (λ k. refl)
+            ∙ map_same (λ t. fold (combined_of t.op) (chunk_total src round 0 t)
+            (map (λ k. chunk_total src round k t) (others_of p 0)))
             (total_after src.job round rows) ts
             (each_total (λ t. fold (combined_of t.op) (chunk_total src round 0 t)
             (map (λ k. chunk_total src round k t) (others_of p 0)) ≡ total_after src.job round rows t) total_sum ts

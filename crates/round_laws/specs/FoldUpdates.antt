@@ -21,7 +21,8 @@ use Rattle.round_laws.specs.IsIdeal.{IsIdeal, is_open}
 
 -- the vertices of a half of chunk m that have members with machine k
 abbrev pub updated_list : Source → ℕ → ℕ → ℕ → List ℕ
-updated_list src m k h = those_within (half_in src.job.graph.ends m h) (refresh_list src.job.graph.ends m k src.job.graph.edges)
+updated_list src m k h = those_within (half_in src.job.graph.ends m h)
+    (refresh_list src.job.graph.ends m k src.job.graph.edges)
 
 -- the message is the update of a step and a half that wasn't taken yet, in a dense round that is open
 pub record IsUpdate (src : Source) (m : ℕ) (s : State) (l : Letter) : Type 0 where
@@ -42,7 +43,8 @@ pub record IsUpdate (src : Source) (m : ℕ) (s : State) (l : Letter) : Type 0 w
 -- the words of an update are merged under the key of its step, and no body is kept
 abbrev pub TakesUpdates : Type 0
 TakesUpdates =
-    (src : Source) (d : Dense) (most m : ℕ) (s : State) (l : Letter) → RunsDense src d → AreEnds most src.job.graph.ends →
+    (src : Source) (d : Dense) (most m : ℕ) (s : State) (l : Letter) → RunsDense src d →
+    AreEnds most src.job.graph.ends →
     src.job.graph.vertices ≡ vertices_of src.job.graph.ends → m < machines_of src →
     ((v : ℕ) → IsSplit src.job.program d (block_env src s.at.round v)) →
     IsIdeal src m s → IsUpdate src m s l → l.body ≡ ideal_body src l.name → IsIdeal src m (core_take s l)

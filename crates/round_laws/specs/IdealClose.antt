@@ -30,7 +30,8 @@ pub record ClosesDenseRound (src : Source) (m round : ℕ) (s : State) : Type 0 
 
 abbrev pub DenseRowsAreIdeal : Type 0
 DenseRowsAreIdeal =
-    (src : Source) (d : Dense) (most m round : ℕ) (s : State) → RunsDense src d → AreEnds most src.job.graph.ends → most ≤ 64 →
+    (src : Source) (d : Dense) (most m round : ℕ) (s : State) → RunsDense src d → AreEnds most src.job.graph.ends →
+    most ≤ 64 →
     src.job.graph.vertices ≡ vertices_of src.job.graph.ends → m < machines_of src →
     ((v : ℕ) → IsSplit src.job.program d (block_env src round v)) →
     IsIdeal src m s → ClosesDenseRound src m round s →

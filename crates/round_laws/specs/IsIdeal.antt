@@ -82,7 +82,8 @@ abbrev pub is_worked : Option Letter → Bool
 is_worked None = false
 is_worked (Some l) = length l.body == 0
 
--- whether the sends of a vertex were worked: of an own one where the begin is past, else where the push of its machine was
+-- whether the sends of a vertex were worked: of an own one where the begin is past, else where the push of its
+-- machine was
 abbrev pub sends_came : Source → ℕ → Standing → List Letter → ℕ → Bool
 sends_came src m at held u =
     let k : ℕ = owner_of src.job.graph.ends u in

@@ -18,10 +18,12 @@ use Rattle.vert_eval.specs.Rounds as meaning
 -- what a machine counts of the source's rows and of its ideal reads is its ideal tally
 abbrev pub CountsAreIdeal : Type 0
 CountsAreIdeal =
-    (src : Source) (most m round : ℕ) (split : Split) (ends : List ℕ) (draws : ℕ) (edges : List Edge) (reads : List (List ℕ)) →
+    (src : Source) (most m round : ℕ) (split : Split) (ends : List ℕ) (draws : ℕ) (edges : List Edge)
+    (reads : List (List ℕ)) →
     src.job ≡ job_of split ends draws edges → AreEnds most ends → m < length ends →
     sum (map length reads) ≡ sum (map (λ v. length (ideal_reads src round m v)) (meaning.vertices_of src.job.graph)) →
-    counted (part_of ends draws edges m) split (map (row_at (stand src (round + 1)).rows) (chunk_vertices ends m)) reads round ≡
+    counted (part_of ends draws edges m) split
+    (map (row_at (stand src (round + 1)).rows) (chunk_vertices ends m)) reads round ≡
     ideal_count src round m
 
 -- a judge that has summed the source's counts and totals rules as the source

@@ -39,7 +39,8 @@ pub record ScansHalf (src : Source) (m round step h : ℕ) (s : State) : Type 0 
 -- hands on the ideal ring state
 abbrev pub MachineScansAreIdeal : Type 0
 MachineScansAreIdeal =
-    (src : Source) (d : Dense) (most m round step h v : ℕ) (s : State) → RunsDense src d → AreEnds most src.job.graph.ends →
+    (src : Source) (d : Dense) (most m round step h v : ℕ) (s : State) → RunsDense src d →
+    AreEnds most src.job.graph.ends →
     IsSplit src.job.program d (block_env src round v) → ScansHalf src m round step h s →
     let c : ℕ = chunk_of m step (machines_of src) in
     let got : Scanned = scanned_at s round step h v in

@@ -21,7 +21,8 @@ abbrev pub push_buckets : Split → Sparse → Scene → ℕ → (ℕ → Bool) 
 push_buckets split sparse s v came place key =
     words_for place
     (flat_map (emitted_over s (slot_ops (program_of split)) sparse (env_at s v (none split)))
-    (filter (λ e. key_of s.graph.vertices (turn_of s.graph.ends v) (source e) == key && came (source e)) (members_of s.graph v)))
+    (filter (λ e. key_of s.graph.vertices (turn_of s.graph.ends v) (source e) == key && came (source e))
+    (members_of s.graph v)))
 
 -- where all sends came, the close makes the source's row
 abbrev pub ClosesSparse : Type 0

@@ -18,7 +18,8 @@ source_count src round =
     record {
       active = active_vertices rows;
       edges = active_edges src.job.graph rows;
-      reads = sum (each (machines_of src) (λ m. sum (map (λ v. length (ideal_reads src round m v)) (vertices_of src.job.graph))));
+      reads = sum (each (machines_of src)
+          (λ m. sum (map (λ v. length (ideal_reads src round m v)) (vertices_of src.job.graph))));
       totals = totals_after src.job round rows;
     }
 
@@ -28,5 +29,6 @@ TalliesAreSummed =
     (src : Source) (most round : ℕ) → is_typed src.job.program ≡ true → chunks.AreEnds most src.job.graph.ends →
     src.job.graph.vertices ≡ chunks.vertices_of src.job.graph.ends →
     length (stand src (round + 1)).rows ≡ src.job.graph.vertices →
-    all_joined src.job.program.totals.items (ideal_count src round 0) (map (ideal_count src round) (others_of (machines_of src) 0)) ≡
+    all_joined src.job.program.totals.items (ideal_count src round 0)
+    (map (ideal_count src round) (others_of (machines_of src) 0)) ≡
     source_count src round

@@ -68,7 +68,8 @@ pub fn tallies_are_summed()
     ensures { TalliesAreSummed }
 {}
 
-/// The law that a machine sees the source's rows and degrees, in its own chunk and where it was told of another. It does nothing.
+/// The law that a machine sees the source's rows and degrees, in its own chunk and where it was told of another. It
+/// does nothing.
 pub fn machines_see_the_source()
     ensures own { OwnAreSeen }
     ensures here { OwnScansAreSeen }
@@ -93,7 +94,8 @@ pub fn machines_scan_ideally()
     ensures { MachineScansAreIdeal }
 {}
 
-/// The law that a machine's counts and totals of ideal contents are its ideal tally, and that a judge rules as the source. It does nothing.
+/// The law that a machine's counts and totals of ideal contents are its ideal tally, and that a judge rules as the
+/// source. It does nothing.
 pub fn judges_rule_as_the_source()
     ensures counts { CountsAreIdeal }
     ensures ruling { JudgesAsTheSource }
