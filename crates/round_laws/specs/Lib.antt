@@ -1,6 +1,7 @@
 pub mod Chunks
 pub mod DenseClose
 pub mod DenseRound
+pub mod FoldCloses
 pub mod FoldTakes
 pub mod FoldUpdates
 pub mod FoldVerdicts
