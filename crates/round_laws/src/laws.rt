@@ -1,6 +1,6 @@
 ghost use Rattle.round_laws.specs.DenseClose.{ClosesDense};
 ghost use Rattle.round_laws.specs.DenseRound.{RoundByMachines};
-ghost use Rattle.round_laws.specs.FoldCloses.{ClosesAndGoesOn};
+ghost use Rattle.round_laws.specs.FoldCloses.{ClosesAndGoesOn, ClosesToJudge, DenseReadsAreIdeal, SparseReadsAreIdeal};
 ghost use Rattle.round_laws.specs.FoldTakes.{TakesWhatIsKept};
 ghost use Rattle.round_laws.specs.FoldUpdates.{TakesUpdates};
 ghost use Rattle.round_laws.specs.FoldVerdicts.{TakesVerdicts};
@@ -104,5 +104,8 @@ pub fn judges_rule_as_the_source()
 
 /// The law that a machine that closes a round still holds what the source's run says. It does nothing.
 pub fn closes_go_on()
-    ensures { ClosesAndGoesOn }
+    ensures begin { ClosesAndGoesOn }
+    ensures judge { ClosesToJudge }
+    ensures dense { DenseReadsAreIdeal }
+    ensures sparse { SparseReadsAreIdeal }
 {}
