@@ -67,7 +67,7 @@ and_none false c is = refl
 
 -- ---- at the begin of a round nothing came and nothing was read
 module _ (src : Source) (m round : ℕ) where
-  abbrev begin : Standing
+  abbrev pub begin : Standing
   begin = record { spot = Begin round; round = round }
 
   nothing_past : (step h : ℕ) → is_past begin step h ≡ false
@@ -90,19 +90,19 @@ module _ (src : Source) (m round : ℕ) where
       (all_true _ (λ e. and_none (key_of src.job.graph.vertices (turn_of src.job.graph.ends v) (source e) == key)
       (sends_came src m begin [] (source e)) (no_sends (source e))) (members_of (scene src round).graph v)))
 
-  no_words : (q : Ruling) (v place key : ℕ) → words_by q src m begin [] v place key ≡ []
+  pub no_words : (q : Ruling) (v place key : ℕ) → words_by q src m begin [] v place key ≡ []
   no_words ruling.Stop v place key = refl
   no_words ruling.Dense v place key =
       ap (λ b. if b then sent_words (ideal_sent src round v m key) place else []) (no_step v key)
   no_words ruling.Sparse v place key = no_pushes (program_of src.split).sparse v place key
 
-  no_ring : (v : ℕ) → ring_held src m begin v ≡ fresh src.split
+  pub no_ring : (v : ℕ) → ring_held src m begin v ≡ fresh src.split
   no_ring v =
       ap (λ b. if b then state_at src round v m (machines_of src) else fresh src.split)
       (and_none (is_dense (stand src round).ruling) (is_past begin (chunk_of m m (machines_of src)) (half_at src m v))
       (nothing_past (chunk_of m m (machines_of src)) (half_at src m v)))
 
-  no_reads : (v : ℕ) → reads_held src m begin v ≡ []
+  pub no_reads : (v : ℕ) → reads_held src m begin v ≡ []
   no_reads v =
       let c : ℕ = owner_of src.job.graph.ends v in
       ap (λ b. if b then (ideal_ran src round v c (chunk_of m c (machines_of src))).reads else [])
@@ -204,7 +204,7 @@ module _ (src : Source) (round : ℕ) (dense : Bool) (state : State) where
   judge_next = moved judging (close_go zero_state round dense)
 
   -- what isn't past at the judge wasn't at the close
-  earlier : (step h : ℕ) → is_past judging step h ≡ false → is_past closing step h ≡ false
+  pub earlier : (step h : ℕ) → is_past judging step h ≡ false → is_past closing step h ≡ false
   earlier step h late =
       let place : ℕ = 256 * round + (1 + 2 * step + h) in
       let behind : 256 * round + 255 ≤ place = not_less place (256 * round + 255) late in

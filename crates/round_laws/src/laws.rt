@@ -2,6 +2,7 @@ ghost use Rattle.round_laws.specs.DenseClose.{ClosesDense};
 ghost use Rattle.round_laws.specs.DenseRound.{RoundByMachines};
 ghost use Rattle.round_laws.specs.FoldCloses.{ClosesAndGoesOn, ClosesToJudge, DenseReadsAreIdeal, SparseReadsAreIdeal};
 ghost use Rattle.round_laws.specs.FoldTakes.{TakesWhatIsKept};
+ghost use Rattle.round_laws.specs.FoldTells.{TellsAndGoesOn};
 ghost use Rattle.round_laws.specs.FoldUpdates.{TakesUpdates};
 ghost use Rattle.round_laws.specs.FoldVerdicts.{TakesVerdicts};
 ghost use Rattle.round_laws.specs.IdealClose.{DenseRowsAreIdeal, SparseRowsAreIdeal};
@@ -108,4 +109,9 @@ pub fn closes_go_on()
     ensures judge { ClosesToJudge }
     ensures dense { DenseReadsAreIdeal }
     ensures sparse { SparseReadsAreIdeal }
+{}
+
+/// The law that a machine that has told its first rows still holds what the source's run says. It does nothing.
+pub fn tells_go_on()
+    ensures { TellsAndGoesOn }
 {}
