@@ -14,6 +14,8 @@ use Rattle.skeleton_laws.specs.Laws.{EachOnce, NamesRise}
 use Rattle.skeleton_laws.proofs.NamesInOrder.{has_ordered, has_ordered_cases, names_rise}
 use Rattle.skeleton_laws.proofs.LeastLaws.{rising_are_one}
 use Rattle.circulant_plan.specs.Choosing.{names_in_order}
+use Rattle.symple_face.specs.Cluster.{all_placed}
+use Rattle.cluster_run.specs.Sends.{AreNew}
 
 -- two tests that hold together are one
 pub same_test : (a b : Bool) → (a ≡ true → b ≡ true) → (b ≡ true → a ≡ true) → a ≡ b
@@ -61,21 +63,12 @@ none_or false true c = refl
 none_or false false c = refl
 
 -- ---- many letters put among others
-abbrev pub all_placed : List Letter → List Letter → List Letter
-all_placed [] under_way = under_way
-all_placed (l ∷ ls) under_way = all_placed ls (placed l under_way)
-
 pub has_all_placed : (x : Name) (ls ms : List Letter) → has_letter x (all_placed ls ms) ≡ (has_name x (names_of ls) || has_letter x ms)
 has_all_placed x [] ms = refl
 has_all_placed x (l ∷ ls) ms =
     has_all_placed x ls (placed l ms)
     ∙ ap (λ b. has_name x (names_of ls) || b) (has_placed x l ms)
     ∙ none_or (same_name x l.name) (has_name x (names_of ls)) (has_letter x ms)
-
--- each of the letters has a name that isn't there yet
-abbrev pub AreNew : List Letter → List Letter → Type 0
-AreNew [] ms = Unit {0}
-AreNew (l ∷ ls) ms = (found l.name ms ≡ None) × AreNew ls (placed l ms)
 
 none_found : (o : Option Letter) → is_some o ≡ false → o ≡ None
 none_found None e = refl
@@ -145,10 +138,10 @@ left_is_step y o false e = e
 pub without_is : (x z : Name) (ms : List Letter) (y : Letter) → Ascends ms → found z (without x ms) ≡ Some y → found z ms ≡ Some y
 without_is x z ms y rise e = left_is_step y (found z ms) (same_name x z) (sym (taken_law x ms z rise) ∙ e)
 
-and_true : (a b : Bool) → a ≡ true → b ≡ true → (a && b) ≡ true
+pub and_true : (a b : Bool) → a ≡ true → b ≡ true → (a && b) ≡ true
 and_true a b e f = subst (λ c. (c && b) ≡ true) (sym e) f
 
-not_from : (b : Bool) → b ≡ false → not b ≡ true
+pub not_from : (b : Bool) → b ≡ false → not b ≡ true
 not_from b e = ap not e
 
 pub not_parts : (b : Bool) → not b ≡ true → b ≡ false

@@ -1,2 +1,13 @@
 pub mod Letters
 pub mod Tables
+pub mod Sites
+pub mod Onward
+pub mod Worlds
+pub mod PartsAt
+pub mod GoWorlds
+pub mod TakeWorlds
+pub mod FirstWorlds
+pub mod ReachedWorlds
+pub mod Results
+pub mod Moves
+pub mod Done

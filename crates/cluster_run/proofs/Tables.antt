@@ -12,7 +12,8 @@ use Rattle.circulant_plan.specs.declared.spot.Spot.{Spot}
 use Rattle.circulant_plan.specs.declared.spot.Spot.TheVariants.{Tell, Judge, Begin, Scan, Close, Over}
 use Rattle.circulant_plan.specs.Names.{refresh_name, dep_name, update_name, push_name, tally_name, verdict_name}
 use Rattle.circulant_plan.specs.Ring.{chunk_of, after_machine}
-use Rattle.circulant_plan.specs.Skeleton.{is_over, acting_ruling}
+use Rattle.circulant_plan.specs.Skeleton.{Blocks, is_over, acting_ruling, may_rule, rules_rightly, rulings_after}
+use Rattle.symple_face.specs.Lawful.{is_begin}
 use Rattle.circulant_plan.specs.Standing.{Standing, round_of, round_ruled, next_standing}
 use Rattle.circulant_plan.specs.Table.{others_of, name_if, tally_gives, begin_gives, needs_of, gives_of, after_begin, after_judge, next_spot}
 use Rattle.circulant_plan.specs.Deliveries.{HasSpot, IsSentBefore}
@@ -116,3 +117,60 @@ acts_alike ring m judged known other (Begin r) same = acts_by ring m (Begin r) k
 acts_alike ring m judged known other (Scan r s h) same = record { gives = refl; next = refl }
 acts_alike ring m judged known other (Close r dense) same = record { gives = refl; next = refl }
 acts_alike ring m judged known other Over same = record { gives = refl; next = refl }
+
+-- ---- where machine 0 begins a round, it judged before
+zero_at : (r : ℕ) (b : Bool) → b ≡ true → is_begin (if b then Judge r else Begin (r + 1)) ≡ true → ⊥
+zero_at r true e begins = false≢true begins
+zero_at r false e begins = false≢true e
+
+zero_tells : (b : Bool) → b ≡ true → is_begin (if b then Judge 0 else Begin 1) ≡ true → ⊥
+zero_tells true e begins = false≢true begins
+zero_tells false e begins = false≢true e
+
+begins_no_begin : (r : ℕ) (a : Ruling) → is_begin (after_begin r a) ≡ true → ⊥
+begins_no_begin r Stop begins = false≢true begins
+begins_no_begin r Dense begins = false≢true begins
+begins_no_begin r Sparse begins = false≢true begins
+
+scans_no_begin : (r s : ℕ) (a b : Bool) → is_begin (if a then Scan r s 1 else if b then Scan r (s + 1) 0 else Close r true) ≡ true → ⊥
+scans_no_begin r s true b begins = false≢true begins
+scans_no_begin r s false true begins = false≢true begins
+scans_no_begin r s false false begins = false≢true begins
+
+pub zero_begins : (ring : Ring) (m : ℕ) (a : Ruling) (spot : Spot) → m ≡ 0 → is_begin (next_spot ring m spot a) ≡ true →
+    (r : ℕ) × (spot ≡ Judge r)
+zero_begins ring m a Tell first begins = absurd (zero_tells (m == 0) (is_zero m first) begins)
+zero_begins ring m a (Judge r) first begins = (r, refl)
+zero_begins ring m a (Begin r) first begins = absurd (begins_no_begin r a begins)
+zero_begins ring m a (Scan r s h) first begins = absurd (scans_no_begin r s (h == 0) (nat_lt s (ring.machines - 1)) begins)
+zero_begins ring m a (Close r dense) first begins = absurd (zero_at r (m == 0) (is_zero m first) begins)
+zero_begins ring m a Over first begins = absurd (false≢true begins)
+
+-- an action that stays in its round is no judge's
+pub record StaysBy (judged known : Ruling) (spot : Spot) (made : List (ℕ × Ruling)) : Type 0 where
+  pub acting_is : acting_ruling judged known spot ≡ known
+  pub rulings_are : rulings_after judged spot made ≡ made
+
+judge_leaves : (r : ℕ) (a : Ruling) → is_over (after_judge r a) ≡ false → is_begin (after_judge r a) ≡ false → ⊥
+judge_leaves r Stop over begins = false≢true (sym over)
+judge_leaves r Dense over begins = false≢true (sym begins)
+judge_leaves r Sparse over begins = false≢true (sym begins)
+
+pub stays_by : (ring : Ring) (m : ℕ) (a judged known : Ruling) (spot : Spot) (made : List (ℕ × Ruling)) →
+    is_over (next_spot ring m spot a) ≡ false → is_begin (next_spot ring m spot a) ≡ false → StaysBy judged known spot made
+stays_by ring m a judged known Tell made over begins = record { acting_is = refl; rulings_are = refl }
+stays_by ring m a judged known (Judge r) made over begins = absurd (judge_leaves r a over begins)
+stays_by ring m a judged known (Begin r) made over begins = record { acting_is = refl; rulings_are = refl }
+stays_by ring m a judged known (Scan r s h) made over begins = record { acting_is = refl; rulings_are = refl }
+stays_by ring m a judged known (Close r dense) made over begins = record { acting_is = refl; rulings_are = refl }
+stays_by ring m a judged known Over made over begins = record { acting_is = refl; rulings_are = refl }
+
+-- at a judge the ruling has to be one that it may make
+pub rules_by : (blocks : Blocks) (judged : Ruling) (spot : Spot) →
+    ((r : ℕ) → spot ≡ Judge r → may_rule blocks (r + 1) judged ≡ true) → rules_rightly blocks judged spot ≡ true
+rules_by blocks judged Tell may = refl
+rules_by blocks judged (Judge r) may = may r refl
+rules_by blocks judged (Begin r) may = refl
+rules_by blocks judged (Scan r s h) may = refl
+rules_by blocks judged (Close r dense) may = refl
+rules_by blocks judged Over may = refl

@@ -1,0 +1,4 @@
+pub mod Driven
+pub mod Faults
+pub mod Laws
+pub mod Sends

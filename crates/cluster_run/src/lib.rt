@@ -1,2 +1,12 @@
 //! Many machines of one kind, and one event at a time.
 #![tactic(auto)]
+
+mod acts;
+mod cluster;
+mod fault;
+mod laws;
+mod looks;
+
+pub use cluster::Cluster;
+pub use fault::{EventFault, Missing};
+pub use laws::worlds_are_in_order;

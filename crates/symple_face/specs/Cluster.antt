@@ -1,6 +1,6 @@
 -- A cluster of machines of one kind and the messages under way, as plain data, and what an event makes of them.
-use Rattle.std.specs.Prelude.{◌≡◌, ◌≤◌, ℕ, ◌+◌, ◌*◌, ◌&&◌, Bool, true, false, Option, Some, None, is_some, List, [], ◌∷◌, ◌++◌, map, length, slice_get, slice_set}
-use Rattle.std.specs.List.{filter, list_all, range_with_len}
+use Rattle.std.specs.Prelude.{◌≡◌, ◌≤◌, ℕ, ◌+◌, ◌*◌, ◌&&◌, Bool, true, false, if◌then◌else◌, Option, Some, None, is_some, List, [], ◌∷◌, ◌++◌, map, length, slice_get, slice_set}
+use Rattle.std.specs.List.{list_all}
 use Rattle.vert_base.specs.declared.graph.Edge.{Edge}
 use Rattle.vert_base.specs.declared.limits.TheConstants.{EDGES, VERTICES}
 use Rattle.vert_base.specs.declared.message.Event.{Event}
@@ -83,9 +83,14 @@ all_possible work w (e ∷ es) = possible w e && all_possible work (step work w 
 abbrev pub is_complete : Work → World → List Event → Bool
 is_complete work w es = all_possible work w es && finished (after work w es)
 
--- the machines that are ready, ascending
+-- the machines that are ready, ascending, where the first of a list has this number
+abbrev pub ready_from : ℕ → List State → List ℕ
+ready_from number [] = []
+ready_from number (s ∷ ss) =
+    if can_act (Some s) then number ∷ ready_from (number + 1) ss else ready_from (number + 1) ss
+
 abbrev pub ready_machines : World → List ℕ
-ready_machines w = filter (λ m. can_act (slice_get w.sites m)) (range_with_len 0 (length w.sites))
+ready_machines w = ready_from 0 w.sites
 
 abbrev pub goes : World → List Event
 goes w = map (λ m. Go m) (ready_machines w)

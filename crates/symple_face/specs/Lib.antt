@@ -9,6 +9,9 @@ pub mod Ring
 pub mod State
 pub mod Work
 pub mod Sight
+pub mod Cluster
+pub mod Source
+pub mod Ideal
 pub mod CoreSight
 pub mod CoreTakes
 pub mod CoreScan
@@ -20,6 +23,3 @@ pub mod CoreFirst
 pub mod CoreWork
 pub mod Lawful
 pub mod Restarts
-pub mod Cluster
-pub mod Source
-pub mod Ideal

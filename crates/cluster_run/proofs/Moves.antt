@@ -1,0 +1,45 @@
+-- What an event does, over the list of the machines and the messages under way.
+use Rattle.std.proofs.Common.{◌≡◌, ◌≢◌, ℕ, zero, suc, ◌+◌, ◌^◌, ◌<◌, ◌≤◌, Bool, true, false, cond, List, [], ◌∷◌, ◌++◌, length, map, drop, get_or, Option, Some, None, refl, ap, sym, ◌∙◌, subst, arith, slice_get}
+use Rattle.std.specs.Prelude.{slice_set}
+use Rattle.std.proofs.lemmas.Option.{slice_get_read, slice_get_within}
+use Rattle.vert_base.specs.declared.message.Message.{Message}
+use Rattle.vert_base.specs.Letters.{Letter, letter_of, placed}
+use Rattle.vert_base.proofs.LetterLaws.{longer}
+use Rattle.symple_face.specs.Cluster.{all_placed}
+use Rattle.symple_face.specs.State.{State}
+use Rattle.symple_face.specs.Work.{Work}
+use Rattle.cluster_run.specs.Sends.{CanSend}
+use Rattle.cluster_run.proofs.Sites.{map_get, map_set, get_one}
+
+-- the first message of a list is put under way
+pub record IsShifted (ms rest : List Message) (old new : List Letter) : Type 0 where
+  pub rest_is : all_placed (map letter_of rest) new ≡ all_placed (map letter_of ms) old
+  pub can : CanSend (map letter_of rest) new
+
+pub shifted : (ms rest : List Message) (m : Message) (old new : List Letter) → 1 ≤ length ms → m ≡ get_or ms 0 m → rest ≡ drop 1 ms →
+    new ≡ placed (letter_of m) old → CanSend (map letter_of ms) old → IsShifted ms rest old new
+shifted [] rest m old new some first others is can = absurd (omega arith)
+shifted (x ∷ xs) rest m old new some first others is can =
+    let here : new ≡ placed (letter_of x) old = is ∙ ap (λ (q : Message). placed (letter_of q) old) first in
+    let tail : rest ≡ xs = others in
+    let size = longer (letter_of x) old in
+    let room = can.room in
+    subst (λ ys. IsShifted (x ∷ xs) ys old new) (sym tail)
+    (subst (λ flight. IsShifted (x ∷ xs) xs old flight) (sym here)
+    (record { rest_is = refl; can = record { new = can.new.1; room = omega arith } }))
+
+-- ---- one machine among others
+pub state_at : {X : Type 0} → (state : X → State) (xs : List X) (m : ℕ) (x : X) → m < length xs → x ≡ get_or xs m x → slice_get (map state xs) m ≡ Some (state x)
+state_at state xs m x lt is = map_get state xs m x (slice_get_read xs (length xs) m x refl lt is)
+
+-- a machine is replaced by one in this state
+pub replaced : {X : Type 0} → (state : X → State) (xs : List X) (m : ℕ) (x y : X) (s t : State) → slice_get (map state xs) m ≡ Some (state x) → slice_get (map state xs) m ≡ Some s →
+    (state x ≡ s → state y ≡ t) → map state (slice_set xs m y) ≡ slice_set (map state xs) m t
+replaced state xs m x y s t here at is =
+    map_set state xs m y ∙ ap (slice_set (map state xs) m) (is (get_one (slice_get (map state xs) m) (state x) s here at))
+
+pub sent_by : {X : Type 0} → (state : X → State) (work : Work) (xs : List X) (m : ℕ) (x : X) (s : State) (out sent : List Message) →
+    slice_get (map state xs) m ≡ Some (state x) → slice_get (map state xs) m ≡ Some s → out ≡ [] →
+    map letter_of sent ≡ map letter_of out ++ work.sent (state x) → map letter_of sent ≡ work.sent s
+sent_by state work xs m x s out sent here at none is =
+    is ∙ ap (λ ms. map letter_of ms ++ work.sent (state x)) none ∙ ap work.sent (get_one (slice_get (map state xs) m) (state x) s here at)

@@ -1,0 +1,13 @@
+-- Messages that can be put under way.
+use Rattle.std.specs.Prelude.{◌≡◌, ◌≤◌, ◌+◌, ◌^◌, None, List, [], ◌∷◌, length}
+use Rattle.vert_base.specs.Letters.{Letter, found, placed}
+
+-- each has a name that isn't under way yet
+abbrev pub AreNew : List Letter → List Letter → Type 0
+AreNew [] under_way = Unit {0}
+AreNew (l ∷ ls) under_way = (found l.name under_way ≡ None) × AreNew ls (placed l under_way)
+
+-- and there is room for them
+pub record CanSend (ls under_way : List Letter) : Type 0 where
+  pub new : AreNew ls under_way
+  pub room : length ls + length under_way ≤ 2 ^ 31
