@@ -10,3 +10,4 @@ pub mod FirstWorlds
 pub mod ReachedWorlds
 pub mod Results
 pub mod Moves
+pub mod Done

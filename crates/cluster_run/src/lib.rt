@@ -2,9 +2,11 @@
 #![tactic(auto)]
 
 mod acts;
+mod cluster;
 mod fault;
 mod laws;
 mod looks;
 
+pub use cluster::Cluster;
 pub use fault::{EventFault, Missing};
 pub use laws::worlds_are_in_order;

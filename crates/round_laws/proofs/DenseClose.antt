@@ -1,6 +1,6 @@
 -- The close of a dense round at a vertex makes the source's row.
-use Rattle.std.proofs.Common.{◌≡◌, ◌<◌, ◌+◌, ◌⊎◌, inl, inr, ℕ, zero, suc, ℤ, Bool, true, false, List, [], ◌∷◌, ◌++◌, length, map, refl, sym, ap, subst, ◌∙◌, Option, None, Some, append-nil, arith}
-use Rattle.std.specs.Prelude.{◌==◌, drop, if◌then◌else◌, nat_lt, option_map, option_to_list, slice_get, slice_index_or, take, unwrap_or}
+use Rattle.std.proofs.Common.{◌≡◌, ◌<◌, ◌+◌, ◌⊎◌, inl, inr, ℕ, suc, ℤ, Bool, true, false, List, [], ◌∷◌, ◌++◌, length, refl, sym, ap, subst, ◌∙◌, Option, None, append-nil, arith}
+use Rattle.std.specs.Prelude.{drop, if◌then◌else◌, nat_lt, option_map, option_to_list, slice_index_or, take, unwrap_or}
 use Rattle.std.specs.List.{flat_map, range_with_len}
 use Rattle.std.proofs.lemmas.Bool.{eq-eqb, ne_eqb}
 use Rattle.std.proofs.lemmas.List.{length-map}
@@ -34,7 +34,6 @@ use Rattle.circulant_plan.specs.Ring.{AreEndsUpTo, IsInChunk, members_by_steps}
 use Rattle.circulant_plan.proofs.ReadingLaws.{not_below, reads_in_turn}
 use Rattle.circulant_plan.proofs.SpanLaws.{is_below}
 use Rattle.instrument.specs.declared.split.Split.{Split}
-use Rattle.instrument.specs.declared.split.SplitLoop.{SplitLoop}
 use Rattle.instrument.specs.Continued.{IsSplit, whole}
 use Rattle.instrument.specs.Loops.{is_reduced, loop_split, places_where}
 use Rattle.instrument.specs.Segments.{carried_words, given, only_lets, own_words, with_words}
@@ -44,7 +43,7 @@ use Rattle.order_laws.specs.Agreement.{SameButNeighbour}
 use Rattle.value_laws.specs.Blind.{SameButKey}
 use Rattle.value_laws.proofs.Blind.{lets_keyed, run_keyed, tail_anywhere, value_keyed}
 use Rattle.symple_face.specs.CoreClose.{closed_row, closing_words, tail_at, tail_env, values_of}
-use Rattle.symple_face.specs.CoreScan.{mark_after, sent_by_segment, told_words}
+use Rattle.symple_face.specs.CoreScan.{sent_by_segment, told_words}
 use Rattle.symple_face.specs.CoreSight.{none, program_of}
 use Rattle.symple_face.specs.CoreTakes.{classes_of, reduced_ops, slot_count}
 use Rattle.symple_face.specs.Ideal.{told_state}
@@ -60,7 +59,7 @@ use Rattle.round_laws.proofs.Partials.{behind_at, filled_behind, filled_first, s
 use Rattle.round_laws.proofs.Ranges.{joined_more, same_below}
 use Rattle.round_laws.proofs.Readable.{tail_read}
 use Rattle.round_laws.proofs.Seen.{seen_environment}
-use Rattle.round_laws.proofs.Steps.{no_words, unhanded}
+use Rattle.round_laws.proofs.Steps.{unhanded}
 
 -- ---- the closing words
 -- before anything was handed on, the own words stand
@@ -114,10 +113,10 @@ lets_filled : (at place p : ℕ) (cs : List Class) (left : ℕ → Env) (buckets
     values_of qs ≡ combined_operands left (range_with_len 0 p) place cs
 lets_filled at place p [] left buckets [] are each = refl
 lets_filled at place p [] left buckets (q ∷ qs) are each = absurd are
-lets_filled at place p (Constant ∷ cs) left buckets qs are each = lets_filled at (place + 1) p cs left buckets qs are
-    each
-lets_filled at place p (Carried ∷ cs) left buckets qs are each = lets_filled at (place + 1) p cs left buckets qs are
-    each
+lets_filled at place p (Constant ∷ cs) left buckets qs are each =
+    lets_filled at (place + 1) p cs left buckets qs are each
+lets_filled at place p (Carried ∷ cs) left buckets qs are each =
+    lets_filled at (place + 1) p cs left buckets qs are each
 lets_filled at place p (Reduced op ∷ cs) left buckets [] are each = absurd are
 lets_filled at place p (Reduced op ∷ cs) left buckets (q ∷ qs) are each =
     let words : ℕ → List ℤ = λ k. option_to_list (operand_at place (left k)) in
@@ -134,8 +133,8 @@ lets_filled at place p (Reduced op ∷ cs) left buckets (q ∷ qs) are each =
     let next : (j : ℕ) → at + 1 + j ≡ at + suc j = λ j. omega arith in
     ap (λ o. o ∷ values_of qs) value
     ∙ ap (λ os. combined op (operand_words left (range_with_len 0 p) place) ∷ os)
-    (lets_filled (at + 1) (place + 1) p cs left buckets qs are.1 (λ j k. ap (λ i. buckets i k) (next j)
-    ∙ each (suc j) k))
+    (lets_filled (at + 1) (place + 1) p cs left buckets qs are.1
+    (λ j k. ap (λ i. buckets i k) (next j) ∙ each (suc j) k))
 
 -- ---- environments
 -- lets change nothing but the locals
@@ -301,8 +300,8 @@ module _ (split : Split) (d : Dense) (g : Sight) (s : Scene) (p c v : ℕ)
           ap (λ e. (run d.tail.items e).emitted) told
           ∙ (run_keyed d.tail.items (with_words locals env) (with_words locals seen)
           (ap (with_words locals) keyed)).emitted
-          ∙ sym (tail_anywhere d.tail.items (tail_read (program_of split) d h.typed h.dense) (with_words locals env)
-          looped.env
+          ∙ sym (tail_anywhere d.tail.items (tail_read (program_of split) d h.typed h.dense)
+          (with_words locals env) looped.env
           left_env).emitted
 
       -- and the partials have the source's values
@@ -326,12 +325,12 @@ module _ (split : Split) (d : Dense) (g : Sight) (s : Scene) (p c v : ℕ)
           let words : ℕ → List ℤ = λ k. option_to_list (combined op (words_for j (steps k).emitted)) in
           let at : (k : ℕ) → k < p → buckets j k ≡ words k =
           λ k lt. ap (λ b. if b then sent_words (sent_by_segment split d (ran k)) j else []) (is_below k p lt)
-          ∙ ap option_to_list (slot_value_at slots (ran k).emitted (operands (loop_split d).reduced.items (ran k).env)
-          j op is
+          ∙ ap option_to_list (slot_value_at slots (ran k).emitted
+          (operands (loop_split d).reduced.items (ran k).env) j op is
           ∙ ap (λ r. combined op (words_for j r.emitted)) (runs k)) in
           let below : (k : ℕ) → k < p → more j k ≡ words k =
-          λ k lt. ap (λ b. if b then buckets j k ++ words_for j tail else buckets j k) (ne_eqb p k (λ e. omega arith))
-          ∙ at k lt in
+          λ k lt. ap (λ b. if b then buckets j k ++ words_for j tail else buckets j k)
+          (ne_eqb p k (λ e. omega arith)) ∙ at k lt in
           let last : more j p ≡ words_for j (run d.tail.items looped.env).emitted =
           ap (λ b. if b then buckets j p ++ words_for j tail else buckets j p) (eq-eqb p p refl)
           ∙ ap (λ b. (if b then sent_words (sent_by_segment split d (ran p)) j else []) ++ words_for j tail)
@@ -362,8 +361,8 @@ module _ (split : Split) (d : Dense) (g : Sight) (s : Scene) (p c v : ℕ)
         (λ j op is.
         let none_at : (k : ℕ) → k < p → buckets j k ≡ [] =
         λ k lt. ap (λ b. if b then sent_words (sent_by_segment split d (ran k)) j else []) (is_below k p lt)
-        ∙ ap option_to_list (slot_value_at slots (ran k).emitted (operands (loop_split d).reduced.items (ran k).env) j
-        op is
+        ∙ ap option_to_list (slot_value_at slots (ran k).emitted
+        (operands (loop_split d).reduced.items (ran k).env) j op is
         ∙ ap (λ r. combined op (words_for j r.emitted)) (idle k)) in
         let last : buckets j p ≡ [] =
         ap (λ b. if b then sent_words (sent_by_segment split d (ran p)) j else []) (not_below p p (omega arith)) in

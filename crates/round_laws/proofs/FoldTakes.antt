@@ -1,8 +1,6 @@
 -- A take of a message that is kept leaves a machine as the source's run says.
-use Rattle.std.proofs.Common.{◌≡◌, ◌⊎◌, inl, inr, ℕ, ℤ, true, List, [], refl, sym, ap, subst, ◌∙◌, Option, None, Some}
+use Rattle.std.proofs.Common.{◌≡◌, inl, inr, ℕ, List, [], refl, sym, ap, subst, ◌∙◌, Option, None, Some}
 use Rattle.std.specs.Prelude.{◌+◌, ◌==◌, ◌&&◌, if◌then◌else◌, is_some, nat_le, nat_lt, not}
-use Rattle.vert_base.specs.declared.message.Name.{Name}
-use Rattle.vert_base.specs.declared.message.NameKind.{NameKind}
 use Rattle.vert_base.specs.declared.message.NameKind.TheVariants as kind
 use Rattle.vert_base.specs.declared.value.Ruling.{Ruling}
 use Rattle.vert_base.specs.declared.value.Ruling.TheVariants as ruling
@@ -14,20 +12,20 @@ use Rattle.circulant_plan.specs.Ring.{order_of}
 use Rattle.body_shape.specs.Verdict.{judged_read}
 use Rattle.symple_face.specs.CoreSight.{body_of, known, known_totals, program_of, total_count}
 use Rattle.symple_face.specs.CoreTakes.{own_partials}
-use Rattle.symple_face.specs.CoreWork.{core_take, kept, taken}
-use Rattle.symple_face.specs.Ideal.{ideal_body, ideal_sent, machines_of, owner_of}
+use Rattle.symple_face.specs.CoreWork.{kept, taken}
+use Rattle.symple_face.specs.Ideal.{ideal_sent, machines_of, owner_of}
 use Rattle.symple_face.specs.Source.{Source, scene, stand}
 use Rattle.symple_face.specs.State.{State, machine}
 use Rattle.round_laws.specs.FoldTakes.{TakesWhatIsKept}
-use Rattle.round_laws.specs.IsIdeal.{HoldsBody, IsIdeal, came_words, dense_words, half_at, awaits_begin, is_open, is_past, is_worked, keys_below, sends_came, sparse_words, step_came, words_by}
+use Rattle.round_laws.specs.IsIdeal.{HoldsBody, IsIdeal, came_words, half_at, awaits_begin, is_open, is_past, is_worked, keys_below, sends_came, sparse_words, step_came, words_by}
 use Rattle.round_laws.specs.Partials.{partial_ops, sent_words}
 use Rattle.round_laws.specs.SparseClose.{push_buckets}
 use Rattle.round_laws.proofs.Held.{all_placed, apart_names, still_found}
 
 -- with a message more that is no verdict, the machine knows what it knew
 module _ (s : State) (l : Letter) (no_verdict : l.name.kind ≡ kind.Verdict → ⊥) where
-  verdict_stays : found (verdict_name s.at.round (machine s)) (placed l s.held)
-      ≡ found (verdict_name s.at.round (machine s)) s.held
+  verdict_stays : found (verdict_name s.at.round (machine s)) (placed l s.held) ≡
+      found (verdict_name s.at.round (machine s)) s.held
   verdict_stays =
       still_found l s.held (verdict_name s.at.round (machine s))
       (apart_names l.name (verdict_name s.at.round (machine s)) (λ e. no_verdict (ap (λ x. x.kind) e)))
@@ -37,8 +35,8 @@ module _ (s : State) (l : Letter) (no_verdict : l.name.kind ≡ kind.Verdict →
 
   pub totals_stay : known_totals (kept s l) ≡ known_totals s
   totals_stay =
-      ap (λ o. if machine s == 0 then s.judged.totals else (judged_read (total_count s.split) (body_of o)).totals)
-      verdict_stays
+      ap (λ o. if machine s == 0 then s.judged.totals else
+      (judged_read (total_count s.split) (body_of o)).totals) verdict_stays
 
 -- a message that is no update and no push
 pub record IsAside (l : Letter) : Type 0 where
@@ -49,8 +47,8 @@ module _ (src : Source) (m : ℕ) (s : State) (l : Letter) (aside : IsAside l) w
   abbrev held : List Letter
   held = placed l s.held
 
-  updates_stay : (step h k to : ℕ) → found (update_name s.at.round step h k to) held
-      ≡ found (update_name s.at.round step h k to) s.held
+  updates_stay : (step h k to : ℕ) → found (update_name s.at.round step h k to) held ≡
+      found (update_name s.at.round step h k to) s.held
   updates_stay step h k to =
       still_found l s.held (update_name s.at.round step h k to)
       (apart_names l.name (update_name s.at.round step h k to) (λ e. aside.update (ap (λ x. x.kind) e)))
@@ -78,8 +76,8 @@ module _ (src : Source) (m : ℕ) (s : State) (l : Letter) (aside : IsAside l) w
   sparse_stays (Some sparse) v place key =
       λ i. push_buckets src.split sparse (scene src s.at.round) v (λ u. sends_stay u i) place key
 
-  words_stay : (r : Ruling) (v place key : ℕ) →
-      words_by r src m s.at held v place key ≡ words_by r src m s.at s.held v place key
+  words_stay : (r : Ruling) (v place key : ℕ) → words_by r src m s.at held v place key ≡
+      words_by r src m s.at s.held v place key
   words_stay ruling.Stop v place key = refl
   words_stay ruling.Dense v place key =
       ap (λ b. if b then sent_words (ideal_sent src s.at.round v m key) place else []) (step_stays v key)
@@ -114,8 +112,8 @@ takes_kept src m s l is (inl refresh) body =
       update = λ e. let wrong : kind.Refresh ≡ kind.Update = sym refresh ∙ e in cc;
       push = λ e. let wrong : kind.Refresh ≡ kind.Push = sym refresh ∙ e in cc;
     } in
-    let no_verdict : l.name.kind ≡ kind.Verdict → ⊥ = λ e.
-    let wrong : kind.Refresh ≡ kind.Verdict = sym refresh ∙ e in cc in
+    let no_verdict : l.name.kind ≡ kind.Verdict → ⊥ = λ e. let wrong : kind.Refresh ≡ kind.Verdict = sym refresh
+    ∙ e in cc in
     subst (IsIdeal src m) (sym (ap (λ k. taken k s l) refresh))
     (kept_ideal src m s l aside no_verdict is (subst (λ k. HoldsBody k src s.at l) (sym refresh) body))
 takes_kept src m s l is (inr (inl dep)) body =
@@ -131,7 +129,7 @@ takes_kept src m s l is (inr (inr tally)) body =
       update = λ e. let wrong : kind.Tally ≡ kind.Update = sym tally ∙ e in cc;
       push = λ e. let wrong : kind.Tally ≡ kind.Push = sym tally ∙ e in cc;
     } in
-    let no_verdict : l.name.kind ≡ kind.Verdict → ⊥ = λ e.
-    let wrong : kind.Tally ≡ kind.Verdict = sym tally ∙ e in cc in
+    let no_verdict : l.name.kind ≡ kind.Verdict → ⊥ = λ e. let wrong : kind.Tally ≡ kind.Verdict = sym tally
+    ∙ e in cc in
     subst (IsIdeal src m) (sym (ap (λ k. taken k s l) tally))
     (kept_ideal src m s l aside no_verdict is (subst (λ k. HoldsBody k src s.at l) (sym tally) body))

@@ -1,16 +1,14 @@
 -- A take of an ideal update leaves a machine as the source's run says.
-use Rattle.std.proofs.Common.{◌≡◌, ◌≢◌, ◌<◌, ◌≤◌, ◌+◌, ◌-◌, ℕ, zero, suc, ℤ, Bool, true, false, List, [], ◌∷◌, ◌++◌, length, map, refl, sym, ap, subst, ◌∙◌, Option, None, Some, append-nil, arith, ⊎_elim}
-use Rattle.std.specs.Prelude.{◌==◌, ◌&&◌, ◌||◌, if◌then◌else◌, is_some, nat_le, nat_lt, option_to_list, replicate, slice_index, slice_index_or}
-use Rattle.std.specs.List.{filter, list_any, range_with_len}
+use Rattle.std.proofs.Common.{◌≡◌, ◌<◌, ◌≤◌, ◌+◌, ◌-◌, ℕ, zero, suc, ℤ, Bool, true, false, List, [], ◌∷◌, ◌++◌, length, map, refl, sym, ap, subst, ◌∙◌, Option, None, Some, append-nil, arith, ⊎_elim}
+use Rattle.std.specs.Prelude.{◌==◌, ◌&&◌, ◌||◌, if◌then◌else◌, is_some, nat_lt, option_to_list, replicate, slice_index, slice_index_or}
+use Rattle.std.specs.List.{filter, list_any}
 use Rattle.std.proofs.lemmas.Bool.{cases_Bool, cases_lt, eq-eqb, eqb-true, ne_eqb}
 use Rattle.std.proofs.lemmas.List.{length-map}
 use Rattle.std.proofs.lemmas.List.FromFn.{get_or-map-range_with_len}
 use Rattle.vert_base.specs.declared.graph.Edge.{Edge}
 use Rattle.vert_base.specs.declared.message.Name.{Name}
 use Rattle.vert_base.specs.declared.message.NameKind.TheVariants as kind
-use Rattle.vert_base.specs.declared.value.Ruling.TheVariants as ruling
 use Rattle.vert_base.specs.Letters.{Letter, found, placed}
-use Rattle.vert_base.specs.Names.{same_name}
 use Rattle.vert_base.specs.Neighbours.{ins_of}
 use Rattle.vert_base.proofs.LetterLaws.{placed_law}
 use Rattle.vert_tree.specs.declared.program.Dense.{Dense}
@@ -40,7 +38,7 @@ use Rattle.symple_face.proofs.ChunkLaws.{lies_high, lies_is, lies_low}
 use Rattle.symple_face.proofs.ListLaws.{other_list}
 use Rattle.round_laws.specs.FoldUpdates.{IsUpdate, TakesUpdates, updated_list}
 use Rattle.round_laws.specs.IdealScans.{RunsDense, step_members}
-use Rattle.round_laws.specs.IsIdeal.{HoldsBody, IsIdeal, came_words, dense_words, half_at, is_open, is_past, keys_below, step_came, words_by}
+use Rattle.round_laws.specs.IsIdeal.{HoldsBody, IsIdeal, came_words, dense_words, half_at, is_past, keys_below, step_came, words_by}
 use Rattle.round_laws.specs.Partials.{partial_ops, sent_words}
 use Rattle.round_laws.specs.Scans.{Sees}
 use Rattle.round_laws.specs.Vertices.{are_some, members_at}
@@ -196,15 +194,15 @@ module _ (src : Source) (d : Dense) (most m : ℕ) (state : State) (given : Lett
         among_kept (is_within (half_in ends m u.half)) v (refresh_list ends m k edges) b is
         ∙ ap (λ x. b && x) among_refreshed
 
-    told_outside : is_within (half_in ends m u.half) v ≡ false → update_of s name (ideal_body src name) v
-        ≡ unsent src.split
+    told_outside : is_within (half_in ends m u.half) v ≡ false → update_of s name (ideal_body src name) v ≡
+        unsent src.split
     told_outside out = tells v ∙ beside_none (unsent src.split) list v (map ideal list) (among false out)
 
     told_inside : is_within (half_in ends m u.half) v ≡ true → update_of s name (ideal_body src name) v ≡ ideal v
     told_inside in_half = tells v ∙ by (are_some (members_at ends edges k v)) refl
       where
-        by : (b : Bool) → are_some (members_at ends edges k v) ≡ b → beside (unsent src.split) v list (map ideal list)
-            ≡ ideal v
+        by : (b : Bool) → are_some (members_at ends edges k v) ≡ b →
+            beside (unsent src.split) v list (map ideal list) ≡ ideal v
         by true some = beside_is (unsent src.split) ideal list v (among true in_half ∙ some)
         by false none =
             beside_none (unsent src.split) list v (map ideal list) (among true in_half ∙ none)
@@ -215,8 +213,8 @@ module _ (src : Source) (d : Dense) (most m : ℕ) (state : State) (given : Lett
     half_is : is_within (half_in ends m u.half) v ≡ (half_at src m v == u.half)
     half_is = by u.half u.halves
       where
-        upper : (w : Bool) → is_within (half_in ends m 0) v ≡ w →
-            is_within (half_in ends m 1) v ≡ ((if w then 0 else 1) == 1)
+        upper : (w : Bool) → is_within (half_in ends m 0) v ≡ w → is_within (half_in ends m 1) v ≡
+            ((if w then 0 else 1) == 1)
         upper w is =
             let cut : ℕ = cut_of (start_of ends m) (slice_index ends m) in
             ⊎_elim
@@ -248,22 +246,22 @@ module _ (src : Source) (d : Dense) (most m : ℕ) (state : State) (given : Lett
 
     before_step : half_at src m v ≡ u.half → step_came src m state.at state.held v u.step ≡ false
     before_step e =
-        ap (λ b. if b then is_some (found (asked u.step) state.held) else u.step + 1 == p
-        && is_past state.at u.step (half_at src m v))
+        ap (λ b. if b then is_some (found (asked u.step) state.held) else u.step + 1 == p && is_past state.at u.step
+        (half_at src m v))
         (is_below (u.step + 1) p u.early)
         ∙ ap (λ x. is_some (found x state.held)) (asked_is e ∙ sym u.name) ∙ ap is_some u.new
 
     after_step : half_at src m v ≡ u.half → step_came src m state.at held v u.step ≡ true
     after_step e =
-        ap (λ b. if b then is_some (found (asked u.step) held) else u.step + 1 == p
-        && is_past state.at u.step (half_at src m v))
+        ap (λ b. if b then is_some (found (asked u.step) held) else u.step + 1 == p && is_past state.at u.step
+        (half_at src m v))
         (is_below (u.step + 1) p u.early)
         ∙ ap (λ x. is_some (found x held)) (asked_is e)
         ∙ ap is_some (placed_law noted state.held name
         ∙ ap (λ b. if b then Some noted else found name state.held) (same_as_self name))
 
-    other_step : (key : ℕ) → (name ≡ asked key → ⊥) →
-        step_came src m state.at held v key ≡ step_came src m state.at state.held v key
+    other_step : (key : ℕ) → (name ≡ asked key → ⊥) → step_came src m state.at held v key ≡
+        step_came src m state.at state.held v key
     other_step key apart =
         ap (λ o. if nat_lt (key + 1) p then is_some o else key + 1 == p && is_past state.at key (half_at src m v))
         (still_found noted state.held (asked key) (apart_names name (asked key) apart))
@@ -287,8 +285,8 @@ module _ (src : Source) (d : Dense) (most m : ℕ) (state : State) (given : Lett
         ∙ ap (λ b. if b then sent_words (ideal v) place else []) (sym (after_step e))
     at_step place false is =
         let apart : name ≡ asked u.step → ⊥ =
-        λ e. (let clash : true ≡ false = sym (eq-eqb (half_at src m v) u.half (sym (ap (λ x. x.half) e))) ∙ is in
-        absurd cc) in
+        λ e. (let clash : true ≡ false = sym (eq-eqb (half_at src m v) u.half (sym (ap (λ x. x.half) e)))
+        ∙ is in absurd cc) in
         ap (λ x. words state.held place u.step ++ sent_words x place) (told_outside (half_is ∙ is))
         ∙ ap (λ o. words state.held place u.step ++ option_to_list o)
         (none_at (slot_count src.split) (length (reduced_in src.split.dense)) place)
@@ -296,8 +294,8 @@ module _ (src : Source) (d : Dense) (most m : ℕ) (state : State) (given : Lett
         ∙ same_words place u.step apart
 
     at_key : (place key : ℕ) (b : Bool) → (u.step == key) ≡ b →
-        (if b then words state.held place key ++ sent_words told place else words state.held place key)
-        ≡ words held place key
+        (if b then words state.held place key ++ sent_words told place else words state.held place key) ≡
+        words held place key
     at_key place key true is =
         let e : u.step ≡ key = eqb-true u.step key is in
         subst (λ x. words state.held place x ++ sent_words told place ≡ words held place x) e
@@ -344,8 +342,8 @@ module _ (src : Source) (d : Dense) (most m : ℕ) (state : State) (given : Lett
     ruling = λ knows. is.ruling (sym (known_stays s noted no_verdict) ∙ knows);
     totals = λ knows. totals_stay s noted no_verdict ∙ is.totals (sym (known_stays s noted no_verdict) ∙ knows);
     bodies = all_placed (λ x. HoldsBody x.name.kind src state.at x) noted state.held refl is.bodies;
-    many = length-map (chunk_vertices ends m) (λ x.
-        with_sent u.step (update_of s name (ideal_body src name) x) (own_partials s x));
+    many = length-map (chunk_vertices ends m)
+        (λ x. with_sent u.step (update_of s name (ideal_body src name) x) (own_partials s x));
     partials = λ v lies. filled v lies (is.partials v lies);
     ring = is.ring;
     reading = is.reading;

@@ -1,7 +1,6 @@
 -- A take of the ideal verdict leaves a machine as the source's run says.
-use Rattle.std.proofs.Common.{◌≡◌, ◌≢◌, ℕ, ℤ, true, false, List, [], map, refl, sym, ap, subst, ◌∙◌, Option, None, Some}
-use Rattle.std.specs.Prelude.{◌==◌, ◌&&◌, if◌then◌else◌}
-use Rattle.std.specs.List.{AllByRecursion}
+use Rattle.std.proofs.Common.{◌≡◌, ◌≢◌, ℕ, ℤ, List, [], refl, sym, ap, subst, ◌∙◌, Some}
+use Rattle.std.specs.Prelude.{◌&&◌, if◌then◌else◌}
 use Rattle.std.proofs.lemmas.Bool.{ne_eqb}
 use Rattle.vert_base.specs.declared.message.Name.{Name}
 use Rattle.vert_base.specs.declared.message.NameKind.{NameKind}
@@ -22,13 +21,13 @@ use Rattle.body_shape.proofs.VerdictLaws.{verdict_back}
 use Rattle.symple_face.specs.CoreScan.{fresh}
 use Rattle.symple_face.specs.CoreSight.{body_of, known_totals, targets_of, total_count}
 use Rattle.symple_face.specs.CoreTakes.{own_partials}
-use Rattle.symple_face.specs.CoreWork.{core_take, kept, take_verdict}
+use Rattle.symple_face.specs.CoreWork.{core_take, kept}
 use Rattle.symple_face.specs.Ideal.{ideal_body, ideal_ran, machines_of, owner_of, state_at}
 use Rattle.symple_face.specs.Parts.{chunk_vertices}
 use Rattle.symple_face.specs.PartsOf.{part_of}
 use Rattle.symple_face.specs.Source.{Source, stand}
 use Rattle.symple_face.specs.State.{State, ruling_read}
-use Rattle.circulant_plan.specs.Ring.{chunk_of, lies_in}
+use Rattle.circulant_plan.specs.Ring.{chunk_of}
 use Rattle.round_laws.specs.FoldVerdicts.{TakesVerdicts}
 use Rattle.round_laws.specs.IsIdeal.{HoldsBody, IsIdeal, came_words, half_at, is_dense, is_past, keys_below, reads_held, ring_held, words_by}
 use Rattle.round_laws.specs.Partials.{partial_ops}
@@ -79,8 +78,8 @@ module _ (src : Source) (m : ℕ) (state : State) (other : m ≢ 0)
 
   totals_told : known_totals (kept s l) ≡ (stand src r).totals
   totals_told =
-      ap (λ b. if b then state.judged.totals
-      else (judged_read (total_count src.split) (body_of (found name held))).totals)
+      ap (λ b. if b then state.judged.totals else
+      (judged_read (total_count src.split) (body_of (found name held))).totals)
       (ne_eqb m 0 other)
       ∙ ap (λ o. (judged_read (total_count src.split) (body_of o)).totals)
       (placed_law l state.held name ∙ ap (λ b. if b then Some l else found name state.held) (same_as_self name))

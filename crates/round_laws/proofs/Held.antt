@@ -1,10 +1,9 @@
 -- What stays of the messages held where one more is put among them.
-use Rattle.std.proofs.Common.{◌≡◌, Bool, true, false, List, [], ◌∷◌, refl, sym, ap, ◌∙◌, Option, None, Some, ⊎_elim}
+use Rattle.std.proofs.Common.{◌≡◌, Bool, true, false, List, [], ◌∷◌, ap, ◌∙◌, Some, ⊎_elim}
 use Rattle.std.specs.Prelude.{if◌then◌else◌}
 use Rattle.std.specs.List.{AllByRecursion}
 use Rattle.std.proofs.lemmas.Bool.{cases_Bool}
 use Rattle.vert_base.specs.declared.message.Name.{Name}
-use Rattle.vert_base.specs.declared.message.NameKind.{NameKind}
 use Rattle.vert_base.specs.Letters.{Letter, found, placed}
 use Rattle.vert_base.specs.Names.{is_before, same_name}
 use Rattle.vert_base.proofs.LetterLaws.{names_law, placed_law}

@@ -1,17 +1,13 @@
 -- The rows that a close makes of ideal contents are the source's.
-use Rattle.std.proofs.Common.{◌≡◌, ◌⊎◌, inl, inr, ◌<◌, ◌≤◌, ◌+◌, ◌-◌, ◌*◌, ℕ, zero, suc, ℤ, Bool, true, false, List, [], length, map, refl, sym, ap, subst, ◌∙◌, Option, None, Some, arith, ⊎_elim}
+use Rattle.std.proofs.Common.{◌≡◌, ◌⊎◌, inl, inr, ◌<◌, ◌≤◌, ◌+◌, ◌-◌, ◌*◌, ℕ, suc, Bool, true, false, List, [], map, refl, sym, ap, subst, ◌∙◌, Option, None, Some, arith, ⊎_elim}
 use Rattle.std.specs.Prelude.{◌==◌, ◌&&◌, if◌then◌else◌, is_some, nat_lt, option_map, slice_index, slice_index_or}
-use Rattle.std.specs.List.{AllByRecursion, range_with_len}
 use Rattle.std.proofs.lemmas.Bool.{cases_lt, eq-eqb, ne_eqb}
 use Rattle.std.proofs.lemmas.List.FromFn.{get_or-map-range_with_len}
 use Rattle.std.proofs.Math.Nat.{mod-lt}
-use Rattle.vert_base.specs.declared.graph.Edge.{Edge}
-use Rattle.vert_base.specs.declared.value.Row.{Row}
 use Rattle.vert_base.specs.declared.value.Ruling.{Ruling}
 use Rattle.vert_base.specs.declared.value.Ruling.TheVariants as ruling
 use Rattle.vert_base.specs.Letters.{found}
 use Rattle.vert_tree.specs.declared.program.Dense.{Dense}
-use Rattle.vert_tree.specs.declared.program.Program.{Program}
 use Rattle.carry_analysis.specs.declared.carry.Carry.{Carry}
 use Rattle.slot_merge.specs.Combine.{slot_values}
 use Rattle.slot_merge.specs.Filled.{AreFilled}
@@ -23,32 +19,30 @@ use Rattle.vert_eval.specs.SourceRun.{next_standing}
 use Rattle.chunk_split.specs.Chunks.{AreEnds, vertices_of}
 use Rattle.circulant_plan.specs.declared.spot.Spot.TheVariants.{Close}
 use Rattle.circulant_plan.specs.Names.{update_name}
-use Rattle.circulant_plan.specs.Ring.{IsInChunk, AreEndsUpTo, chunk_of, lies_in, order_of}
-use Rattle.vert_base.specs.Ends.{start_of}
+use Rattle.circulant_plan.specs.Ring.{AreEndsUpTo, chunk_of, lies_in, order_of, start_of}
 use Rattle.circulant_plan.specs.Standing.{Standing}
 use Rattle.circulant_plan.proofs.ReadingLaws.{not_below, reads_in_turn}
 use Rattle.circulant_plan.proofs.SpanLaws.{is_below}
 use Rattle.graph_table.proofs.FilterLaws.{all_range, map_same}
 use Rattle.instrument.specs.Continued.{IsSplit}
 use Rattle.instrument.specs.Loops.{loop_split}
-use Rattle.symple_face.specs.CoreClose.{closed_partials, closed_row, closed_rows, tail_at, with_tail}
+use Rattle.symple_face.specs.CoreClose.{closed_partials, closed_row, closed_rows, with_tail}
 use Rattle.symple_face.specs.CoreDense.{ring_at}
 use Rattle.symple_face.specs.CoreScan.{fresh, sent_by_segment}
 use Rattle.symple_face.specs.CoreSight.{is_within, own_sight, program_of}
 use Rattle.symple_face.specs.CoreTakes.{own_partials}
-use Rattle.symple_face.specs.Ideal.{block_env, first_members, ideal_ran, ideal_sent, machines_of, ran_with, ring_with, state_at, told_state}
+use Rattle.symple_face.specs.Ideal.{block_env, ideal_ran, ideal_sent, machines_of, ran_with, ring_with, state_at, told_state}
 use Rattle.symple_face.specs.Parts.{chunk_vertices}
 use Rattle.symple_face.specs.PartsOf.{part_of}
 use Rattle.symple_face.specs.Plans.{loop_carry}
 use Rattle.symple_face.specs.Ring.{operands}
-use Rattle.symple_face.specs.Shapes.{half_in, reduced_in}
+use Rattle.symple_face.specs.Shapes.{half_in}
 use Rattle.symple_face.specs.Source.{Source, scene, stand, stand_after}
 use Rattle.symple_face.specs.State.{State}
-use Rattle.symple_face.proofs.ChunkLaws.{chunk_within, lies_high, lies_is, lies_low, lies_within}
+use Rattle.symple_face.proofs.ChunkLaws.{lies_high, lies_is, lies_low, lies_within}
 use Rattle.round_laws.specs.DenseClose.{ran_at}
 use Rattle.round_laws.specs.IdealClose.{ClosesDenseRound, DenseRowsAreIdeal}
-use Rattle.round_laws.specs.IdealScans.{RunsDense}
-use Rattle.round_laws.specs.IsIdeal.{IsIdeal, came_words, dense_words, half_at, is_dense, is_open, is_past, keys_below, ring_held, scan_past, step_came, words_by}
+use Rattle.round_laws.specs.IsIdeal.{IsIdeal, came_words, half_at, is_dense, is_past, keys_below, ring_held, step_came, words_by}
 use Rattle.round_laws.specs.Partials.{partial_ops, sent_words, step_buckets}
 use Rattle.round_laws.specs.Scans.{ring_after, width_of}
 use Rattle.round_laws.specs.Sights.{StandsIn}

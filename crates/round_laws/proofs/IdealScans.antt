@@ -1,24 +1,21 @@
 -- A scan at a vertex is ideal.
-use Rattle.std.proofs.Common.{◌≡◌, ◌+◌, ℕ, suc, List, ◌++◌, refl, sym, ap, subst, ◌∙◌, Option, None, Some, arith}
+use Rattle.std.proofs.Common.{◌≡◌, ◌+◌, ℕ, suc, List, ◌++◌, sym, ap, subst, ◌∙◌, None, Some, arith}
 use Rattle.vert_base.specs.declared.graph.Edge.{Edge}
 use Rattle.vert_tree.specs.declared.program.Dense.{Dense}
 use Rattle.vert_tree.specs.declared.program.Program.{Program}
 use Rattle.slot_merge.specs.Combine.{slot_values}
 use Rattle.vert_eval.specs.declared.environment.Env.{Env}
 use Rattle.vert_eval.specs.Rounds.{Scene, slot_ops}
-use Rattle.vert_eval.specs.Runs.{Ran}
 use Rattle.instrument.specs.Continued.{IsSplit}
 use Rattle.instrument.specs.Loops.{loop_split}
 use Rattle.dep_layout.specs.Spelling.{State as LoopState}
-use Rattle.body_shape.specs.Update.{Sent}
 use Rattle.symple_face.specs.CoreScan.{Scanned, fresh, scanned, sent_by_segment}
 use Rattle.symple_face.specs.CoreSight.{program_of}
 use Rattle.symple_face.specs.Ideal.{block_env, first_members, ideal_ran, ideal_sent, machines_of, members_in, ran_with, ring_with, state_at, told_state}
 use Rattle.symple_face.specs.Ring.{operands}
-use Rattle.symple_face.specs.Shapes.{reduced_in}
 use Rattle.symple_face.specs.Sight.{Sight}
 use Rattle.symple_face.specs.Source.{Source, scene}
-use Rattle.round_laws.specs.IdealScans.{FreshScansAreIdeal, IsIdealScan, RunsDense, ScansAreIdeal, step_members}
+use Rattle.round_laws.specs.IdealScans.{FreshScansAreIdeal, IsIdealScan, ScansAreIdeal, step_members}
 use Rattle.round_laws.specs.Scans.{ScansAs, Sees, ran_behind, ring_after, width_of}
 use Rattle.round_laws.proofs.Ranges.{steps_more}
 use Rattle.round_laws.proofs.Scans.{reduced_are, scans_afresh, scans_the_ring}
@@ -51,8 +48,8 @@ module _ (src : Source) (d : Dense) (g : Sight) (round v c step key : ℕ)
   ran_is : ideal_ran run round v c step ≡ ran_behind s d env before here
   ran_is = ap (ran_with run round v c step) dense
 
-  sent_is : IsSplit (program_of src.split) d env →
-      ideal_sent run round v c step ≡ sent_by_segment src.split d (ran_behind s d env before here)
+  sent_is : IsSplit (program_of src.split) d env → ideal_sent run round v c step ≡
+      sent_by_segment src.split d (ran_behind s d env before here)
   sent_is h = λ i. record {
     values = slot_values 0 (slot_ops (program_of src.split)) (ran_is i).emitted;
     operands = operands (reduced_are src.split d env h i) (ran_is i).env;
@@ -63,7 +60,8 @@ module _ (src : Source) (d : Dense) (g : Sight) (round v c step key : ℕ)
       IsIdealScan run round v c step got
   ideal_by got h like = record {
     sent = like.sent ∙ sym (sent_is h);
-    reads = like.reads ∙ sym (ap (λ r. r.reads) ran_is);
+    reads = like.reads
+        ∙ sym (ap (λ r. r.reads) ran_is);
   }
 
   next_is : first_members run v c (step + 1) ≡ before ++ here
@@ -95,10 +93,10 @@ scans_ideal src d g round v c step key runs =
     subst
     (λ program. (let of : Source = with_program src program in
     IsSplit program d (block_env of round v) → Sees g (scene of round) v (step_members of v c step) →
-    ((scanned src.split d g key (step_members of v c step) v (state_at of round v c step)).state
-    ≡ state_at of round v c (step + 1))
-    × IsIdealScan of round v c step (scanned src.split d g key (step_members of v c step) v
-    (state_at of round v c step))))
+    ((scanned src.split d g key (step_members of v c step) v (state_at of round v c step)).state ≡
+    state_at of round v c (step + 1))
+    × IsIdealScan of round v c step
+    (scanned src.split d g key (step_members of v c step) v (state_at of round v c step))))
     runs.program
     (scan_ideal src d g round v c step key (ap (λ p. p.dense) runs.program ∙ runs.dense))
 

@@ -1,11 +1,9 @@
 -- The rows that the close of a sparse round makes of ideal contents are the source's.
-use Rattle.std.proofs.Common.{◌≡◌, ◌≢◌, ◌⊎◌, inl, inr, ◌<◌, ◌≤◌, ◌+◌, ◌-◌, ℕ, zero, suc, ℤ, Bool, true, false, List, [], ◌∷◌, length, map, refl, sym, ap, subst, ◌∙◌, Option, None, Some, arith, ⊎_elim}
-use Rattle.std.specs.Prelude.{◌==◌, ◌&&◌, if◌then◌else◌, is_some, nat_lt, not, slice_index}
-use Rattle.std.specs.List.{AllByRecursion, filter, flat_map}
-use Rattle.std.proofs.lemmas.Bool.{cases_Bool, cases_lt, eq-eqb, eqb-true, ne_eqb}
-use Rattle.vert_base.specs.declared.graph.Edge.{Edge}
+use Rattle.std.proofs.Common.{◌≡◌, inl, inr, ◌<◌, ◌≤◌, ◌+◌, ◌-◌, ℕ, suc, ℤ, Bool, true, false, List, [], ◌∷◌, length, map, refl, sym, ap, subst, ◌∙◌, Some, arith, ⊎_elim}
+use Rattle.std.specs.Prelude.{◌==◌, ◌&&◌, if◌then◌else◌, is_some, slice_index}
+use Rattle.std.specs.List.{AllByRecursion, flat_map}
+use Rattle.std.proofs.lemmas.Bool.{cases_lt, eq-eqb, ne_eqb}
 use Rattle.vert_base.specs.declared.message.Name.{Name}
-use Rattle.vert_base.specs.declared.message.NameKind.{NameKind}
 use Rattle.vert_base.specs.declared.message.NameKind.TheVariants as kind
 use Rattle.vert_base.specs.declared.value.Ruling.TheVariants as ruling
 use Rattle.vert_base.specs.Letters.{Letter, found}
@@ -25,7 +23,7 @@ use Rattle.circulant_plan.specs.Standing.{Standing}
 use Rattle.circulant_plan.proofs.ReadingLaws.{not_below, turns_at_its_end}
 use Rattle.circulant_plan.proofs.SpanLaws.{is_below}
 use Rattle.graph_table.proofs.FilterLaws.{all_range, all_weaker, filter_none, map_same}
-use Rattle.symple_face.specs.CoreClose.{closed_partials, closed_row, closed_rows}
+use Rattle.symple_face.specs.CoreClose.{closed_row, closed_rows}
 use Rattle.symple_face.specs.CoreSight.{none, own_sight, program_of}
 use Rattle.symple_face.specs.CoreSparse.{key_of}
 use Rattle.symple_face.specs.CoreTakes.{own_partials}
@@ -85,8 +83,8 @@ pushes_worked src at x is past (y ∷ ys) all some =
     no_body l (inr early) = let wrong : true ≡ false = sym early.1 ∙ past in cc
 
     by : (b : Bool) → same_name y.name x ≡ b → is_some (if b then Some y else found x ys) ≡ true →
-        (is_some (found x ys) ≡ true → is_worked (found x ys) ≡ true) → is_worked (if b then Some y else found x ys)
-        ≡ true
+        (is_some (found x ys) ≡ true → is_worked (found x ys) ≡ true) →
+        is_worked (if b then Some y else found x ys) ≡ true
     by true same here rest =
         no_body y (subst (λ k. HoldsBody k src at y) (ap (λ n. n.kind) (names_law y.name x same) ∙ is) all.0)
     by false same here rest = rest here
@@ -136,8 +134,8 @@ module _ (src : Source) (sparse : Sparse) (most m round : ℕ) (state : State)
     all_came u lt = by (owner_of ends u == m) refl
       where
         by : (b : Bool) → (owner_of ends u == m) ≡ b → came u ≡ true
-        by true own = ap (λ b. if b then true else is_worked (found (push_name round (owner_of ends u) m) state.held))
-            own
+        by true own = ap (λ b. if b then true else is_worked
+            (found (push_name round (owner_of ends u) m) state.held)) own
         by false other =
             ap (λ b. if b then true else is_worked (found (push_name round (owner_of ends u) m) state.held)) other
             ∙ pushes_worked src at (push_name round (owner_of ends u) m) refl refl state.held is.bodies
@@ -171,8 +169,8 @@ module _ (src : Source) (sparse : Sparse) (most m round : ℕ) (state : State)
           ap (λ es. words_for place (flat_map
           (emitted_over sc (slot_ops (program_of src.split)) sparse (env_at sc v (none src.split))) es))
           (filter_none (λ e. key_of n (turn_of ends v) (source e) == key && came (source e)) (members_of sc.graph v)
-          (all_weaker (λ e. source e < n) (λ e. (key_of n (turn_of ends v) (source e) == key && came (source e))
-          ≡ false)
+          (all_weaker (λ e. source e < n)
+          (λ e. (key_of n (turn_of ends v) (source e) == key && came (source e)) ≡ false)
           (λ e lt. let below = low_keys n (turn_of ends v) (source e) turn_low lt in
           and_false (key_of n (turn_of ends v) (source e) == key) (came (source e))
           (ne_eqb (key_of n (turn_of ends v) (source e)) key (λ q. omega (arith, q, below, le))))
@@ -188,8 +186,8 @@ module _ (src : Source) (sparse : Sparse) (most m round : ℕ) (state : State)
       row_closed : closed_row src.split (own_sight s round) (own_partials s v) v ≡ row_at (stand src (round + 1)).rows v
       row_closed =
           let seen = own_are_seen most m s sc are stands in
-          closes_sparse src.split sparse (own_sight s round) sc v (own_partials s v) own_block seen.0 (seen.1 v lies)
-          turn_low
+          closes_sparse src.split sparse (own_sight s round) sc v (own_partials s v) own_block seen.0
+          (seen.1 v lies) turn_low
           came all_came filled
           ∙ ap (λ x. row_after x ruling.Sparse sc v) program
           ∙ row_next src round v ruling.Sparse closing.begun closing.sparse

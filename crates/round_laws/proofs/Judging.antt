@@ -1,8 +1,7 @@
 -- Counts, totals and rulings of ideal contents are the source's.
-use Rattle.std.proofs.Common.{◌≡◌, ◌<◌, ◌+◌, ◌-◌, ℕ, ℤ, Bool, true, false, List, [], ◌∷◌, length, map, sum, refl, sym, ap, subst, ◌∙◌, Option, None, Some, arith, IsTrue}
-use Rattle.std.specs.Prelude.{◌&&◌, if◌then◌else◌, is_some, slice_index}
-use Rattle.std.specs.List.{filter, list_all, range_with_len}
-use Rattle.std.proofs.lemmas.Bool.{and_parts}
+use Rattle.std.proofs.Common.{◌≡◌, ◌<◌, ◌+◌, ◌-◌, ℕ, Bool, true, List, [], ◌∷◌, length, map, sum, refl, sym, ap, subst, ◌∙◌, Option, None, Some, arith}
+use Rattle.std.specs.Prelude.{if◌then◌else◌, slice_index}
+use Rattle.std.specs.List.{filter}
 use Rattle.std.proofs.lemmas.List.{length-map}
 use Rattle.vert_base.specs.declared.graph.Edge.{Edge}
 use Rattle.vert_base.specs.declared.value.Row.{Row}
@@ -17,17 +16,15 @@ use Rattle.slot_merge.specs.Combine.{total_of}
 use Rattle.vert_eval.specs.declared.environment.Env.{Env}
 use Rattle.vert_eval.specs.Rounds as meaning
 use Rattle.vert_eval.specs.Rounds.{env_at, empty_row, outdegree, row_at}
-use Rattle.vert_eval.specs.SourceRun.{Job, active_edges, active_vertices, ruling_after, scene_of, stops}
+use Rattle.vert_eval.specs.SourceRun.{Job, active_vertices, scene_of, stops}
 use Rattle.vert_eval.specs.Values.{value_of}
 use Rattle.vert_eval.specs.Words.{is_set}
-use Rattle.chunk_split.specs.Chunks.{AreEnds, vertices_of}
-use Rattle.circulant_plan.specs.Ring.{lies_in}
-use Rattle.vert_base.specs.Ends.{start_of}
+use Rattle.chunk_split.specs.Chunks.{AreEnds}
+use Rattle.circulant_plan.specs.Ring.{lies_in, start_of}
 use Rattle.graph_table.proofs.FilterLaws.{all_range, filter-map, map_same}
 use Rattle.instrument.specs.declared.split.Split.{Split}
 use Rattle.value_laws.specs.Blind.{SameButVertex}
 use Rattle.value_laws.proofs.Blind.{stop_anywhere}
-use Rattle.body_shape.specs.Tally.{Counted}
 use Rattle.symple_face.specs.CoreJudge.{chunk_total, counted, edges_ahead, ruling_by}
 use Rattle.symple_face.specs.CoreSight.{degree_of, part_sight, program_of, row_in}
 use Rattle.symple_face.specs.Ideal as ideal
@@ -35,10 +32,8 @@ use Rattle.symple_face.specs.Parts.{PlainPart, chunk_vertices, degree_in}
 use Rattle.symple_face.specs.PartsOf.{known_of, part_of}
 use Rattle.symple_face.specs.Sight.{Sight, seen_env}
 use Rattle.symple_face.specs.Source.{Source, job_of, stand}
-use Rattle.symple_face.specs.State.{State}
 use Rattle.symple_face.proofs.ChunkLaws.{lies_is}
 use Rattle.round_laws.specs.Judging.{CountsAreIdeal, JudgesAsTheSource}
-use Rattle.round_laws.specs.Seen.{SeesScene, SeesVertex}
 use Rattle.round_laws.proofs.Readable.{stop_read}
 use Rattle.round_laws.proofs.Seen.{seen_environment}
 use Rattle.round_laws.proofs.Sights.{degree_known, row_of_own}
@@ -124,7 +119,8 @@ module _ (src : Source) (most m round : ℕ) (split : Split) (ends : List ℕ) (
       (record {
         row = row_is v lies;
         ins = ap (λ x. x.ins) (degree_is v lies);
-        outs = ap (λ x. x.outs) (degree_is v lies);
+        outs =
+            ap (λ x. x.outs) (degree_is v lies);
       }))))
 
   totals_are : (ts : List TotalDecl) → map (chunk_total part own_rows round) ts ≡ map (ideal.chunk_total run round m) ts
@@ -137,10 +133,10 @@ pub counts_ideal : CountsAreIdeal
 counts_ideal src most m round split ends draws edges reads is are machine read =
     let run : Source = record src { job = job_of split ends draws edges } in
     let same : run ≡ src = λ i. record src { job = sym is i } in
-    subst (λ x. sum (map length reads) ≡ sum
-    (map (λ v. length (ideal.ideal_reads x round m v)) (meaning.vertices_of x.job.graph)) →
-    counted (part_of ends draws edges m) split (map (row_at (stand x (round + 1)).rows) (chunk_vertices ends m)) reads
-    round ≡
+    subst (λ x. sum (map length reads) ≡
+    sum (map (λ v. length (ideal.ideal_reads x round m v)) (meaning.vertices_of x.job.graph)) →
+    counted (part_of ends draws edges m) split
+    (map (row_at (stand x (round + 1)).rows) (chunk_vertices ends m)) reads round ≡
     ideal.ideal_count x round m) same
     (λ counts i. record {
       active = actives src most m round split ends draws edges are machine i;

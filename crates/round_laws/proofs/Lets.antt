@@ -26,7 +26,7 @@ use Rattle.instrument.specs.Loops.{loop_split}
 use Rattle.instrument.specs.Segments.{carried_words, given, own_words}
 use Rattle.instrument.proofs.SplitLaws.{ends, goes_on, left, length-own, neutrals}
 use Rattle.instrument.proofs.TypedLaws.{length-let_classes}
-use Rattle.symple_face.specs.Ring.{RingState, Fresh, Running, Broken, closing, combined_operands, machine_ran, operand, operand_at, operand_words, operands_by_steps, state_of, state_with, step_ran, with_operand}
+use Rattle.symple_face.specs.Ring.{Running, Broken, closing, combined_operands, machine_ran, operand, operand_at, operand_words, operands_by_steps, state_of, state_with, step_ran, with_operand}
 use Rattle.round_laws.proofs.Ranges.{steps_more}
 use Rattle.round_laws.proofs.Steps.{first_part}
 

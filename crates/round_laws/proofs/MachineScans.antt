@@ -1,19 +1,16 @@
 -- A machine's scan of a half is ideal.
-use Rattle.std.proofs.Common.{◌≡◌, ◌≢◌, ◌<◌, ◌≤◌, ◌+◌, ◌-◌, ℕ, zero, suc, Bool, true, false, List, [], ◌∷◌, length, map, refl, sym, ap, subst, ◌∙◌, Option, None, Some, arith, ⊎_elim}
+use Rattle.std.proofs.Common.{◌≡◌, ◌<◌, ◌≤◌, ◌+◌, ◌-◌, ℕ, Bool, true, false, List, map, refl, sym, ap, subst, ◌∙◌, Option, None, Some, arith, ⊎_elim}
 use Rattle.std.specs.Prelude.{◌==◌, ◌&&◌, if◌then◌else◌, is_some, nat_le, nat_lt, option_map, slice_index_or}
-use Rattle.std.specs.List.{range_with_len}
 use Rattle.std.proofs.lemmas.Bool.{and_parts, cases_Bool, cases_lt, eq-eqb, eqb-true, leb-true, ltb-true}
 use Rattle.std.proofs.lemmas.List.FromFn.{get_or-map-range_with_len, length-map-range_with_len}
 use Rattle.std.proofs.Math.Nat.{mod-lt}
-use Rattle.vert_base.specs.declared.graph.Edge.{Edge}
 use Rattle.vert_base.specs.declared.message.Name.{Name}
 use Rattle.vert_base.specs.Neighbours.{ins_of}
 use Rattle.vert_tree.specs.declared.program.Dense.{Dense}
-use Rattle.vert_eval.specs.Rounds.{Scene}
 use Rattle.vert_eval.specs.Values.{value_of}
 use Rattle.vert_eval.specs.Words.{is_set}
 use Rattle.carry_analysis.specs.declared.carry.Carry.{Carry}
-use Rattle.chunk_split.specs.Chunks.{AreEnds, vertices_of}
+use Rattle.chunk_split.specs.Chunks.{AreEnds}
 use Rattle.dep_layout.specs.Reading.{read_of}
 use Rattle.dep_layout.specs.Spelling.{State as LoopState, spelled}
 use Rattle.dep_layout.proofs.SpellingLaws.{read_again}
@@ -21,14 +18,13 @@ use Rattle.circulant_plan.specs.Names.{dep_name}
 use Rattle.circulant_plan.specs.Ring.{IsCirculant, before_machine, chunk_of, lies_in, members_with, order_of}
 use Rattle.circulant_plan.specs.Table.{name_if}
 use Rattle.circulant_plan.proofs.CircleLaws.{each_ring_turns}
-use Rattle.circulant_plan.proofs.ReadingLaws.{not_below}
 use Rattle.circulant_plan.proofs.SpanLaws.{is_below}
 use Rattle.instrument.specs.Continued.{IsSplit}
 use Rattle.instrument.specs.Loops.{loop_split}
 use Rattle.symple_face.specs.CoreDense.{received_at, scanned_at, scanned_in, states_told}
-use Rattle.symple_face.specs.CoreScan.{Scanned, fresh, scanned}
-use Rattle.symple_face.specs.CoreSight.{held_body, is_within, members, program_of, sight_at}
-use Rattle.symple_face.specs.Ideal.{block_env, first_members, ideal_body, machines_of, members_in, ring_with, state_at, told_state, vertices_within}
+use Rattle.symple_face.specs.CoreScan.{fresh, scanned}
+use Rattle.symple_face.specs.CoreSight.{held_body, is_within, members, sight_at}
+use Rattle.symple_face.specs.Ideal.{block_env, ideal_body, machines_of, members_in, ring_with, state_at, told_state, vertices_within}
 use Rattle.symple_face.specs.PartsOf.{part_of}
 use Rattle.symple_face.specs.Plans.{loop_carry}
 use Rattle.symple_face.specs.Ring.{Fresh}
@@ -40,7 +36,6 @@ use Rattle.symple_face.proofs.ChunkLaws.{lies_within}
 use Rattle.round_laws.specs.IdealScans.{IsIdealScan, RunsDense, step_members}
 use Rattle.round_laws.specs.MachineScans.{MachineScansAreIdeal, ScansHalf}
 use Rattle.round_laws.specs.Scans.{Sees, width_of}
-use Rattle.round_laws.specs.Sights.{IsTold, StandsIn}
 use Rattle.round_laws.proofs.IdealScans.{fresh_scans_ideal, scans_ideal}
 use Rattle.round_laws.proofs.Members.{scan_members}
 use Rattle.round_laws.proofs.Sights.{own_scans_seen, told_scans_seen}
@@ -176,8 +171,8 @@ module _ (src : Source) (d : Dense) (most m round step h v : ℕ) (state : State
     abbrev IsIdealHere : State → Type 0
     IsIdealHere x =
         IsIdealScan src round v c step (scanned_at x round step h v)
-        × (is_some (loop_carry src.split.dense) ≡ true →
-        (scanned_at x round step h v).state ≡ state_at src round v c (step + 1))
+        × (is_some (loop_carry src.split.dense) ≡ true → (scanned_at x round step h v).state ≡
+        state_at src round v c (step + 1))
 
     from_ideal : received_at s round step h v ≡ ideal v → IsIdealHere s
     from_ideal is =

@@ -73,8 +73,8 @@ fills_sent ops buckets bound key sent qs lt are =
     fills_values 0 ops buckets
     (λ place. option_to_list (slice_index_or (sent.values ++ sent.operands) place None)) bound key
     (sent.values ++ sent.operands) qs lt
-    (λ j. let here : 0 + j ≡ j = omega arith in
-    ap (λ k. option_to_list (slice_index_or (sent.values ++ sent.operands) k None)) here)
+    (λ j. let here : 0 + j ≡ j = omega arith in ap
+    (λ k. option_to_list (slice_index_or (sent.values ++ sent.operands) k None)) here)
     are
 
 -- ---- partials in two parts
@@ -120,8 +120,8 @@ slot_values_filled at (op ∷ ops) buckets bound es (q ∷ qs) are each =
 
 -- what stands at the place of a slot
 slot_at : (at : ℕ) (ops : List Combine) (es : List Emission) (more : List (Option ℤ)) (j : ℕ) (op : Combine) →
-    slice_get ops j ≡ Some op → slice_index_or (slot_values at ops es ++ more) j None
-    ≡ combined op (words_for (at + j) es)
+    slice_get ops j ≡ Some op → slice_index_or (slot_values at ops es ++ more) j None ≡
+    combined op (words_for (at + j) es)
 slot_at at [] es more j op is = cc
 slot_at at (o ∷ ops) es more zero op is =
     let same : o ≡ op = cc in

@@ -1,6 +1,6 @@
 -- What the blocks of a typed program may read.
-use Rattle.std.proofs.Common.{◌≡◌, true, Option, Some, sym, ap, ◌∙◌}
-use Rattle.std.specs.Prelude.{◌&&◌, is_some}
+use Rattle.std.proofs.Common.{◌≡◌, true, Some, sym, ap, ◌∙◌}
+use Rattle.std.specs.Prelude.{is_some}
 use Rattle.std.specs.List.{list_all}
 use Rattle.std.proofs.lemmas.Bool.{and_parts}
 use Rattle.vert_tree.specs.declared.program.Dense.{Dense}
@@ -43,8 +43,8 @@ blocks_read p typed =
     (d.0, (and_parts (option_all sparse_read p.sparse) _ d.1).0)
 
 -- a tail reads no neighbour
-pub tail_read : (p : Program) (d : Dense) → is_typed p ≡ true → p.dense ≡ Some d →
-    body_read in_tests d.tail.items ≡ true
+pub tail_read : (p : Program) (d : Dense) → is_typed p ≡ true → p.dense ≡ Some d → body_read in_tests d.tail.items ≡
+    true
 tail_read p d typed e =
     let all : dense_read d ≡ true = ap (option_all dense_read) (sym e) ∙ (blocks_read p typed).0 in
     let a = and_parts (expr_read in_tests d.when_test) _ all in

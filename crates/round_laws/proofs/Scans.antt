@@ -1,38 +1,31 @@
 -- A scan at a vertex does what the machine of a step does by the source.
-use Rattle.std.proofs.Common.{◌≡◌, ℕ, suc, ◌+◌, ℤ, Bool, true, false, List, [], ◌∷◌, ◌++◌, length, map, refl, sym, ap, subst, ◌∙◌, Option, None, Some, append-nil, arith}
+use Rattle.std.proofs.Common.{◌≡◌, ℕ, ◌+◌, ℤ, Bool, true, false, List, [], ◌∷◌, ◌++◌, length, map, refl, sym, ap, subst, ◌∙◌, Option, None, Some, append-nil}
 use Rattle.std.specs.Prelude.{◌||◌, if◌then◌else◌, not, option_map, replicate}
-use Rattle.std.specs.Int.{bit_at}
 use Rattle.vert_base.specs.declared.graph.Edge.{Edge}
-use Rattle.vert_base.specs.declared.value.Combine.{Combine}
-use Rattle.vert_tree.specs.declared.program.Decl.{Decl}
 use Rattle.vert_tree.specs.declared.program.Dense.{Dense}
 use Rattle.vert_tree.specs.declared.program.SlotDecl.{SlotDecl}
-use Rattle.slot_merge.specs.Combine.{Emission, slot_values}
+use Rattle.slot_merge.specs.Combine.{slot_values}
 use Rattle.vert_eval.specs.declared.environment.Env.{Env}
 use Rattle.vert_eval.specs.declared.environment.Flow.{Flow}
 use Rattle.vert_eval.specs.declared.environment.Flow.TheVariants.{Going, Broke}
-use Rattle.vert_eval.specs.Rounds.{Scene, env_at, loop, slot_ops}
+use Rattle.vert_eval.specs.Rounds.{Scene, env_at, slot_ops}
 use Rattle.vert_eval.specs.Runs.{Ran, leaves}
-use Rattle.vert_eval.specs.Values.{value_of, word_at}
+use Rattle.vert_eval.specs.Values.{value_of}
 use Rattle.vert_eval.specs.Words.{is_set}
-use Rattle.dep_layout.specs.declared.state.Mark.TheVariants as mark
 use Rattle.dep_layout.specs.Spelling.{State as LoopState}
 use Rattle.instrument.specs.declared.split.Split.{Split}
-use Rattle.instrument.specs.declared.split.SplitLoop.{SplitLoop}
 use Rattle.instrument.specs.Continued.{IsSplit, segment}
 use Rattle.instrument.specs.Loops.{loop_split}
 use Rattle.instrument.specs.Segments.{begun, given, with_neutral, with_received, with_words}
 use Rattle.value_laws.specs.Blind.{AlikeRuns, SameButKey}
 use Rattle.value_laws.proofs.Blind.{lets_keyed, loop_keyed, value_keyed}
-use Rattle.body_shape.specs.Missing.{nothing_sent}
-use Rattle.body_shape.specs.Update.{Sent}
 use Rattle.symple_face.specs.CoreSight.{none, program_of}
-use Rattle.symple_face.specs.CoreTakes.{slot_count, unsent}
-use Rattle.symple_face.specs.CoreScan.{Scanned, fresh, is_broken, mark_after, passed, scanned, scanned_by, segment_seen, sent_by_segment, told_words}
+use Rattle.symple_face.specs.CoreTakes.{unsent}
+use Rattle.symple_face.specs.CoreScan.{Scanned, is_broken, mark_after, passed, scanned, scanned_by, segment_seen, sent_by_segment, told_words}
 use Rattle.symple_face.specs.Ideal.{told_state}
-use Rattle.symple_face.specs.Ring.{RingState, Fresh, Running, Broken, operand, operand_at, operands, state_of, state_with, step_ran, step_state}
+use Rattle.symple_face.specs.Ring.{RingState, Fresh, Running, Broken, operands, state_of, state_with, step_ran, step_state}
 use Rattle.symple_face.specs.Shapes.{reduced_in}
-use Rattle.symple_face.specs.Sight.{Sight, seen_env, seen_loop}
+use Rattle.symple_face.specs.Sight.{Sight, seen_env}
 use Rattle.round_laws.specs.Scans.{Sees, SeesLoop, ScansAfresh, ScansAs, ScansTheRing, ran_behind, ring_after, width_of}
 use Rattle.round_laws.proofs.Lets.{unmarked_none}
 use Rattle.round_laws.proofs.Seen.{loop_seen, seen_environment}
@@ -71,8 +64,8 @@ same_either false x = refl
 
 -- ---- at a vertex with members
 told_with : (width : ℕ) (flow : Flow) (words : List ℤ) →
-    (let st : LoopState = record { mark = mark_after flow; words = words } in st)
-    ≡ told_state width (state_with flow words)
+    (let st : LoopState = record { mark = mark_after flow; words = words } in st) ≡
+    told_state width (state_with flow words)
 told_with width Going words = refl
 told_with width Broke words = refl
 
@@ -91,8 +84,8 @@ module _ (split : Split) (d : Dense) (g : Sight) (s : Scene) (key v : ℕ) (e : 
       SameButKey (begun (loop_split d) d.lets.items received env) (begun (loop_split d) d.lets.items received seen)
   begun_keyed received =
       let cs = (loop_split d).classes.locals.items in
-      ap (λ first. let b : Env = record (with_words (with_neutral cs (with_received cs received first.locals.items))
-      first) { touched = 0 } in b)
+      ap (λ first. let b : Env = record
+      (with_words (with_neutral cs (with_received cs received first.locals.items)) first) { touched = 0 } in b)
       (lets_keyed d.lets.items (record env { locals = record { items = [] } })
       (record seen { locals = record { items = [] } })
       (ap (λ x. let a : Env = record x { locals = record { items = [] } } in a) keyed))
@@ -152,8 +145,8 @@ module _ (split : Split) (d : Dense) (g : Sight) (s : Scene) (key v : ℕ) (e : 
       (refl, record { sent = nothing_is_sent split d env h refl; reads = refl })
 
   -- where the test is false the state is passed on
-  passes_by : is_set (value_of d.when_test env) ≡ false →
-      scan_from Fresh ≡ passed split (told_state (width_of split) Fresh)
+  passes_by : is_set (value_of d.when_test env) ≡ false → scan_from Fresh ≡
+      passed split (told_state (width_of split) Fresh)
   passes_by test =
       let st : LoopState = told_state (width_of split) Fresh in
       ap (λ x. if not (is_set x) then passed split st else scanned_by split d (segment_seen d g (e ∷ es) st seen))

@@ -1,12 +1,11 @@
 -- What a machine sees is what stands in the source's round.
-use Rattle.std.proofs.Common.{◌≡◌, ℕ, ℤ, pos, false, List, [], ◌∷◌, refl, Option}
+use Rattle.std.proofs.Common.{◌≡◌, pos, false, [], ◌∷◌, refl}
 use Rattle.vert_base.specs.declared.graph.Edge.{Edge}
 use Rattle.vert_base.specs.Neighbours.{source}
-use Rattle.vert_tree.specs.declared.statement.Stmt.{Stmt}
 use Rattle.vert_eval.specs.declared.environment.Env.{Env}
 use Rattle.vert_eval.specs.Rounds.{Scene, at_member, reading}
 use Rattle.vert_eval.specs.Runs.{followed_by, run}
-use Rattle.symple_face.specs.Sight.{Sight, seen_at, seen_loop}
+use Rattle.symple_face.specs.Sight.{Sight, seen_at}
 use Rattle.round_laws.specs.Seen.{EnvironmentsAreSeen, LoopsAreSeen, SeesVertex}
 
 pub seen_environment : EnvironmentsAreSeen

@@ -1,5 +1,5 @@
 -- The close of a sparse round at a vertex makes the source's row.
-use Rattle.std.proofs.Common.{◌≡◌, ◌≤◌, ◌<◌, ◌+◌, ℕ, ℤ, Bool, true, false, List, [], ◌∷◌, ◌++◌, length, map, refl, sym, ap, ◌∙◌, Some, Option}
+use Rattle.std.proofs.Common.{◌≡◌, ◌<◌, ℕ, Bool, true, false, List, [], ◌∷◌, ◌++◌, length, refl, sym, ap, ◌∙◌}
 use Rattle.std.specs.Prelude.{◌==◌, ◌&&◌, nat_le, nat_lt, take}
 use Rattle.std.specs.List.{AllByRecursion, filter, flat_map, range_with_len}
 use Rattle.std.proofs.lemmas.List.{length-map}
@@ -10,12 +10,10 @@ use Rattle.vert_base.specs.declared.value.Ruling.TheVariants as ruling
 use Rattle.vert_base.specs.Neighbours.{bucket, ins_of, source, target, turn_of, turned}
 use Rattle.vert_base.proofs.Orders.{in_order_below}
 use Rattle.graph_table.proofs.FilterLaws.{all_append, all_filter, all_true, all_weaker, filter_same, flat_map_same}
-use Rattle.slot_merge.specs.declared.partial.Partial.{Partial}
 use Rattle.slot_merge.specs.Combine.{Emission, combined, slot_values, words_for}
-use Rattle.slot_merge.specs.Filled.{AreFilled}
 use Rattle.vert_eval.specs.declared.environment.Env.{Env}
-use Rattle.vert_eval.specs.Rounds.{emitted_over, env_at, gathered, members_of, row_after, slot_ops, sparse_part, updated}
-use Rattle.symple_face.specs.CoreClose.{closed_row, values_of}
+use Rattle.vert_eval.specs.Rounds.{emitted_over, env_at, gathered, members_of, slot_ops, sparse_part, updated}
+use Rattle.symple_face.specs.CoreClose.{values_of}
 use Rattle.symple_face.specs.CoreSight.{none, program_of}
 use Rattle.symple_face.specs.CoreSparse.{key_of}
 use Rattle.symple_face.specs.CoreTakes.{classes_of, reduced_ops, slot_count}
@@ -59,10 +57,10 @@ closes_sparse split sparse g s v ps is all here low came each filled =
     let key : Edge → ℕ = λ e. key_of n t (source e) in
     let source_emits : List Emission = (gathered (program_of split) ruling.Sparse s v).emitted in
     let there : source_emits ≡ flat_map emits members = ap (λ o. (sparse_part s slots o members env).emitted) is in
-    let by_key : (j : ℕ) → flat_map (push_buckets split sparse s v came j) (range_with_len 0 n)
-    ≡ words_for j (flat_map emits members) =
-    λ j. flat_map_same (push_buckets split sparse s v came j) (λ k.
-    words_for j (flat_map emits (bucket key k members))) (range_with_len 0 n)
+    let by_key : (j : ℕ) → flat_map (push_buckets split sparse s v came j) (range_with_len 0 n) ≡
+    words_for j (flat_map emits members) =
+    λ j. flat_map_same (push_buckets split sparse s v came j)
+    (λ k. words_for j (flat_map emits (bucket key k members))) (range_with_len 0 n)
     (all_true _ (λ k. ap (λ l. words_for j (flat_map emits l))
     (filter_same (λ e. key e == k && came (source e)) (λ e. key e == k) members
     (all_weaker (λ e. source e < n) (λ e. (key e == k && came (source e)) ≡ (key e == k))

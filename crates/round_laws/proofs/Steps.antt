@@ -1,14 +1,13 @@
 -- One machine more in the ring of a vertex.
-use Rattle.std.proofs.Common.{◌≡◌, ◌<◌, ℕ, zero, suc, ℤ, Bool, true, false, List, [], ◌∷◌, ◌++◌, length, filter, refl, sym, ap, subst, ◌∙◌, Option, None, Some, append-nil, arith}
+use Rattle.std.proofs.Common.{◌≡◌, ℕ, zero, suc, ℤ, Bool, true, false, List, [], ◌∷◌, ◌++◌, refl, sym, ap, subst, ◌∙◌, None, Some, append-nil, arith}
 use Rattle.std.specs.Prelude.{◌||◌, if◌then◌else◌, nat_lt}
-use Rattle.std.proofs.lemmas.Bool.Decides.{nat_tests}
 use Rattle.vert_base.specs.declared.graph.Edge.{Edge}
 use Rattle.vert_tree.specs.declared.program.Dense.{Dense}
 use Rattle.vert_tree.specs.declared.program.Program.{Program}
 use Rattle.carry_analysis.specs.declared.carry.Carry.{Carry}
 use Rattle.carry_analysis.specs.declared.classes.Class.{Class}
 use Rattle.carry_analysis.specs.declared.classes.Class.TheVariants.{Constant, Reduced, Carried}
-use Rattle.carry_analysis.specs.Classes.{body_marks, carried_in, carry_in, has_break, is_carried, let_classes}
+use Rattle.carry_analysis.specs.Classes.{body_marks, carried_in, has_break, let_classes}
 use Rattle.vert_eval.specs.declared.environment.Env.{Env}
 use Rattle.vert_eval.specs.declared.environment.Flow.{Flow}
 use Rattle.vert_eval.specs.declared.environment.Flow.TheVariants.{Going, Broke}
@@ -22,7 +21,7 @@ use Rattle.instrument.specs.Segments.{begun, carried_words, given, only_lets, ow
 use Rattle.instrument.proofs.SplitLaws.{begins, ends, goes_on}
 use Rattle.instrument.proofs.WordLaws.{carried_same}
 use Rattle.value_laws.proofs.NoBreak.{loop_goes}
-use Rattle.symple_face.specs.Ring.{RingState, Fresh, Running, Broken, machine_ran, state_after, state_of, state_with, step_ran, step_state}
+use Rattle.symple_face.specs.Ring.{Fresh, Running, Broken, machine_ran, state_after, state_of, state_with, step_ran, step_state}
 use Rattle.round_laws.specs.Steps.{ByMachines, Grows}
 use Rattle.round_laws.proofs.Ranges.{joined_more, steps_more}
 

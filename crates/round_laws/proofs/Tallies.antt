@@ -1,5 +1,5 @@
 -- The tallies of a round, summed.
-use Rattle.std.proofs.Common.{◌≡◌, ◌≢◌, ◌<◌, ◌≤◌, ◌+◌, ◌-◌, ℕ, zero, suc, ℤ, Bool, true, false, List, [], ◌∷◌, length, map, sum, refl, sym, ap, ◌∙◌, arith, cond}
+use Rattle.std.proofs.Common.{◌≡◌, ◌≢◌, ◌≤◌, ◌+◌, ◌-◌, ℕ, zero, suc, ℤ, Bool, true, false, List, [], ◌∷◌, length, map, sum, refl, sym, ap, ◌∙◌, arith, cond}
 use Rattle.std.specs.Prelude.{fold, get_or, if◌then◌else◌, is_some}
 use Rattle.std.specs.List.{AllByRecursion, filter, list_all, range_with_len}
 use Rattle.std.proofs.lemmas.Bool.{and_parts}
@@ -15,7 +15,7 @@ use Rattle.vert_tree.specs.Limits.{is_limited, is_shallow, mode_stands, names_st
 use Rattle.vert_tree.specs.Places.{is_placed}
 use Rattle.vert_tree.specs.Readable.{declares_once, is_readable, is_total_op, totals_combine}
 use Rattle.vert_tree.specs.Typed.{is_typed}
-use Rattle.slot_merge.specs.Combine.{combined_of, neutral, total_of}
+use Rattle.slot_merge.specs.Combine.{combined_of, total_of}
 use Rattle.vert_eval.specs.Rounds.{empty_row, env_at, outdegree, row_at, vertices_of}
 use Rattle.vert_eval.specs.SourceRun.{active_edges, active_vertices, scene_of, total_after}
 use Rattle.vert_eval.specs.Values.{value_of}
@@ -106,8 +106,8 @@ pub sum-passing : {X : Type 0} (test : X → Bool) (f : X → ℕ) (xs : List X)
     sum (map f (filter test xs)) ≡ sum (map (λ x. if test x then f x else 0) xs)
 sum-passing test f [] = refl
 sum-passing test f (x ∷ xs) =
-    by (test x) (sum-passing test f xs) ∙ sym
-    (sum-more (if test x then f x else 0) (map (λ x. if test x then f x else 0) xs))
+    by (test x) (sum-passing test f xs)
+    ∙ sym (sum-more (if test x then f x else 0) (map (λ x. if test x then f x else 0) xs))
   where
     by : (b : Bool) → sum (map f (filter test xs)) ≡ sum (map (λ x. if test x then f x else 0) xs) →
         sum (map f (cond b (x ∷ filter test xs) (filter test xs))) ≡
@@ -181,8 +181,8 @@ module _ (src : Source) (most round : ℕ) (typed : is_typed src.job.program ≡
       ∙ sym (length-filter-map (range_with_len 0 (length rows)))
       ∙ ap active_vertices (rows_are rows)
     where
-      length-filter-map : (vs : List ℕ) → length (filter (λ r. r.active) (map (row_at rows) vs))
-          ≡ length (filter active vs)
+      length-filter-map : (vs : List ℕ) → length (filter (λ r. r.active) (map (row_at rows) vs)) ≡
+          length (filter active vs)
       length-filter-map vs = ap length (filter-map (λ (r : Row). r.active) (row_at rows) vs)
           ∙ length-map (filter active vs) (row_at rows)
 
@@ -217,8 +217,8 @@ module _ (src : Source) (most round : ℕ) (typed : is_typed src.job.program ≡
         active = (all_active ts (count 0) count (others_of p 0) ∙ over_machines (λ m. (count m).active) ∙ active_sum) i;
         edges = (all_edges ts (count 0) count (others_of p 0) ∙ over_machines (λ m. (count m).edges) ∙ edges_sum) i;
         reads = (all_reads ts (count 0) count (others_of p 0) ∙ over_machines (λ m. (count m).reads)) i;
-        totals = (all_totals ts (count 0) count (chunk_total src round 0) (chunk_total src round) (others_of p 0) refl
-            (λ k. refl)
+        totals = (all_totals ts (count 0) count (chunk_total src round 0) (chunk_total src round)
+            (others_of p 0) refl (λ k. refl)
             ∙ map_same (λ t. fold (combined_of t.op) (chunk_total src round 0 t)
             (map (λ k. chunk_total src round k t) (others_of p 0)))
             (total_after src.job round rows) ts

@@ -1,5 +1,5 @@
 -- A machine holds what the source's run says, by its spot and by the messages that it has taken.
-use Rattle.std.specs.Prelude.{◌≡◌, ◌⊎◌, ◌≤◌, ◌==◌, ◌+◌, ◌&&◌, ◌||◌, not, nat_lt, ℕ, ℤ, Bool, true, false, List, [], ◌∷◌, Option, None, Some, if◌then◌else◌, is_some, length, map}
+use Rattle.std.specs.Prelude.{◌≡◌, ◌⊎◌, ◌≤◌, ◌==◌, ◌+◌, ◌&&◌, not, nat_lt, ℕ, ℤ, Bool, true, false, List, [], Option, None, Some, if◌then◌else◌, is_some, length, map}
 use Rattle.std.specs.List.{AllByRecursion}
 use Rattle.vert_base.specs.declared.message.NameKind.{NameKind}
 use Rattle.vert_base.specs.declared.message.NameKind.TheVariants as kind
@@ -15,7 +15,6 @@ use Rattle.circulant_plan.specs.declared.spot.Spot.TheVariants.{Tell, Judge, Beg
 use Rattle.circulant_plan.specs.Names.{push_name, update_name}
 use Rattle.circulant_plan.specs.Ring.{chunk_of, lies_in, order_of}
 use Rattle.circulant_plan.specs.Standing.{Standing, place_of}
-use Rattle.instrument.specs.declared.split.Split.{Split}
 use Rattle.symple_face.specs.CoreScan.{fresh}
 use Rattle.symple_face.specs.CoreSight.{is_within, known, known_totals, program_of, targets_of}
 use Rattle.symple_face.specs.CoreTakes.{own_partials}

@@ -8,7 +8,7 @@ use Rattle.chunk_split.specs.Chunks.{AreEnds}
 use Rattle.instrument.specs.declared.split.Split.{Split}
 use Rattle.body_shape.specs.Tally.{Counted}
 use Rattle.symple_face.specs.CoreJudge.{counted, ruling_by}
-use Rattle.symple_face.specs.Ideal.{ideal_count, ideal_reads, machines_of}
+use Rattle.symple_face.specs.Ideal.{ideal_count, ideal_reads}
 use Rattle.symple_face.specs.Parts.{chunk_vertices}
 use Rattle.symple_face.specs.PartsOf.{part_of}
 use Rattle.symple_face.specs.Source.{Source, job_of, stand}
@@ -22,8 +22,8 @@ CountsAreIdeal =
     (reads : List (List ℕ)) →
     src.job ≡ job_of split ends draws edges → AreEnds most ends → m < length ends →
     sum (map length reads) ≡ sum (map (λ v. length (ideal_reads src round m v)) (meaning.vertices_of src.job.graph)) →
-    counted (part_of ends draws edges m) split (map (row_at (stand src (round + 1)).rows) (chunk_vertices ends m))
-    reads round ≡
+    counted (part_of ends draws edges m) split
+    (map (row_at (stand src (round + 1)).rows) (chunk_vertices ends m)) reads round ≡
     ideal_count src round m
 
 -- a judge that has summed the source's counts and totals rules as the source

@@ -1,7 +1,9 @@
 pub mod Chunks
 pub mod DenseClose
 pub mod DenseRound
+pub mod FoldCloses
 pub mod FoldTakes
+pub mod FoldTells
 pub mod FoldUpdates
 pub mod FoldVerdicts
 pub mod IdealClose

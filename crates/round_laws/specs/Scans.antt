@@ -1,22 +1,20 @@
 -- A scan at a vertex does what the machine of a step does by the source.
-use Rattle.std.specs.Prelude.{◌≡◌, ℕ, ℤ, List, [], ◌∷◌, ◌++◌, None, if◌then◌else◌, ⊤}
+use Rattle.std.specs.Prelude.{◌≡◌, ℕ, List, [], ◌∷◌, ◌++◌, None, if◌then◌else◌, ⊤}
 use Rattle.vert_base.specs.declared.graph.Edge.{Edge}
 use Rattle.vert_tree.specs.declared.program.Dense.{Dense}
-use Rattle.slot_merge.specs.Combine.{slot_values}
 use Rattle.vert_eval.specs.declared.environment.Env.{Env}
-use Rattle.vert_eval.specs.Rounds.{Scene, env_at, slot_ops}
+use Rattle.vert_eval.specs.Rounds.{Scene, env_at}
 use Rattle.vert_eval.specs.Runs.{Ran, leaves}
 use Rattle.vert_eval.specs.Values.{value_of}
 use Rattle.vert_eval.specs.Words.{is_set}
 use Rattle.instrument.specs.declared.split.Split.{Split}
 use Rattle.instrument.specs.Continued.{IsSplit}
 use Rattle.instrument.specs.Loops.{loop_split}
-use Rattle.body_shape.specs.Update.{Sent}
 use Rattle.symple_face.specs.CoreSight.{none, program_of}
 use Rattle.symple_face.specs.CoreScan.{Scanned, fresh, scanned, sent_by_segment}
 use Rattle.symple_face.specs.Ideal.{told_state}
 use Rattle.symple_face.specs.Plans.{loop_carry}
-use Rattle.symple_face.specs.Ring.{RingState, Fresh, operands, state_of, step_ran}
+use Rattle.symple_face.specs.Ring.{RingState, Fresh, state_of, step_ran}
 use Rattle.symple_face.specs.Shapes.{words_in}
 use Rattle.symple_face.specs.Sight.{Sight}
 use Rattle.round_laws.specs.Seen.{SeesScene, SeesSources, SeesVertex}

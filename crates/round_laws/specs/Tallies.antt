@@ -18,8 +18,8 @@ source_count src round =
     record {
       active = active_vertices rows;
       edges = active_edges src.job.graph rows;
-      reads = sum (each (machines_of src) (λ m.
-          sum (map (λ v. length (ideal_reads src round m v)) (vertices_of src.job.graph))));
+      reads = sum (each (machines_of src)
+          (λ m. sum (map (λ v. length (ideal_reads src round m v)) (vertices_of src.job.graph))));
       totals = totals_after src.job round rows;
     }
 

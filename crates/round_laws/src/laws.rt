@@ -1,6 +1,8 @@
 ghost use Rattle.round_laws.specs.DenseClose.{ClosesDense};
 ghost use Rattle.round_laws.specs.DenseRound.{RoundByMachines};
+ghost use Rattle.round_laws.specs.FoldCloses.{ClosesAndGoesOn, ClosesToJudge, DenseReadsAreIdeal, SparseReadsAreIdeal};
 ghost use Rattle.round_laws.specs.FoldTakes.{TakesWhatIsKept};
+ghost use Rattle.round_laws.specs.FoldTells.{TellsAndGoesOn};
 ghost use Rattle.round_laws.specs.FoldUpdates.{TakesUpdates};
 ghost use Rattle.round_laws.specs.FoldVerdicts.{TakesVerdicts};
 ghost use Rattle.round_laws.specs.IdealClose.{DenseRowsAreIdeal, SparseRowsAreIdeal};
@@ -68,7 +70,8 @@ pub fn tallies_are_summed()
     ensures { TalliesAreSummed }
 {}
 
-/// The law that a machine sees the source's rows and degrees, in its own chunk and where it was told of another. It does nothing.
+/// The law that a machine sees the source's rows and degrees, in its own chunk and where it was told of another. It
+/// does nothing.
 pub fn machines_see_the_source()
     ensures own { OwnAreSeen }
     ensures here { OwnScansAreSeen }
@@ -93,8 +96,22 @@ pub fn machines_scan_ideally()
     ensures { MachineScansAreIdeal }
 {}
 
-/// The law that a machine's counts and totals of ideal contents are its ideal tally, and that a judge rules as the source. It does nothing.
+/// The law that a machine's counts and totals of ideal contents are its ideal tally, and that a judge rules as the
+/// source. It does nothing.
 pub fn judges_rule_as_the_source()
     ensures counts { CountsAreIdeal }
     ensures ruling { JudgesAsTheSource }
+{}
+
+/// The law that a machine that closes a round still holds what the source's run says. It does nothing.
+pub fn closes_go_on()
+    ensures begin { ClosesAndGoesOn }
+    ensures judge { ClosesToJudge }
+    ensures dense { DenseReadsAreIdeal }
+    ensures sparse { SparseReadsAreIdeal }
+{}
+
+/// The law that a machine that has told its first rows still holds what the source's run says. It does nothing.
+pub fn tells_go_on()
+    ensures { TellsAndGoesOn }
 {}

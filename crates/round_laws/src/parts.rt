@@ -2,7 +2,8 @@ ghost use Rattle.round_laws.specs.Chunks.{EachHasAChunk, EndsReach, NoneHasTwo};
 ghost use Rattle.round_laws.specs.Keys.{KeysBelow, KeysRise};
 ghost use Rattle.round_laws.specs.Members.{PushMembers, ScanMembers, ScansReadInTurn, StepsMembers};
 ghost use Rattle.round_laws.specs.Planned.{PlannedCanBeTaken};
-ghost use Rattle.round_laws.specs.Sums.{ChunksCover, CountsByChunks, StepsAreMachines, SumsByChunks, SumsByMachines, TotalsByChunks};
+ghost use Rattle.round_laws.specs.Sums.{ChunksCover, CountsByChunks, StepsAreMachines};
+ghost use Rattle.round_laws.specs.Sums.{SumsByChunks, SumsByMachines, TotalsByChunks};
 ghost use Rattle.round_laws.specs.Vertices.{KnowsOwn, KnowsWorked, PushedMeet, RefreshedMeet};
 
 /// The law that each vertex lies in one chunk, and that the chunks are those of the ring. It does nothing.
