@@ -11,3 +11,4 @@ pub mod ReachedWorlds
 pub mod Results
 pub mod Moves
 pub mod Done
+pub mod PartLists

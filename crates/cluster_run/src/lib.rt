@@ -6,6 +6,8 @@ mod cluster;
 mod fault;
 mod laws;
 mod looks;
+mod start;
+mod views;
 
 pub use cluster::Cluster;
 pub use fault::{EventFault, Missing};
