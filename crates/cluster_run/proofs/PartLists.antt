@@ -58,33 +58,42 @@ next_made work [] rest p some first others = absurd (omega arith)
 next_made work (q ∷ ps) rest p some first others =
     ap (λ x. made work x ∷ map (made work) rest) first ∙ ap (λ xs. made work q ∷ map (made work) xs) others
 
-put_behind : {X : Type 0} → (state : X → State) (xs : List X) (x : X) (ss : List State) → map state (xs ++ x ∷ []) ++ ss ≡ map state xs ++ state x ∷ ss
+put_behind : {X : Type 0} → (state : X → State) (xs : List X) (x : X) (ss : List State) →
+    map state (xs ++ x ∷ []) ++ ss ≡ map state xs ++ state x ∷ ss
 put_behind state [] x ss = refl
 put_behind state (y ∷ xs) x ss = ap (λ zs. state y ∷ zs) (put_behind state xs x ss)
 
 -- a machine more is made of the first part
-pub one_made : {X : Type 0} → (state : X → State) (work : Work) (xs ys : List X) (x : X) (ps rest : List Part) (p : Part) → 1 ≤ length ps → p ≡ get_or ps 0 p →
-    rest ≡ drop 1 ps → state x ≡ made work p → ys ≡ xs ++ x ∷ [] → map state ys ++ map (made work) rest ≡ map state xs ++ map (made work) ps
+pub one_made : {X : Type 0} → (state : X → State) (work : Work) (xs ys : List X) (x : X) (ps rest : List Part)
+    (p : Part) → 1 ≤ length ps → p ≡ get_or ps 0 p →
+    rest ≡ drop 1 ps → state x ≡ made work p → ys ≡ xs ++ x ∷ [] → map state ys ++ map (made work) rest ≡ map state xs
+    ++ map (made work) ps
 one_made state work xs ys x ps rest p some first others is grown =
     ap (λ zs. map state zs ++ map (made work) rest) grown
     ∙ put_behind state xs x (map (made work) rest)
     ∙ ap (λ s. map state xs ++ s ∷ map (made work) rest) is
     ∙ ap (λ ss. map state xs ++ ss) (next_made work ps rest p some first others)
 
-all_made : (work : Work) (left : List Part) (ss made_ones : List State) → length left ≡ 0 → ss ++ map (made work) left ≡ made_ones → ss ≡ made_ones
+all_made : (work : Work) (left : List Part) (ss made_ones : List State) → length left ≡ 0 →
+    ss ++ map (made work) left ≡ made_ones → ss ≡ made_ones
 all_made work [] ss made_ones none is = sym (append-nil ss) ∙ is
 all_made work (p ∷ left) ss made_ones none is = absurd (omega arith)
 
 -- all machines are made, and nothing is under way: this is the first world
-pub begins_anew : {X : Type 0} → (state : X → State) (work : Work) (split : Split) (ps left : List Part) (xs : List X) (flight : List Letter) → length left ≡ 0 →
-    map state xs ++ map (made work) left ≡ map (made work) ps → All (λ part. part.split.value ≡ split) ps → flight ≡ [] →
-    (let w : World = record { sites = map state xs; under_way = flight } in w) ≡ first_world work split (map plain_of ps)
+pub begins_anew : {X : Type 0} → (state : X → State) (work : Work) (split : Split) (ps left : List Part) (xs : List X)
+    (flight : List Letter) → length left ≡ 0 →
+    map state xs ++ map (made work) left ≡ map (made work) ps → All (λ part. part.split.value ≡ split) ps →
+    flight ≡ [] →
+    (let w : World = record { sites = map state xs; under_way = flight } in w)
+    ≡ first_world work split (map plain_of ps)
 begins_anew state work split ps left xs flight none is same empty =
     ap (λ ms. (let w : World = record { sites = map state xs; under_way = ms } in w)) empty
-    ∙ ap (λ ss. (let w : World = record { sites = ss; under_way = [] } in w)) (all_made work left (map state xs) (map (made work) ps) none is ∙ made_is work split ps same)
+    ∙ ap (λ ss. (let w : World = record { sites = ss; under_way = [] } in w))
+    (all_made work left (map state xs) (map (made work) ps) none is ∙ made_is work split ps same)
 
 -- and it is reached
-pub anew_reached : (work : Work) (sound : State → Type 0) (split : Split) (ps : List Part) (w : World) → IsOneRun (map plain_of ps) → All RunsOn ps →
+pub anew_reached : (work : Work) (sound : State → Type 0) (split : Split) (ps : List Part) (w : World) →
+    IsOneRun (map plain_of ps) → All RunsOn ps →
     All (λ part. part.split.value ≡ split) ps → w ≡ first_world work split (map plain_of ps) → IsReached work sound w
 anew_reached work sound split ps w one runs same is = record {
   split = split;

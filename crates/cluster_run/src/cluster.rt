@@ -33,9 +33,19 @@ impl<S: Site, const CAP: usize> Model for Cluster<S, CAP> {
 
     ghost coded = { Prim.hlevel (codes, node.the_row.coded, stmt.the_row.coded) };
 
-    ghost view = { λ c. record { world = record { sites = map S.state c.sites.items; under_way = c.flight }; ended = c.ended } };
+    ghost view = { λ c. record {
+      world = record {
+        sites = map S.state c.sites.items;
+        under_way = c.flight;
+      };
+      ended = c.ended;
+    } };
 
-    ghost invariant = { λ c. IsDriven S.work S.sound (record { world = record { sites = map S.state c.sites.items; under_way = c.flight }; ended = c.ended }) × (c.ended ≡ false → c.out.items ≡ []) };
+    ghost invariant = { λ c. IsDriven S.work S.sound
+        (record {
+          world = record { sites = map S.state c.sites.items; under_way = c.flight };
+          ended = c.ended;
+        }) × (c.ended ≡ false → c.out.items ≡ []) };
 }
 
 impl<S: Site, const CAP: usize> Cluster<S, CAP> {

@@ -18,7 +18,8 @@ impl<S: Site, const CAP: usize> Cluster<S, CAP> {
 
     /// The message of a name that is under way.
     pub fn peek(&self, name: &Name) -> Option<&Message>
-        ensures { option_map letter_of (option_copied result) ≡ found name.now self.now.world.under_way }
+        ensures { option_map letter_of (option_copied result)
+            ≡ found name.now self.now.world.under_way }
     {
         self.flight.peek(name)
     }

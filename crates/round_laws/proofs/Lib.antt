@@ -25,7 +25,8 @@
 -- Partials: what is sent goes to the ends of buckets, and the values of partials by their buckets.
 -- DenseClose: the tail runs in the environment that the loop leaves, so the close makes the source's row.
 -- SparseClose: keys rise along N_t(v), so the buckets in turn are what its members emit.
--- MachineScans: a scan of a half, from the parts, the rows told and the states taken. Tallies, Judging: sums and rulings.
+-- MachineScans: a scan of a half, from the parts, the rows told and the states taken. Tallies, Judging: sums and
+-- rulings.
 -- FoldTakes, FoldUpdates, FoldVerdicts, FoldTells, FoldCloses, IdealClose, IdealSparse: one event of one machine. Held,
 -- Lowered: what they need of messages held and of bounds above keys.
 -- Readable: what the blocks of a typed program may read.

@@ -14,6 +14,7 @@ returns c = record {
   push = subst HaveWeights c.deref-2.ensures.value c.edges_have_weights-2.ensures;
   program = record {
     typed = c.args.part.now.split.value.program.typed;
-    fits = subst (λ (q : Split). literals_fit q.program.program ≡ true) c.deref-split.ensures c.literals_are_words.ensures;
+    fits = subst (λ (q : Split). literals_fit q.program.program ≡ true) c.deref-split.ensures
+        c.literals_are_words.ensures;
   };
 }

@@ -11,27 +11,36 @@ use Rattle.cluster_run.proofs.cluster.Cluster.start.Goals as goal
 pub loop-parts-preserved : goal.loop-parts-preserved
 loop-parts-preserved g c =
     let some : 1 ≤ length c.loop-parts.parts.items = omega arith in
-    one_made g.S.Site.state g.S.Site.work c.loop-parts.sites.items c.push.new.self.items c.in_ok-make.field-0 c.loop-parts.parts.items c.remove-part.new.self.items
-    c.remove-part.result some c.remove-part.ensures.value c.remove-part.ensures.items c.in_ok-make.ensures c.in_ok-push.ensures.items
+    one_made g.S.Site.state g.S.Site.work c.loop-parts.sites.items c.push.new.self.items c.in_ok-make.field-0
+    c.loop-parts.parts.items c.remove-part.new.self.items
+    c.remove-part.result some c.remove-part.ensures.value c.remove-part.ensures.items c.in_ok-make.ensures
+    c.in_ok-push.ensures.items
     ∙ c.loop-parts.invariant
 
 pub invariant_of-result : goal.invariant_of-result
 invariant_of-result g c =
-    let zero : vec_len c.loop-parts.parts ≡ 0 = same_from (vec_len c.loop-parts.parts) 0 (sym c.loop-parts-test.ensures) in
+    let zero : vec_len c.loop-parts.parts ≡ 0 =
+    same_from (vec_len c.loop-parts.parts) 0 (sym c.loop-parts-test.ensures) in
     let none : length c.loop-parts.parts.items ≡ 0 = omega arith in
     let split = c.requires.one_split.0 in
     let w : World = record { sites = map g.S.Site.state c.loop-parts.sites.items; under_way = c.new.result } in
     let is =
-    begins_anew g.S.Site.state g.S.Site.work split c.args.parts.items c.loop-parts.parts.items c.loop-parts.sites.items c.new.result none c.loop-parts.invariant
+    begins_anew g.S.Site.state g.S.Site.work split c.args.parts.items c.loop-parts.parts.items
+    c.loop-parts.sites.items c.new.result none c.loop-parts.invariant
     c.requires.one_split.1 c.new.ensures in
     let runs = subst (All RunsOn) c.deref.ensures.value c.each_can_run.ensures in
-    let reached = anew_reached g.S.Site.work g.S.Site.sound split c.args.parts.items w c.requires.one_run runs c.requires.one_split.1 is in
-    (record { few = reached_few g.S.Site.work g.S.Site.sound g.met.S.Site.lawful w reached; reached = λ on. reached }, λ on. c.new-2.ensures.items)
+    let reached = anew_reached g.S.Site.work g.S.Site.sound split c.args.parts.items w c.requires.one_run runs
+    c.requires.one_split.1 is in (
+      record { few = reached_few g.S.Site.work g.S.Site.sound g.met.S.Site.lawful w reached; reached = λ on. reached },
+      λ on. c.new-2.ensures.items,
+    )
 
 pub returns : goal.returns
 returns g c = λ split same.
-    let zero : vec_len c.loop-parts.parts ≡ 0 = same_from (vec_len c.loop-parts.parts) 0 (sym c.loop-parts-test.ensures) in
+    let zero : vec_len c.loop-parts.parts ≡ 0 =
+    same_from (vec_len c.loop-parts.parts) 0 (sym c.loop-parts-test.ensures) in
     let none : length c.loop-parts.parts.items ≡ 0 = omega arith in
     ap (λ w. (let d : Driven = record { world = w; ended = false } in d))
-    (begins_anew g.S.Site.state g.S.Site.work split c.args.parts.items c.loop-parts.parts.items c.loop-parts.sites.items c.new.result none c.loop-parts.invariant
+    (begins_anew g.S.Site.state g.S.Site.work split c.args.parts.items c.loop-parts.parts.items
+    c.loop-parts.sites.items c.new.result none c.loop-parts.invariant
     same c.new.ensures)

@@ -18,7 +18,8 @@ invariant_of-self g c =
     let same = none.0 in (
       record {
         few = c.self.invariant.0.few;
-        reached = λ on. subst (λ ms. IsReached g.S.Site.work g.S.Site.sound (world_of g.S.Site.state c.self.inside.sites.items ms)) (sym same) (c.self.invariant.0.reached on);
+        reached = λ on. subst (λ ms. IsReached g.S.Site.work g.S.Site.sound
+            (world_of g.S.Site.state c.self.inside.sites.items ms)) (sym same) (c.self.invariant.0.reached on);
       },
       c.self.invariant.1,
     )
@@ -26,59 +27,82 @@ invariant_of-self g c =
 pub take_site-requires-clause-within : goal.take_site-requires-clause-within
 take_site-requires-clause-within g c =
     let on : c.self.inside.ended ≡ false = ap (λ (d : Driven). d.ended) c.self.view_is ∙ c.requires.on in
-    let flies : found c.args.name.now c.self.inside.flight ≡ Some (letter_of c.in-Some.message) = sym c.pick.ensures.message ∙ ap (option_map letter_of) c.in-Some.is in
-    take_within g.S.Site.work g.S.Site.sound g.met.S.Site.lawful g.S.Site.state c.self.inside.sites.items c.self.inside.flight (c.self.invariant.0.reached on)
+    let flies : found c.args.name.now c.self.inside.flight ≡ Some (letter_of c.in-Some.message) =
+    sym c.pick.ensures.message ∙ ap (option_map letter_of) c.in-Some.is in
+    take_within g.S.Site.work g.S.Site.sound g.met.S.Site.lawful g.S.Site.state c.self.inside.sites.items
+    c.self.inside.flight (c.self.invariant.0.reached on)
     c.args.name.now (letter_of c.in-Some.message) flies
 
 pub take_site-requires-clause-takeable : goal.take_site-requires-clause-takeable
 take_site-requires-clause-takeable g c =
     let on : c.self.inside.ended ≡ false = ap (λ (d : Driven). d.ended) c.self.view_is ∙ c.requires.on in
-    let flies : found c.args.name.now c.self.inside.flight ≡ Some (letter_of c.in-Some.message) = sym c.pick.ensures.message ∙ ap (option_map letter_of) c.in-Some.is in
-    take_fits g.S.Site.work g.S.Site.sound g.met.S.Site.lawful g.S.Site.state c.self.inside.sites.items c.self.inside.flight (c.self.invariant.0.reached on)
+    let flies : found c.args.name.now c.self.inside.flight ≡ Some (letter_of c.in-Some.message) =
+    sym c.pick.ensures.message ∙ ap (option_map letter_of) c.in-Some.is in
+    take_fits g.S.Site.work g.S.Site.sound g.met.S.Site.lawful g.S.Site.state c.self.inside.sites.items
+    c.self.inside.flight (c.self.invariant.0.reached on)
     c.args.name.now (letter_of c.in-Some.message) flies
 
 pub invariant_of-self-in-Some : goal.invariant_of-self-in-Some
 invariant_of-self-in-Some g c =
     let on : c.self.inside.ended ≡ false = ap (λ (d : Driven). d.ended) c.self.view_is ∙ c.requires.on in
-    let flies : found c.args.name.now c.self.inside.flight ≡ Some (letter_of c.in-Some.message) = sym c.pick.ensures.message ∙ ap (option_map letter_of) c.in-Some.is in
+    let flies : found c.args.name.now c.self.inside.flight ≡ Some (letter_of c.in-Some.message) =
+    sym c.pick.ensures.message ∙ ap (option_map letter_of) c.in-Some.is in
     let d =
-    take_done g.S.Site.work g.S.Site.sound g.met.S.Site.lawful g.S.Site.state c.self.inside.sites.items c.self.inside.flight (c.self.invariant.0.reached on)
+    take_done g.S.Site.work g.S.Site.sound g.met.S.Site.lawful g.S.Site.state c.self.inside.sites.items
+    c.self.inside.flight (c.self.invariant.0.reached on)
     c.args.name.now (letter_of c.in-Some.message) flies
     c.take_site.new.sites.items c.pick.new.self c.take_site.ensures.sites c.pick.ensures.rest in
     (record { few = d.few; reached = λ e. d.reached }, c.self.invariant.1)
 
 pub returns-in-None-clause-refused : goal.returns-in-None-clause-refused
 returns-in-None-clause-refused g c =
-    let world : world_of g.S.Site.state c.self.inside.sites.items c.self.inside.flight ≡ c.args.self.now.world = ap (λ (d : Driven). d.world) c.self.view_is in
+    let world : world_of g.S.Site.state c.self.inside.sites.items c.self.inside.flight ≡ c.args.self.now.world =
+    ap (λ (d : Driven). d.world) c.self.view_is in
     let none =
     none_taken c.args.name.now c.self.inside.flight c.pick.new.self
     (sym (ap (option_map letter_of) c.in-None.is) ∙ c.pick.ensures.message) c.pick.ensures.rest in (
       λ e. cc,
-      subst (λ w. event_fault w (Take c.args.name.now) ≡ Some NotUnderWay) world (ap (λ b. if b then None else Some NotUnderWay) none.1),
-      ap (λ ms. (let v : Driven = record { world = world_of g.S.Site.state c.self.inside.sites.items ms; ended = c.self.inside.ended } in v)) none.0 ∙ c.self.view_is,
+      subst (λ w. event_fault w (Take c.args.name.now) ≡ Some NotUnderWay) world
+          (ap (λ b. if b then None else Some NotUnderWay) none.1),
+      ap (λ ms. (let v : Driven = record {
+        world = world_of g.S.Site.state c.self.inside.sites.items ms;
+        ended = c.self.inside.ended;
+      } in v)) none.0 ∙ c.self.view_is,
     )
 
 pub returns-in-Some-clause-ok : goal.returns-in-Some-clause-ok
 returns-in-Some-clause-ok g c =
-    let world : world_of g.S.Site.state c.self.inside.sites.items c.self.inside.flight ≡ c.args.self.now.world = ap (λ (d : Driven). d.world) c.self.view_is in
+    let world : world_of g.S.Site.state c.self.inside.sites.items c.self.inside.flight ≡ c.args.self.now.world =
+    ap (λ (d : Driven). d.world) c.self.view_is in
     let on : c.self.inside.ended ≡ false = ap (λ (d : Driven). d.ended) c.self.view_is ∙ c.requires.on in
-    let flies : found c.args.name.now c.self.inside.flight ≡ Some (letter_of c.in-Some.message) = sym c.pick.ensures.message ∙ ap (option_map letter_of) c.in-Some.is in
+    let flies : found c.args.name.now c.self.inside.flight ≡ Some (letter_of c.in-Some.message) =
+    sym c.pick.ensures.message ∙ ap (option_map letter_of) c.in-Some.is in
     let d =
-    take_done g.S.Site.work g.S.Site.sound g.met.S.Site.lawful g.S.Site.state c.self.inside.sites.items c.self.inside.flight (c.self.invariant.0.reached on)
+    take_done g.S.Site.work g.S.Site.sound g.met.S.Site.lawful g.S.Site.state c.self.inside.sites.items
+    c.self.inside.flight (c.self.invariant.0.reached on)
     c.args.name.now (letter_of c.in-Some.message) flies
     c.take_site.new.sites.items c.pick.new.self c.take_site.ensures.sites c.pick.ensures.rest in (
       subst (λ w. event_fault w (Take c.args.name.now) ≡ None) world d.free,
-      ap (λ w. (let v : Driven = record { world = w; ended = c.self.inside.ended } in v)) (d.is ∙ ap (λ w. step g.S.Site.work w (Take c.args.name.now)) world)
-          ∙ ap (λ b. (let v : Driven = record { world = step g.S.Site.work c.args.self.now.world (Take c.args.name.now); ended = b } in v)) on,
+      ap (λ w. (let v : Driven = record { world = w; ended = c.self.inside.ended } in v))
+          (d.is ∙ ap (λ w. step g.S.Site.work w (Take c.args.name.now)) world)
+          ∙ ap (λ b. (let v : Driven = record {
+            world = step g.S.Site.work c.args.self.now.world
+                (Take c.args.name.now);
+            ended = b;
+          } in v)) on,
     )
 
 pub returns-in-Some-clause-nearer : goal.returns-in-Some-clause-nearer
 returns-in-Some-clause-nearer g c =
-    let world : world_of g.S.Site.state c.self.inside.sites.items c.self.inside.flight ≡ c.args.self.now.world = ap (λ (d : Driven). d.world) c.self.view_is in
+    let world : world_of g.S.Site.state c.self.inside.sites.items c.self.inside.flight ≡ c.args.self.now.world =
+    ap (λ (d : Driven). d.world) c.self.view_is in
     let on : c.self.inside.ended ≡ false = ap (λ (d : Driven). d.ended) c.self.view_is ∙ c.requires.on in
-    let flies : found c.args.name.now c.self.inside.flight ≡ Some (letter_of c.in-Some.message) = sym c.pick.ensures.message ∙ ap (option_map letter_of) c.in-Some.is in
+    let flies : found c.args.name.now c.self.inside.flight ≡ Some (letter_of c.in-Some.message) =
+    sym c.pick.ensures.message ∙ ap (option_map letter_of) c.in-Some.is in
     let d =
-    take_done g.S.Site.work g.S.Site.sound g.met.S.Site.lawful g.S.Site.state c.self.inside.sites.items c.self.inside.flight (c.self.invariant.0.reached on)
+    take_done g.S.Site.work g.S.Site.sound g.met.S.Site.lawful g.S.Site.state c.self.inside.sites.items
+    c.self.inside.flight (c.self.invariant.0.reached on)
     c.args.name.now (letter_of c.in-Some.message) flies
     c.take_site.new.sites.items c.pick.new.self c.take_site.ensures.sites c.pick.ensures.rest in
-    subst (λ w. events_left (world_of g.S.Site.state c.take_site.new.sites.items c.pick.new.self) < events_left w) world d.nearer
+    subst (λ w. events_left (world_of g.S.Site.state c.take_site.new.sites.items c.pick.new.self) < events_left w)
+    world d.nearer
