@@ -67,17 +67,17 @@ module _ (most m : ℕ) (state : State) (sc : Scene) (are : AreEnds most sc.grap
   abbrev ends : List ℕ
   ends = sc.graph.ends
 
-    abbrev edges : List Edge
-    edges = sc.graph.edges
+  abbrev edges : List Edge
+  edges = sc.graph.edges
 
-    abbrev part : PlainPart
-    part = part_of ends sc.draws edges m
+  abbrev part : PlainPart
+  part = part_of ends sc.draws edges m
 
-    abbrev s : State
-    s = record state { part = part }
+  abbrev s : State
+  s = record state { part = part }
 
-    same : state ≡ s
-    same = λ i. record state { part = stands.part i }
+  same : state ≡ s
+  same = λ i. record state { part = stands.part i }
 
   round_seen : SeesScene (own_sight s sc.round) sc
   round_seen = record {
@@ -138,9 +138,8 @@ module _ (most m : ℕ) (state : State) (sc : Scene) (are : AreEnds most sc.grap
           (λ x. own (source x)) (e ∷ es) all;
     }
 
-    -- ---- degrees and rows
-    degrees_are : (v : ℕ) → knows ends edges m v ≡ true → degree_of part v ≡ degree_in edges edges v
-    degrees_are v known = degree_known edges edges (known_of ends edges m) v known
+    abbrev here : ℕ → List Edge
+    here v = members_with ends m (ins_of sc.graph.vertices edges v)
 
     sees_by : (v : ℕ) → (are_some (here v) ≡ true → SeesVertex g sc v) →
         ((u : ℕ) → lies_in ends m u ≡ true → SeesVertex g sc u) →
@@ -152,47 +151,25 @@ module _ (most m : ℕ) (state : State) (sc : Scene) (are : AreEnds most sc.grap
         by [] is all = tt
         by (e ∷ es) is all = loop_by v e es (vertex (ap are_some is)) own all
 
-    vertex_by : (g : Sight) (v : ℕ) → g.row v ≡ row_at sc.rows v → g.ins v ≡ (degree_of part v).ins →
-        g.outs v ≡ (degree_of part v).outs → knows ends edges m v ≡ true → SeesVertex g sc v
-    vertex_by g v row ins outs known = record {
-      row = row;
-      ins = ins ∙ ap (λ x. x.ins) (degrees_are v known);
-      outs = outs ∙ ap (λ x. x.outs) (degrees_are v known);
-    }
+    -- of the own chunk
+    own_rows : (b : Bool) (v : ℕ) → (d == m) ≡ true → lies_in ends d v ≡ b → g.row v ≡ own_row s v
+    own_rows b v is lies = row_by true b v is lies
 
-    own_seen : (v : ℕ) → lies_in ends m v ≡ true → SeesVertex (own_sight s sc.round) sc v
-    own_seen v lies =
-        vertex_by (own_sight s sc.round) v (own_row_is v lies) refl refl
+    own_at : d ≡ m → (v : ℕ) → lies_in ends m v ≡ true → SeesVertex g sc v
+    own_at is v lies =
+        vertex_by g v (own_rows (lies_in ends d v) v (eq-eqb d m is) refl ∙ own_row_is v lies) refl refl
         (own_law most ends edges m v are stands.machine lies)
 
-    -- ---- a scan of chunk d
-    module _ (d : ℕ) where
-      abbrev g : Sight
-      g = sight_at s sc.round d
+    -- of another chunk
+    module _ (told : IsTold m d state sc) where
+      other : (d == m) ≡ false
+      other = ne_eqb d m told.other
 
-      -- which row of a vertex is seen
-      row_by : (b c : Bool) (v : ℕ) → (d == m) ≡ b → lies_in ends d v ≡ c →
-          g.row v ≡ (if not b && c then mirror_row s sc.round d v else own_row s v)
-      row_by b c v is lies =
-          ap (λ x. if not x && lies_in ends d v then mirror_row s sc.round d v else own_row s v) is
-          ∙ ap (λ x. if not b && x then mirror_row s sc.round d v else own_row s v) lies
+      abbrev list : List ℕ
+      list = refresh_list ends d m edges
 
-      -- the sources of members that lie here are own vertices
-      loop_by : (v : ℕ) (e : Edge) (es : List Edge) → SeesVertex g sc v →
-          ((u : ℕ) → lies_in ends m u ≡ true → SeesVertex g sc u) →
-          AllByRecursion (λ x. lies_in ends m (source x) ≡ true) (e ∷ es) → SeesLoop g sc v (e ∷ es)
-      loop_by v e es here own all = record {
-        scene = record {
-          n = sym stands.sized;
-          round = refl;
-          draws = refl;
-          totals = ap known_totals (sym same)
-              ∙ stands.totals;
-        };
-        vertex = here;
-        sources = all_weaker (λ x. lies_in ends m (source x) ≡ true) (λ x. SeesVertex g sc (source x)) (λ x.
-            own (source x)) (e ∷ es) all;
-      }
+      mirrors_are : mirrors s d ≡ list
+      mirrors_are = other_list (length ends) m d (λ k. refresh_list ends k m edges) told.machine other
 
       rows_told : told_rows s sc.round d ≡ map (row_at sc.rows) list
       rows_told =
@@ -205,30 +182,41 @@ module _ (most m : ℕ) (state : State) (sc : Scene) (are : AreEnds most sc.grap
           (all_map (HasFields (field_count state.split)) (λ v. plain_row (row_at sc.rows v)) list told.words))
           ∙ map-map told_row (λ v. plain_row (row_at sc.rows v)) list
 
-      sees_by : (v : ℕ) → (are_some (here v) ≡ true → SeesVertex g sc v) →
-          ((u : ℕ) → lies_in ends m u ≡ true → SeesVertex g sc u) →
-          Sees g sc v (here v)
-      sees_by v vertex own = by (here v) refl
-          (all_passes (λ e. lies_in ends m (source e)) (ins_of sc.graph.vertices edges v))
-        where
-          by : (ms : List Edge) → here v ≡ ms → AllByRecursion (λ x. lies_in ends m (source x) ≡ true) ms →
-              Sees g sc v ms
-          by [] is all = tt
-          by (e ∷ es) is all = loop_by v e es (vertex (ap are_some is)) own all
+      mirror_is : (v : ℕ) → list_any (λ u. u == v) list ≡ true → mirror_row s sc.round d v ≡ row_at sc.rows v
+      mirror_is v some =
+          ap (λ l. beside empty_row v l (told_rows s sc.round d)) mirrors_are
+          ∙ ap (beside empty_row v list) rows_told
+          ∙ beside_is empty_row (row_at sc.rows) list v some
 
-      -- of the own chunk
-      own_rows : (b : Bool) (v : ℕ) → (d == m) ≡ true → lies_in ends d v ≡ b → g.row v ≡ own_row s v
-      own_rows b v is lies = row_by true b v is lies
-
-      own_at : d ≡ m → (v : ℕ) → lies_in ends m v ≡ true → SeesVertex g sc v
-      own_at is v lies =
-          vertex_by g v (own_rows (lies_in ends d v) v (eq-eqb d m is) refl ∙ own_row_is v lies) refl refl
+      own_too : (v : ℕ) → lies_in ends m v ≡ true → SeesVertex g sc v
+      own_too v lies =
+          vertex_by g v (by (lies_in ends d v) refl ∙ own_row_is v lies) refl refl
           (own_law most ends edges m v are stands.machine lies)
+        where
+          by : (c : Bool) → lies_in ends d v ≡ c → g.row v ≡ own_row s v
+          by true at_d = absurd (told.other (none_has_two most ends d m v are told.machine stands.machine at_d lies))
+          by false not_d = row_by false false v other not_d
 
-      -- of another chunk
-      module _ (told : IsTold m d state sc) where
-        other : (d == m) ≡ false
-        other = ne_eqb d m told.other
+      told_at : (v : ℕ) → lies_in ends d v ≡ true → are_some (here v) ≡ true → SeesVertex g sc v
+      told_at v lies some =
+          let meets : are_some (members_at ends edges m v) ≡ true =
+          ap (λ n. are_some (members_with ends m (ins_of n edges v))) (sym stands.sized) ∙ some in
+          let low : start_of ends d ≤ v = lies_low ends d v lies in
+          let high : v < slice_index ends d = lies_high ends d v lies in
+          let among : list_any (λ u. u == v) list ≡ true =
+          ap (list_any (λ u. u == v)) (refreshed_law most ends edges d m are told.machine stands.machine)
+          ∙ any_kept (λ v. are_some (members_at ends edges m v)) v (chunk_vertices ends d) meets
+          (any_range v (start_of ends d) (slice_index ends d - start_of ends d) low (omega arith)) in
+          vertex_by g v (row_by false true v other lies ∙ mirror_is v among) refl refl
+          (worked_law most ends edges m v are stands.machine (lies_within most ends are d v told.machine lies) meets)
+
+  abbrev within : ℕ → List Edge
+  within v = members_with ends m (ins_of sc.graph.vertices edges v)
+
+  own_scan : (v : ℕ) → lies_in ends m v ≡ true → Sees (sight_at state sc.round m) sc v (within v)
+  own_scan v lies =
+      subst (λ x. Sees (sight_at x sc.round m) sc v (within v)) (sym same)
+      (sees_by m v (λ some. own_at m refl v lies) (own_at m refl))
 
   told_scan : (d v : ℕ) → IsTold m d state sc → lies_in ends d v ≡ true →
       Sees (sight_at state sc.round d) sc v (within v)

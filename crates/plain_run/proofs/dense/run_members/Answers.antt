@@ -3,8 +3,7 @@ use Rattle.std.proofs.lemmas.List.{get_or_default}
 use Rattle.vert_tree.specs.Places.{body_placed}
 use Rattle.vert_eval.specs.Rounds.{loop, member_act}
 use Rattle.plain_run.specs.Views.{scene_of}
-use Rattle.plain_run.proofs.RunLaws.{turn_ends, SameEnd-trans}
-use Rattle.vert_eval.proofs.FrameLaws.{SameFrame-trans}
+use Rattle.plain_run.proofs.RunLaws.{turn_ends, SameEnd-trans, SameFrame-trans}
 use Rattle.plain_run.proofs.TurnLaws.{some_edge, broken_reads, turn_reads}
 use Rattle.plain_run.proofs.dense.run_members.Goals as goal
 
