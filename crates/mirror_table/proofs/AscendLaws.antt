@@ -14,7 +14,8 @@ use Rattle.symple_face.specs.Parts.{chunk_vertices, degree_in, edges_between, re
 use Rattle.mirror_table.specs.Laws.{DegreesAscend}
 use Rattle.symple_face.specs.PartsOf.{known_of}
 use Rattle.symple_face.proofs.ChunkLaws.{chunk_rises, lies_high, lies_low}
-use Rattle.graph_table.proofs.FilterLaws.{all_append, all_filter, all_passes, all_range, all_weaker, map-map, map_itself}
+use Rattle.graph_table.proofs.FilterLaws.{all_filter, all_passes, all_range, all_weaker, map-map, map_itself}
+use Rattle.vert_base.proofs.Orders.{all_append}
 use Rattle.mirror_table.proofs.MovedLaws.{passes_from_any}
 use Rattle.mirror_table.proofs.RangeLaws.{flat_map_more}
 use Rattle.mirror_table.proofs.MetLaws.{Ascends}
