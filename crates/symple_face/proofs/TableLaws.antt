@@ -55,13 +55,17 @@ block_by_mode mode.Auto dense sparse h = inl (and_parts dense sparse h).0
 block_by_mode mode.Dense dense sparse h = inl h
 block_by_mode mode.Sparse dense sparse h = inr h
 
-some_block : (split : Split) → (ruling : Ruling) × (has_block (blocks_of split) ruling ≡ true)
-some_block split =
+pub mode_block : (split : Split) → mode_stands split.program.program.mode (is_some split.program.program.dense) (is_some split.program.program.sparse) ≡ true
+mode_block split =
     let p : Program = split.program.program in
     let second : (a b : Bool) → (a && b) ≡ true → b ≡ true = λ a b h. (and_parts a b h).1 in
     let later = second (version_stands p) _ (second (names_stand p) _ (second (is_shallow p) _ (second (is_limited p) _ (second (is_kinded p) _ (second (is_placed p) _ split.program.typed))))) in
-    let stands : mode_stands p.mode (is_some p.dense) (is_some p.sparse) ≡ true = (and_parts (mode_stands p.mode (is_some p.dense) (is_some p.sparse)) _ later).0 in
-    ⊎_elim (λ (d : is_some p.dense ≡ true). (Dense, d)) (λ (s : is_some p.sparse ≡ true). (Sparse, s)) (block_by_mode p.mode (is_some p.dense) (is_some p.sparse) stands)
+    (and_parts (mode_stands p.mode (is_some p.dense) (is_some p.sparse)) _ later).0
+
+pub some_block : (split : Split) → (ruling : Ruling) × (has_block (blocks_of split) ruling ≡ true)
+some_block split =
+    let p : Program = split.program.program in
+    ⊎_elim (λ (d : is_some p.dense ≡ true). (Dense, d)) (λ (s : is_some p.sparse ≡ true). (Sparse, s)) (block_by_mode p.mode (is_some p.dense) (is_some p.sparse) (mode_block split))
 
 -- what a plan says of one name
 record Goes (ring : Ring) (blocks : Blocks) (x : Name) : Type 0 where

@@ -1,6 +1,6 @@
 -- What every kind of machine keeps, in whatever state it is.
 use Rattle.std.specs.Prelude.{◌≡◌, ◌≢◌, ◌<◌, ◌+◌, ◌^◌, ◌&&◌, ◌||◌, not, ℕ, ℤ, Bool, true, false, List, [], Some, map}
-use Rattle.std.specs.List.{AllByRecursion}
+use Rattle.std.specs.List.{All, AllByRecursion}
 use Rattle.vert_base.specs.declared.message.Name.{Name}
 use Rattle.vert_base.specs.declared.message.NameKind.TheVariants as kind
 use Rattle.vert_base.specs.declared.value.Ruling.{Ruling}
@@ -20,6 +20,7 @@ use Rattle.body_shape.specs.declared.shape.BodyShape.{BodyShape}
 use Rattle.body_shape.specs.Fit.{is_fit}
 use Rattle.body_shape.specs.Verdict.{verdict_body}
 use Rattle.symple_face.specs.declared.action.Action.TheVariants.{Ready}
+use Rattle.symple_face.specs.declared.degree.Degree.{Degree}
 use Rattle.symple_face.specs.declared.report.Report.{Report}
 use Rattle.symple_face.specs.Parts.{IsPart, PlainPart}
 use Rattle.symple_face.specs.Plans.{blocks_of, ring_of}
@@ -56,14 +57,20 @@ pub record IsSmall (report : Report) : Type 0 where
   pub edges : report.edges < 2 ^ 40
   pub reads : report.reads < 2 ^ 40
 
--- a part and a program whose machine can run: the ends and the place are of at most 64 machines, and weights and
--- literals fit their bits
+-- counts of edges below 2^32
+pub record AreCounts (degree : Degree) : Type 0 where
+  pub ins : degree.ins < 2 ^ 32
+  pub outs : degree.outs < 2 ^ 32
+
+-- a part and a program whose machine can run: the ends and the place are of at most 64 machines, and weights,
+-- degrees and literals fit their bits
 pub record CanRun (part : PlainPart) (split : Split) : Type 0 where
   pub whole : IsPart part
   pub ends : AreEnds 64 part.ends
   pub place : part.at.machine < part.at.machines
   pub scan : HaveWeights part.scan
   pub push : HaveWeights part.push
+  pub degrees : All AreCounts part.degrees
   pub program : IsFitting split.program.program
 
 -- what a kind of machine keeps. Of messages taken it is said under which names there are some, and never in which

@@ -1,0 +1,5 @@
+pub mod Moves
+pub mod Reduced
+pub mod Words
+pub mod Sights
+pub mod Scans
