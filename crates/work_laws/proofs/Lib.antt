@@ -3,3 +3,9 @@ pub mod Reduced
 pub mod Words
 pub mod Sights
 pub mod Scans
+pub mod Partials
+pub mod Held
+pub mod Sees
+pub mod Sparse
+pub mod Closes
+pub mod Counts
