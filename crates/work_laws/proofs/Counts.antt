@@ -20,6 +20,7 @@ use Rattle.slot_merge.specs.Combine.{combined_of, neutral, total_of}
 use Rattle.vert_eval.specs.SourceRun.{active_vertices}
 use Rattle.vert_eval.specs.Values.{value_of, word_at}
 use Rattle.chunk_split.specs.Chunks.{vertices_of}
+use Rattle.chunk_split.proofs.ReachLaws.{sum_step}
 use Rattle.circulant_plan.specs.Names.{tally_name}
 use Rattle.circulant_plan.specs.Ring.{lies_in, start_of}
 use Rattle.circulant_plan.specs.Table.{others_of}
@@ -55,13 +56,19 @@ use Rattle.work_laws.proofs.Sights.{part_sees, seen_has}
 use Rattle.work_laws.proofs.Words.{all_from}
 
 -- ---- sums over vertices
+-- the first term and the rest
+more : (x : ℕ) (xs : List ℕ) → sum (x ∷ xs) ≡ x + sum xs
+more x xs = sum_step x (x ∷ xs) xs refl
+
 sum_more : (f g h : ℕ → ℕ) (vs : List ℕ) → ((v : ℕ) → f v ≡ g v + h v) → sum (map f vs) ≡ sum (map g vs) + sum (map h vs)
 sum_more f g h [] e = omega arith
-sum_more f g h (v ∷ vs) e = let more = sum_more f g h vs e in let here = e v in omega (arith, more, here)
+sum_more f g h (v ∷ vs) e = let rest = sum_more f g h vs e in
+    let here = e v in
+    omega (arith, rest, here, more (f v) (map f vs), more (g v) (map g vs), more (h v) (map h vs))
 
 sum_none : (f : ℕ → ℕ) (vs : List ℕ) → ((v : ℕ) → f v ≡ 0) → sum (map f vs) ≡ 0
 sum_none f [] e = refl
-sum_none f (v ∷ vs) e = let more = sum_none f vs e in let here = e v in omega (arith, more, here)
+sum_none f (v ∷ vs) e = let rest = sum_none f vs e in let here = e v in omega (arith, rest, here, more (f v) (map f vs))
 
 abbrev one_at : ℕ → ℕ → ℕ
 one_at s v = if s == v then 1 else 0
@@ -73,8 +80,8 @@ sum_past : (s a n : ℕ) → s < a → sum (map (one_at s) (range_with_len a n))
 sum_past s a zero lt = refl
 sum_past s a (suc n) lt =
     let here = one_other s a lt in
-    let more = sum_past s (a + 1) n (omega (arith, lt)) in
-    omega (arith, here, more)
+    let rest = sum_past s (a + 1) n (omega (arith, lt)) in
+    omega (arith, here, rest, more (one_at s a) (map (one_at s) (range_with_len (a + 1) n)))
 
 sum_ones : (s a n : ℕ) → sum (map (one_at s) (range_with_len a n)) ≤ 1
 sum_ones s a zero = omega arith
@@ -82,12 +89,12 @@ sum_ones s a (suc n) =
     ⊎_elim
     (λ (e : s ≡ a).
     let here : one_at s a ≡ 1 = ap (λ b. if b then 1 else 0) (eq-eqb s a e) in
-    let more = sum_past s (a + 1) n (omega (arith, e)) in
-    omega (arith, here, more))
+    let rest = sum_past s (a + 1) n (omega (arith, e)) in
+    omega (arith, here, rest, more (one_at s a) (map (one_at s) (range_with_len (a + 1) n))))
     (λ other.
     let here : one_at s a ≡ 0 = ap (λ b. if b then 1 else 0) (ne_eqb s a other) in
-    let more = sum_ones s (a + 1) n in
-    omega (arith, here, more))
+    let rest = sum_ones s (a + 1) n in
+    omega (arith, here, rest, more (one_at s a) (map (one_at s) (range_with_len (a + 1) n))))
     (cases_eq s a)
 
 one_more : (key : Edge → ℕ) (e : Edge) (es : List Edge) (v : ℕ) →
@@ -108,16 +115,16 @@ each_once key (e ∷ es) a n =
     let parts = sum_more (λ v. length (filter (λ x. key x == v) (e ∷ es))) (one_at (key e)) (λ v. length (filter (λ x. key x == v) es))
     (range_with_len a n) (one_more key e es) in
     let ones = sum_ones (key e) a n in
-    let more = each_once key es a n in
-    omega (arith, parts, ones, more)
+    let rest = each_once key es a n in
+    omega (arith, parts, ones, rest)
 
 filter_sum : (f : ℕ → ℕ) (p : ℕ → Bool) (vs : List ℕ) → sum (map f (filter p vs)) ≤ sum (map f vs)
 filter_sum f p [] = omega arith
 filter_sum f p (v ∷ vs) = by (p v) (filter_sum f p vs)
   where
     by : (b : Bool) → sum (map f (filter p vs)) ≤ sum (map f vs) → sum (map f (if b then v ∷ filter p vs else filter p vs)) ≤ sum (map f (v ∷ vs))
-    by true more = omega (arith, more)
-    by false more = omega (arith, more)
+    by true rest = omega (arith, rest, more (f v) (map f vs), more (f v) (map f (filter p vs)))
+    by false rest = omega (arith, rest, more (f v) (map f vs))
 
 within_sum : (part : PlainPart) (vs : List ℕ) (xs : List (List ℕ)) → AreWithin part vs xs →
     sum (map length xs) ≤ sum (map (λ v. length (members_in part v)) vs)
@@ -126,8 +133,9 @@ within_sum part [] (x ∷ xs) h = absurd h
 within_sum part (v ∷ vs) [] h = absurd h
 within_sum part (v ∷ vs) (x ∷ xs) h =
     let here = h.0 in
-    let more = within_sum part vs xs h.1 in
-    omega (arith, here, more)
+    let rest = within_sum part vs xs h.1 in
+    omega (arith, here, rest, more (length x) (map length xs),
+    more (length (members_in part v)) (map (λ v. length (members_in part v)) vs))
 
 pub reads_few : (part : PlainPart) (xs : List (List ℕ)) → AreWithin part (targets_of part) xs → sum (map length xs) ≤ length part.scan
 reads_few part xs h =
@@ -169,8 +177,8 @@ sum_under : (f g : ℕ → ℕ) (a n : ℕ) → ((v : ℕ) → a ≤ v → v < a
 sum_under f g a zero h = omega arith
 sum_under f g a (suc n) h =
     let here = h a (omega arith) (omega arith) in
-    let more = sum_under f g (a + 1) n (λ v low high. h v (omega (arith, low)) (omega (arith, high))) in
-    omega (arith, here, more)
+    let rest = sum_under f g (a + 1) n (λ v low high. h v (omega (arith, low)) (omega (arith, high))) in
+    omega (arith, here, rest, more (f a) (map f (range_with_len (a + 1) n)), more (g a) (map g (range_with_len (a + 1) n)))
 
 module _ (part : PlainPart) (split : Split) (can : CanRun part split) where
   abbrev own : List ℕ

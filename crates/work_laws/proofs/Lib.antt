@@ -9,3 +9,9 @@ pub mod Sees
 pub mod Sparse
 pub mod Closes
 pub mod Counts
+pub mod Gone
+pub mod Taken
+pub mod Lists
+pub mod Sent
+pub mod Firsts
+pub mod Whole

@@ -139,7 +139,7 @@ some_if : (b : Bool) (l : Letter) (o : Option Letter) → is_some (if b then Som
 some_if true l o = refl
 some_if false l o = refl
 
-placed_held : (l : Letter) (held : List Letter) (x : Name) → is_some (found x (placed l held)) ≡ (same_name l.name x || is_some (found x held))
+pub placed_held : (l : Letter) (held : List Letter) (x : Name) → is_some (found x (placed l held)) ≡ (same_name l.name x || is_some (found x held))
 placed_held l held x = ap is_some (placed_law l held x) ∙ some_if (same_name l.name x) l (found x held)
 
 pub taken_held : (k : NameKind) (s : State) (l : Letter) (x : Name) → has_taken (taken k s l) x ≡ (same_name l.name x || has_taken s x)

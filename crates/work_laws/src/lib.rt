@@ -4,4 +4,4 @@
 
 mod laws;
 
-pub use laws::core_moves;
+pub use laws::core_is_lawful;
