@@ -45,13 +45,15 @@ values_fit [] has = tt
 values_fit (q ∷ ps) has = (All-head HasWord q ps has, values_fit ps (All-tail HasWord q ps has))
 
 module _ (split : Split) (d : Dense) (is : (program_of split).dense ≡ Some d) (fit : IsFitting (program_of split)) where
-  handed : (mark : Mark) (words : List ℤ) → AreWords (carried_of d) words → AreWords (carried_of d) (unwrap_or (words_by mark words) [])
+  handed : (mark : Mark) (words : List ℤ) → AreWords (carried_of d) words →
+      AreWords (carried_of d) (unwrap_or (words_by mark words) [])
   handed Fresh words are = no_words (carried_of d)
   handed Running words are = are
   handed Broken words are = are
 
   tail_has : (env : Env) (ps : List Partial) (st : LoopState) → ArePartials split ps → IsLoopState split st →
-      HasKinds (field_kinds (program_of split)) env → HasKinds (inner_kinds (program_of split) d) (tail_env split d env ps st)
+      HasKinds (field_kinds (program_of split)) env →
+      HasKinds (inner_kinds (program_of split) d) (tail_env split d env ps st)
   tail_has env ps st are state has =
       let kinds : List ValueType = kinds_of d.lets.items in
       let own : List ℤ = own_words d.lets.items env in
@@ -63,19 +65,23 @@ module _ (split : Split) (d : Dense) (is : (program_of split).dense ≡ Some d) 
       (values_fit lets (All-drop HasWord (slot_count split) ps are.words)))
       has
 
-  pub tail_are : (g : Sight) (key : ℕ) (ps : List Partial) (st : LoopState) (v : ℕ) → SightFits (field_kinds (program_of split)).fields g →
+  pub tail_are : (g : Sight) (key : ℕ) (ps : List Partial) (st : LoopState) (v : ℕ) →
+      SightFits (field_kinds (program_of split)).fields g →
       v < 2 ^ 32 → ArePartials split ps → IsLoopState split st → ArePartials split (tail_at split d g key ps st v)
   tail_are g key ps st v sees small are state = by (is_set (value_of d.when_test (seen_env g v key (none split))))
     where
       by : (b : Bool) →
           ArePartials split
-          (if b then with_emissions key ps (run d.tail.items (tail_env split d (seen_env g v key (none split)) ps st)).emitted else ps)
+          (if b then with_emissions key ps (run d.tail.items
+          (tail_env split d (seen_env g v key (none split)) ps st)).emitted else ps)
       by true =
           let env : Env = seen_env g v key (none split) in
-          let has = seen_has (field_kinds (program_of split)) g v key (none split) sees small (no_values_fit (slot_ops (program_of split))) in
+          let has = seen_has (field_kinds (program_of split)) g v key (none split) sees small
+          (no_values_fit (slot_ops (program_of split))) in
           let block = dense_of (program_of split) d fit is in
           emissions_more split key ps (run d.tail.items (tail_env split d env ps st)).emitted
-          (run_keeps (inner_kinds (program_of split) d) d.tail.items block.tail.0 block.tail.1 (tail_env split d env ps st)
+          (run_keeps (inner_kinds (program_of split) d) d.tail.items block.tail.0 block.tail.1
+          (tail_env split d env ps st)
           (tail_has env ps st are state has)).emitted are
       by false = are
 
@@ -93,7 +99,8 @@ module _ (s : State) (can : CanRun s.part s.split) (fits : HoldsFit s.part s.spl
       by : (o : Option Dense) → (program_of s.split).dense ≡ o → ArePartials s.split (with_tail o s r v)
       by None is = own_partials_are s can fits v among
       by (Some d) is =
-          tail_are s.split d is can.program (own_sight s r) (p_of s) (own_partials s v) (ring_at s v) v (own_sees s can fits r small)
+          tail_are s.split d is can.program (own_sight s r) (p_of s) (own_partials s v) (ring_at s v) v
+          (own_sees s can fits r small)
           (own_id v among) (own_partials_are s can fits v among)
           (own_at s.part (IsLoopState s.split) s.ring (fresh s.split) v fits.ring among)
 
@@ -102,14 +109,16 @@ module _ (s : State) (can : CanRun s.part s.split) (fits : HoldsFit s.part s.spl
   closed_are r true v small among = tails_are r v small among
   closed_are r false v small among = own_partials_are s can fits v among
 
-  closed_word : (r v : ℕ) (ps : List Partial) → r < 2 ^ 32 → IsAmong (own_start s) (length (own_vertices s)) v → ArePartials s.split ps →
+  closed_word : (r v : ℕ) (ps : List Partial) → r < 2 ^ 32 → IsAmong (own_start s) (length (own_vertices s)) v →
+      ArePartials s.split ps →
       IsRow (kinds_of (program_of s.split).fields.items) (closed_row s.split (own_sight s r) ps v)
   closed_word r v ps small among are =
       let k : Kinds = field_kinds (program_of s.split) in
       let slots : List (Option ℤ) = values_of (take (slot_count s.split) ps) in
       let env : Env = seen_env (own_sight s r) v 0 slots in
       let has = seen_has k (own_sight s r) v 0 slots (own_sees s can fits r small) (own_id v among)
-      (slots_all_fit slots (values_fit (take (slot_count s.split) ps) (All-take HasWord (slot_count s.split) ps are.words))) in
+      (slots_all_fit slots (values_fit (take (slot_count s.split) ps)
+      (All-take HasWord (slot_count s.split) ps are.words))) in
       let own = parts (program_of s.split) can.program in
       let kept = run_keeps k (program_of s.split).update.items own.update.0 own.update.1 env has in
       let low = among.0 in
@@ -117,7 +126,8 @@ module _ (s : State) (can : CanRun s.part s.split) (fits : HoldsFit s.part s.spl
       let n = fits.rows.0 in
       record {
         count = ap (λ c. c.fields) (run_frame (program_of s.split).update.items env).counts
-            ∙ row_count (kinds_of (program_of s.split).fields.items) s.rows fits.rows.1 (v - own_start s) (omega (arith, low, high, n));
+            ∙ row_count (kinds_of (program_of s.split).fields.items) s.rows fits.rows.1 (v - own_start s)
+            (omega (arith, low, high, n));
         words = kept.env.fields;
       }
 
@@ -134,7 +144,8 @@ module _ (s : State) (can : CanRun s.part s.split) (fits : HoldsFit s.part s.spl
     partials = made_own s.part (ArePartials s.split) (λ v. empty_partials s.split) (λ v among. empty_are s.split);
     ring = made_own s.part (IsLoopState s.split) (λ v. fresh s.split) (λ v among. fresh_fits s.split);
     held = fits.held;
-    reading = within_map s.part (λ v. []) (λ v. v < 2 ^ 32) (targets s) (targets_small s.part s.split can) (λ v id. omega arith);
+    reading = within_map s.part (λ v. []) (λ v. v < 2 ^ 32) (targets s) (targets_small s.part s.split can)
+        (λ v id. omega arith);
     reads = fits.reading;
     judged = fits.judged;
     report = fits.report;

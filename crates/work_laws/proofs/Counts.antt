@@ -4,7 +4,7 @@ use Rattle.std.specs.Prelude.{filter, if◌then◌else◌, nat_le, slice_get, sl
 use Rattle.std.specs.List.{AllByRecursion, list_all, list_any, range_with_len}
 use Rattle.std.proofs.lemmas.Bool.{and_parts, cases_eq, eq-eqb, eqb-true, ne_eqb, true≢false}
 use Rattle.std.proofs.lemmas.List.{length-map}
-use Rattle.std.proofs.lemmas.List.Elements.{All-map, All-nil}
+use Rattle.std.proofs.lemmas.List.Elements.{All-from_recursion, All-map, All-nil}
 use Rattle.std.proofs.lemmas.List.FromFn.{length-range_with_len}
 use Rattle.vert_base.specs.declared.graph.Edge.{Edge}
 use Rattle.vert_base.specs.declared.limits.TheConstants.{EDGES, VERTICES}
@@ -53,14 +53,14 @@ use Rattle.work_laws.proofs.Held.{FitsAs, MayRead, may_read, shape_parts}
 use Rattle.work_laws.proofs.Partials.{over_range}
 use Rattle.work_laws.proofs.Sees.{among_lies, own_small}
 use Rattle.work_laws.proofs.Sights.{part_sees, seen_has}
-use Rattle.work_laws.proofs.Words.{all_from}
 
 -- ---- sums over vertices
 -- the first term and the rest
 more : (x : ℕ) (xs : List ℕ) → sum (x ∷ xs) ≡ x + sum xs
 more x xs = sum_step x (x ∷ xs) xs refl
 
-sum_more : (f g h : ℕ → ℕ) (vs : List ℕ) → ((v : ℕ) → f v ≡ g v + h v) → sum (map f vs) ≡ sum (map g vs) + sum (map h vs)
+sum_more : (f g h : ℕ → ℕ) (vs : List ℕ) → ((v : ℕ) → f v ≡ g v + h v) →
+    sum (map f vs) ≡ sum (map g vs) + sum (map h vs)
 sum_more f g h [] e = omega arith
 sum_more f g h (v ∷ vs) e = let rest = sum_more f g h vs e in
     let here = e v in
@@ -112,7 +112,8 @@ each_once : (key : Edge → ℕ) (es : List Edge) (a n : ℕ) →
     sum (map (λ v. length (filter (λ x. key x == v) es)) (range_with_len a n)) ≤ length es
 each_once key [] a n = let none = sum_none (λ v. 0) (range_with_len a n) (λ v. refl) in omega (arith, none)
 each_once key (e ∷ es) a n =
-    let parts = sum_more (λ v. length (filter (λ x. key x == v) (e ∷ es))) (one_at (key e)) (λ v. length (filter (λ x. key x == v) es))
+    let parts = sum_more (λ v. length (filter (λ x. key x == v) (e ∷ es))) (one_at (key e))
+    (λ v. length (filter (λ x. key x == v) es))
     (range_with_len a n) (one_more key e es) in
     let ones = sum_ones (key e) a n in
     let rest = each_once key es a n in
@@ -122,7 +123,8 @@ filter_sum : (f : ℕ → ℕ) (p : ℕ → Bool) (vs : List ℕ) → sum (map f
 filter_sum f p [] = omega arith
 filter_sum f p (v ∷ vs) = by (p v) (filter_sum f p vs)
   where
-    by : (b : Bool) → sum (map f (filter p vs)) ≤ sum (map f vs) → sum (map f (if b then v ∷ filter p vs else filter p vs)) ≤ sum (map f (v ∷ vs))
+    by : (b : Bool) → sum (map f (filter p vs)) ≤ sum (map f vs) →
+        sum (map f (if b then v ∷ filter p vs else filter p vs)) ≤ sum (map f (v ∷ vs))
     by true rest = omega (arith, rest, more (f v) (map f vs), more (f v) (map f (filter p vs)))
     by false rest = omega (arith, rest, more (f v) (map f vs))
 
@@ -134,10 +136,16 @@ within_sum part (v ∷ vs) [] h = absurd h
 within_sum part (v ∷ vs) (x ∷ xs) h =
     let here = h.0 in
     let rest = within_sum part vs xs h.1 in
-    omega (arith, here, rest, more (length x) (map length xs),
-    more (length (members_in part v)) (map (λ v. length (members_in part v)) vs))
+    omega (
+      arith,
+      here,
+      rest,
+      more (length x) (map length xs),
+      more (length (members_in part v)) (map (λ v. length (members_in part v)) vs),
+    )
 
-pub reads_few : (part : PlainPart) (xs : List (List ℕ)) → AreWithin part (targets_of part) xs → sum (map length xs) ≤ length part.scan
+pub reads_few : (part : PlainPart) (xs : List (List ℕ)) → AreWithin part (targets_of part) xs →
+    sum (map length xs) ≤ length part.scan
 reads_few part xs h =
     let n : ℕ = vertices_of part.ends in
     let f : ℕ → ℕ = λ v. length (members_in part v) in
@@ -159,12 +167,14 @@ among_filtered p (d ∷ ds) v h = by (d.id.0 == v) refl (p d) refl (among_filter
     by false e true f more = more ∙ sym (ap (λ b. if b then d else degree_among (filter p ds) v) e)
     by false e false f more = more
 
-among_made : (ins outs : List Edge) (vs : List ℕ) (v : ℕ) → Has vs v → degree_among (map (degree_in ins outs) vs) v ≡ degree_in ins outs v
+among_made : (ins outs : List Edge) (vs : List ℕ) (v : ℕ) → Has vs v →
+    degree_among (map (degree_in ins outs) vs) v ≡ degree_in ins outs v
 among_made ins outs [] v h = absurd h
 among_made ins outs (w ∷ vs) v h =
     ⊎_elim
     (λ (e : w ≡ v).
-    ap (λ b. if b then degree_in ins outs w else degree_among (map (degree_in ins outs) vs) v) (eq-eqb w v e) ∙ ap (degree_in ins outs) e)
+    ap (λ b. if b then degree_in ins outs w else degree_among (map (degree_in ins outs) vs) v) (eq-eqb w v e) ∙
+    ap (degree_in ins outs) e)
     (λ (more : Has vs v). later w (w == v) refl (among_made ins outs vs v more))
     h
   where
@@ -173,24 +183,34 @@ among_made ins outs (w ∷ vs) v h =
     later w true e more = ap (degree_in ins outs) (eqb-true w v e)
     later w false e more = more
 
-sum_under : (f g : ℕ → ℕ) (a n : ℕ) → ((v : ℕ) → a ≤ v → v < a + n → f v ≤ g v) → sum (map f (range_with_len a n)) ≤ sum (map g (range_with_len a n))
+sum_under : (f g : ℕ → ℕ) (a n : ℕ) → ((v : ℕ) → a ≤ v → v < a + n → f v ≤ g v) →
+    sum (map f (range_with_len a n)) ≤ sum (map g (range_with_len a n))
 sum_under f g a zero h = omega arith
 sum_under f g a (suc n) h =
     let here = h a (omega arith) (omega arith) in
     let rest = sum_under f g (a + 1) n (λ v low high. h v (omega (arith, low)) (omega (arith, high))) in
-    omega (arith, here, rest, more (f a) (map f (range_with_len (a + 1) n)), more (g a) (map g (range_with_len (a + 1) n)))
+    omega (
+      arith,
+      here,
+      rest,
+      more (f a) (map f (range_with_len (a + 1) n)),
+      more (g a)
+          (map g (range_with_len (a + 1) n)),
+    )
 
 module _ (part : PlainPart) (split : Split) (can : CanRun part split) where
   abbrev own : List ℕ
   own = chunk_vertices part.ends part.at.machine
 
   own_outs : (v : ℕ) → start_of part.ends part.at.machine ≤ v →
-      v < start_of part.ends part.at.machine + (slice_index part.ends part.at.machine - start_of part.ends part.at.machine) →
+      v < start_of part.ends part.at.machine +
+      (slice_index part.ends part.at.machine - start_of part.ends part.at.machine) →
       (degree_of part v).outs ≡ length (filter (λ e. source e == v) part.scan)
   own_outs v low high =
       let a : ℕ = start_of part.ends part.at.machine in
       let n : ℕ = slice_index part.ends part.at.machine - a in
-      let lies : lies_in part.ends part.at.machine v ≡ true = among_lies part v (low, omega (arith, high, length-range_with_len a n)) in
+      let lies : lies_in part.ends part.at.machine v ≡ true =
+      among_lies part v (low, omega (arith, high, length-range_with_len a n)) in
       ap (λ d. d.outs)
       (among_filtered (λ d. lies_in part.ends part.at.machine d.id.0) part.degrees v
       (λ d e. ap (lies_in part.ends part.at.machine) e ∙ lies)
@@ -208,23 +228,27 @@ module _ (part : PlainPart) (split : Split) (can : CanRun part split) where
       omega (arith, under, all)
     where
       active_few : (v : ℕ) (b : Bool) → start_of part.ends part.at.machine ≤ v →
-          v < start_of part.ends part.at.machine + (slice_index part.ends part.at.machine - start_of part.ends part.at.machine) →
+          v < start_of part.ends part.at.machine +
+          (slice_index part.ends part.at.machine - start_of part.ends part.at.machine) →
           (if b then (degree_of part v).outs else 0) ≤ length (filter (λ e. source e == v) part.scan)
       active_few v true low high = omega (arith, own_outs v low high)
       active_few v false low high = omega arith
 
   -- ---- totals
-  total_fits : (rows : List Row) (r : ℕ) (t : TotalDecl) → All (IsRow (kinds_of (program_of split).fields.items)) rows → r < 2 ^ 32 →
+  total_fits : (rows : List Row) (r : ℕ) (t : TotalDecl) →
+      All (IsRow (kinds_of (program_of split).fields.items)) rows → r < 2 ^ 32 →
       expr_has (field_kinds (program_of split)) value.Int t.value ≡ true → expr_fits t.value ≡ true →
       FitsSigned w64 (chunk_total part rows r t)
   total_fits rows r t are small typed fit =
       let k : Kinds = field_kinds (program_of split) in
       let g : Sight = part_sight part r [] (row_in part rows) in
-      let sees = part_sees part split (kinds_of (program_of split).fields.items) r [] (row_in part rows) can small (λ i. zero_fits)
+      let sees = part_sees part split (kinds_of (program_of split).fields.items) r [] (row_in part rows) can small
+      (λ i. zero_fits)
       (λ v. row_words (kinds_of (program_of split).fields.items) rows are (v - start_of part.ends part.at.machine)) in
       let a : ℕ = start_of part.ends part.at.machine in
       let n : ℕ = slice_index part.ends part.at.machine - a in
-      fold_fits t.op (neutral t.op) (map (λ v. value_of t.value (seen_env g v 0 [])) (chunk_vertices part.ends part.at.machine))
+      fold_fits t.op (neutral t.op) (map (λ v. value_of t.value (seen_env g v 0 []))
+      (chunk_vertices part.ends part.at.machine))
       (neutral_fits t.op)
       (All-map (FitsSigned w64) (λ v. value_of t.value (seen_env g v 0 [])) (chunk_vertices part.ends part.at.machine)
       (over_range (λ v. FitsSigned w64 (value_of t.value (seen_env g v 0 []))) a n
@@ -237,7 +261,8 @@ module _ (part : PlainPart) (split : Split) (can : CanRun part split) where
       no_slots : (i : ℕ) (z : ℤ) → slice_get [] i ≡ Some (Some z) → FitsSigned w64 z
       no_slots i z e = cc
 
-  totals_all : (rows : List Row) (r : ℕ) (ts : List TotalDecl) → All (IsRow (kinds_of (program_of split).fields.items)) rows → r < 2 ^ 32 →
+  totals_all : (rows : List Row) (r : ℕ) (ts : List TotalDecl) →
+      All (IsRow (kinds_of (program_of split).fields.items)) rows → r < 2 ^ 32 →
       list_all (λ t. expr_has (field_kinds (program_of split)) value.Int t.value) ts ≡ true → totals_fit ts ≡ true →
       AllByRecursion (FitsSigned w64) (map (chunk_total part rows r) ts)
   totals_all rows r [] are small typed fit = tt
@@ -247,8 +272,10 @@ module _ (part : PlainPart) (split : Split) (can : CanRun part split) where
       let b = and_parts (expr_fits t.value) (totals_fit ts) fit in
       (total_fits rows r t are small a.0 b.0, totals_all rows r ts are small a.1 b.1)
 
-  pub counted_suits : (rows : List Row) (reads : List (List ℕ)) (r : ℕ) → OfOwn part (IsRow (kinds_of (program_of split).fields.items)) rows →
-      sum (map length reads) ≤ length part.scan → r < 2 ^ 32 → SuitsTally (total_count split) (counted part split rows reads r)
+  pub counted_suits : (rows : List Row) (reads : List (List ℕ)) (r : ℕ) →
+      OfOwn part (IsRow (kinds_of (program_of split).fields.items)) rows →
+      sum (map length reads) ≤ length part.scan → r < 2 ^ 32 →
+      SuitsTally (total_count split) (counted part split rows reads r)
   counted_suits rows reads r are few small =
       let whole = can.whole in
       let place = can.place in
@@ -273,13 +300,15 @@ module _ (part : PlainPart) (split : Split) (can : CanRun part split) where
       }
 
 -- ---- sums over machines
-joined_length : (ts : List TotalDecl) (xs ys : List ℤ) → length xs ≡ length ts → length (totals_joined ts xs ys) ≡ length ts
+joined_length : (ts : List TotalDecl) (xs ys : List ℤ) → length xs ≡ length ts →
+    length (totals_joined ts xs ys) ≡ length ts
 joined_length [] xs ys n = refl
 joined_length (t ∷ ts) [] ys n = absurd (omega (arith, n))
 joined_length (t ∷ ts) (x ∷ xs) [] n = ap suc (joined_length ts xs [] (omega (arith, n)))
 joined_length (t ∷ ts) (x ∷ xs) (y ∷ ys) n = ap suc (joined_length ts xs ys (omega (arith, n)))
 
-joined_fit : (ts : List TotalDecl) (xs ys : List ℤ) → AllByRecursion (FitsSigned w64) xs → AllByRecursion (FitsSigned w64) ys →
+joined_fit : (ts : List TotalDecl) (xs ys : List ℤ) → AllByRecursion (FitsSigned w64) xs →
+    AllByRecursion (FitsSigned w64) ys →
     AllByRecursion (FitsSigned w64) (totals_joined ts xs ys)
 joined_fit [] xs ys p q = tt
 joined_fit (t ∷ ts) [] ys p q = tt
@@ -293,7 +322,8 @@ pub record SumsFit (ts : List TotalDecl) (most : ℕ) (c : Counted) : Type 0 whe
   pub reads : c.reads ≤ most * 2 ^ 32
   pub totals : IsWords (length ts) c.totals
 
-all_fit : (ts : List TotalDecl) (most : ℕ) (a : Counted) (bs : List Counted) → SumsFit ts most a → AllByRecursion (SuitsTally (length ts)) bs →
+all_fit : (ts : List TotalDecl) (most : ℕ) (a : Counted) (bs : List Counted) → SumsFit ts most a →
+    AllByRecursion (SuitsTally (length ts)) bs →
     SumsFit ts (most + length bs) (all_joined ts a bs)
 all_fit ts most a [] fit all = subst (λ n. SumsFit ts n a) (omega arith) fit
 all_fit ts most a (b ∷ bs) fit all =
@@ -309,9 +339,14 @@ all_fit ts most a (b ∷ bs) fit all =
       active = omega (arith, a1, b1);
       edges = omega (arith, a2, b2);
       reads = omega (arith, a3, b3);
-      totals = (joined_length ts a.totals b.totals fit.totals.0, joined_fit ts a.totals b.totals fit.totals.1 here.totals.1);
+      totals = (
+        joined_length ts a.totals b.totals fit.totals.0,
+        joined_fit ts a.totals b.totals fit.totals.1
+            here.totals.1,
+      );
     } in
-    subst (λ n. SumsFit ts n (all_joined ts a (b ∷ bs))) (omega arith) (all_fit ts (most + 1) (joined ts a b) bs next all.1)
+    subst (λ n. SumsFit ts n (all_joined ts a (b ∷ bs))) (omega arith)
+    (all_fit ts (most + 1) (joined ts a b) bs next all.1)
 
 module _ (s : State) (can : CanRun s.part s.split) (fits : HoldsFit s.part s.split s) where
   tally_fit : (r k : ℕ) → SuitsTally (total_count s.split) (tally_of s r k)
@@ -329,7 +364,8 @@ module _ (s : State) (can : CanRun s.part s.split) (fits : HoldsFit s.part s.spl
   tallies_fit r (k ∷ ks) = (tally_fit r k, tallies_fit r ks)
 
   pub own_counted : (r : ℕ) → r < 2 ^ 32 → SuitsTally (total_count s.split) (counted s.part s.split s.rows s.reads r)
-  own_counted r small = counted_suits s.part s.split can s.rows s.reads r fits.rows (reads_few s.part s.reads fits.reads) small
+  own_counted r small = counted_suits s.part s.split can s.rows s.reads r fits.rows
+      (reads_few s.part s.reads fits.reads) small
 
   pub sums_fit : (r : ℕ) → r < 2 ^ 32 → SumsFit (program_of s.split).totals.items 64 (sums_at s r)
   sums_fit r small =
@@ -339,13 +375,16 @@ module _ (s : State) (can : CanRun s.part s.split) (fits : HoldsFit s.part s.spl
       let m2 = mine.edges in
       let m3 = mine.reads in
       let own : SumsFit ts 1 (counted s.part s.split s.rows s.reads r) =
-      record { active = omega (arith, m1); edges = omega (arith, m2); reads = omega (arith, m3); totals = mine.totals } in
+      record { active = omega (arith, m1); edges = omega (arith, m2); reads = omega (arith, m3); totals = mine.totals }
+      in
       let others : List ℕ = others_of (p_of s) 0 in
-      let all = all_fit ts 1 (counted s.part s.split s.rows s.reads r) (map (tally_of s r) others) own (tallies_fit r others) in
+      let all = all_fit ts 1 (counted s.part s.split s.rows s.reads r) (map (tally_of s r) others) own
+      (tallies_fit r others) in
       let place = can.place in
       let few = can.ends.1 in
       let whole = can.whole.machine in
-      let n : length others ≡ p_of s - 1 = sym (length-map others (tally_name 0)) ∙ length-map_others (tally_name 0) (p_of s) 0 (omega (arith, place)) in
+      let n : length others ≡ p_of s - 1 =
+      sym (length-map others (tally_name 0)) ∙ length-map_others (tally_name 0) (p_of s) 0 (omega (arith, place)) in
       let count = length-map others (tally_of s r) in
       let a1 = all.active in
       let a2 = all.edges in
@@ -390,7 +429,7 @@ module _ (s : State) (can : CanRun s.part s.split) (fits : HoldsFit s.part s.spl
         judged = record {
           active = omega (arith, a1);
           edges = omega (arith, a2);
-          totals = all_from (FitsSigned w64) (sums_at s r).totals sums.totals.1;
+          totals = All-from_recursion (FitsSigned w64) (sums_at s r).totals sums.totals.1;
         };
         report = reported r small;
       }

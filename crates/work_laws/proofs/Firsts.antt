@@ -2,10 +2,11 @@
 use Rattle.std.proofs.Common.{◌≡◌, ◌≢◌, ◌<◌, ◌≤◌, ◌+◌, ◌-◌, ◌==◌, ◌^◌, inl, inr, ℕ, zero, suc, ℤ, Bool, true, false, ◌&&◌, not, List, [], ◌∷◌, map, length, All, refl, sym, ap, subst, ◌∙◌, Option, None, Some, FitsSigned, w64, arith}
 use Rattle.std.specs.Prelude.{if◌then◌else◌, is_some, nat_le, slice_get}
 use Rattle.std.specs.List.{AllByRecursion}
-use Rattle.std.proofs.lemmas.Bool.{and_parts, true≢false}
+use Rattle.std.proofs.lemmas.Bool.{and_from, and_parts, true≢false}
 use Rattle.std.proofs.lemmas.Bool.Decides.{nat_tests}
+use Rattle.std.proofs.lemmas.Option.{same_Some}
 use Rattle.std.proofs.lemmas.List.{length-map}
-use Rattle.std.proofs.lemmas.List.Elements.{All-get_or, All-nil}
+use Rattle.std.proofs.lemmas.List.Elements.{All-get_or, All-nil, recursion_from_All}
 use Rattle.vert_base.specs.declared.message.Name.{Name}
 use Rattle.vert_base.specs.declared.message.NameKind.TheVariants as kind
 use Rattle.vert_base.specs.declared.value.Ruling.{Ruling}
@@ -51,9 +52,9 @@ use Rattle.work_laws.proofs.Partials.{IsAmong, empty_are, made_own}
 use Rattle.work_laws.proofs.Scans.{fresh_fits}
 use Rattle.work_laws.proofs.Sees.{among_lies, own_small, targets_small, within_map}
 use Rattle.work_laws.proofs.Sights.{part_sees, seen_has}
-use Rattle.work_laws.proofs.Words.{both_true, by_recursion}
 
-none_read : (part : PlainPart) (split : Split) → CanRun part split → AreWithin part (targets_of part) (map (λ v. []) (targets_of part))
+none_read : (part : PlainPart) (split : Split) → CanRun part split →
+    AreWithin part (targets_of part) (map (λ v. []) (targets_of part))
 none_read part split can =
     within_map part (λ v. []) (λ v. v < 2 ^ 32) (targets_of part) (targets_small part split can) (λ v id. omega arith)
 
@@ -64,13 +65,15 @@ none_summed : AreSums no_sums
 none_summed = record { active = omega arith; edges = omega arith; totals = All-nil (FitsSigned w64) }
 
 module _ (part : PlainPart) (split : Split) (can : CanRun part split) where
-  first_word : (v : ℕ) → IsAmong (start_of part.ends part.at.machine) (length (chunk_vertices part.ends part.at.machine)) v →
+  first_word : (v : ℕ) → IsAmong (start_of part.ends part.at.machine)
+      (length (chunk_vertices part.ends part.at.machine)) v →
       IsRow (kinds_of (program_of split).fields.items) (first_row_of part split v)
   first_word v among =
       let k : Kinds = field_kinds (program_of split) in
       let g : Sight = part_sight part 0 [] (λ v. empty_row) in
       let env : Env = seen_env g v 0 [] in
-      let sees = part_sees part split (kinds_of (program_of split).fields.items) 0 [] (λ v. empty_row) can (omega arith) (λ i. zero_fits)
+      let sees = part_sees part split (kinds_of (program_of split).fields.items) 0 [] (λ v. empty_row) can
+      (omega arith) (λ i. zero_fits)
       (λ v. no_words (kinds_of (program_of split).fields.items)) in
       let has = seen_has k g v 0 [] sees (own_small part split can v (among_lies part v among)) no_slots in
       let own = parts (program_of split) can.program in
@@ -97,14 +100,17 @@ module _ (part : PlainPart) (split : Split) (can : CanRun part split) where
 
   -- ---- from a start
   module _ (start : PlainStart) (is : IsStart part split start) where
-    start_row : (v : ℕ) → IsAmong (start_of part.ends part.at.machine) (length (chunk_vertices part.ends part.at.machine)) v →
+    start_row : (v : ℕ) → IsAmong (start_of part.ends part.at.machine)
+        (length (chunk_vertices part.ends part.at.machine)) v →
         IsRow (kinds_of (program_of split).fields.items) (row_at start.rows v)
     start_row v among =
         let place = can.place in
         let whole = can.whole.machine in
-        let low = lies_within 64 part.ends can.ends part.at.machine v (omega (arith, place, whole)) (among_lies part v among) in
+        let low = lies_within 64 part.ends can.ends part.at.machine v (omega (arith, place, whole))
+        (among_lies part v among) in
         let n = is.rows in
-        All-get_or (IsRow (kinds_of (program_of split).fields.items)) start.rows v empty_row (omega (arith, low, n)) is.typed
+        All-get_or (IsRow (kinds_of (program_of split).fields.items)) start.rows v empty_row (omega (arith, low, n))
+        is.typed
 
     may_start : may_rule (blocks_of split) start.round start.ruling ≡ true
     may_start = by start.ruling is.block
@@ -112,19 +118,22 @@ module _ (part : PlainPart) (split : Split) (can : CanRun part split) where
         low : nat_le start.round (program_of split).limit ≡ true
         low = let within = is.within in grind (arith, nat_tests, within)
 
-        by : (ruling : Ruling) → has_block (blocks_of split) ruling ≡ true → may_rule (blocks_of split) start.round ruling ≡ true
+        by : (ruling : Ruling) → has_block (blocks_of split) ruling ≡ true →
+            may_rule (blocks_of split) start.round ruling ≡ true
         by Stop block = refl
-        by Dense block = both_true (blocks_of split).dense (nat_le start.round (program_of split).limit) block low
-        by Sparse block = both_true (blocks_of split).sparse (nat_le start.round (program_of split).limit) block low
+        by Dense block = and_from (blocks_of split).dense (nat_le start.round (program_of split).limit) block low
+        by Sparse block = and_from (blocks_of split).sparse (nat_le start.round (program_of split).limit) block low
 
     going : start.ruling ≢ Stop
     going e = true≢false (sym is.block ∙ ap (has_block (blocks_of split)) e)
 
-    may_tell : may_be (may_rule (blocks_of split) start.round Dense) (may_rule (blocks_of split) start.round Sparse) start.ruling ≡ true
+    may_tell : may_be (may_rule (blocks_of split) start.round Dense) (may_rule (blocks_of split) start.round Sparse)
+        start.ruling ≡ true
     may_tell = by start.ruling may_start
       where
         by : (ruling : Ruling) → may_rule (blocks_of split) start.round ruling ≡ true →
-            may_be (may_rule (blocks_of split) start.round Dense) (may_rule (blocks_of split) start.round Sparse) ruling ≡ true
+            may_be (may_rule (blocks_of split) start.round Dense) (may_rule (blocks_of split) start.round Sparse)
+            ruling ≡ true
         by Stop may = refl
         by Dense may = may
         by Sparse may = may
@@ -134,7 +143,8 @@ module _ (part : PlainPart) (split : Split) (can : CanRun part split) where
       where
         by : (b : Bool) → (part.at.machine == 0) ≡ b →
             AllByRecursion (IsHeld split part)
-            (if b then [] else record { name = verdict_name start.round part.at.machine; body = body_at_start start } ∷ [])
+            (if b then [] else record { name = verdict_name start.round part.at.machine; body = body_at_start start } ∷
+            [])
         by true e = tt
         by false e =
             let name : Name = verdict_name start.round part.at.machine in
@@ -146,23 +156,42 @@ module _ (part : PlainPart) (split : Split) (can : CanRun part split) where
             let needed : Has (needs_of (ring_of split part.at.machines) part.at.machine (Begin start.round)) name =
             subst (λ b. Has (if b then [] else name ∷ []) name) (sym e) (inl refl) in
             let range : (nat_le 1 start.round && nat_le start.round ((program_of split).limit + 1)) ≡ true =
-            both_true (nat_le 1 start.round) (nat_le start.round ((program_of split).limit + 1)) (grind (arith, nat_tests, late))
+            and_from (nat_le 1 start.round) (nat_le start.round ((program_of split).limit + 1))
+            (grind (arith, nat_tests, late))
             (grind (arith, nat_tests, within)) in
-            let planned = (plans_by_table split part.at.machines part.at.machine name (omega (arith, whole, few)) can.place).1
-            ((start.ruling, is.block,
-            (Begin start.round, (let some : 1 ≤ start.round = omega (arith, late) in some),
-            inr (contains_from_has (needs_of (ring_of split part.at.machines) part.at.machine (Begin start.round)) name needed))), range) in
+            let planned = (plans_by_table split part.at.machines part.at.machine name (omega (arith, whole, few))
+            can.place).1 (
+              (
+                start.ruling,
+                is.block,
+                (
+                  Begin start.round,
+                  (let some : 1 ≤ start.round = omega (arith, late) in some),
+                  inr (contains_from_has (needs_of (ring_of split part.at.machines) part.at.machine (Begin start.round)) name
+                      needed),
+                ),
+              ),
+              range,
+            ) in
             let judged : Judged = record { ruling = start.ruling; totals = start.totals } in
             let n : ℕ = length (program_of split).totals.items in
-            let fit = verdict_fits (may_rule (blocks_of split) start.round Dense) (may_rule (blocks_of split) start.round Sparse) n judged
-            (may_tell, (is.totals, by_recursion (FitsSigned w64) start.totals is.words)) in
-            (inr (form_of split part kind.Verdict name, ap (λ b. if b then Some (form_of split part kind.Verdict name) else None) planned, fit), tt)
+            let fit = verdict_fits (may_rule (blocks_of split) start.round Dense)
+            (may_rule (blocks_of split) start.round Sparse) n judged
+            (may_tell, (is.totals, recursion_from_All (FitsSigned w64) start.totals is.words)) in (
+              inr (
+                form_of split part kind.Verdict name,
+                ap (λ b. if b then Some (form_of split part kind.Verdict name) else None) planned,
+                fit,
+              ),
+              tt,
+            )
 
     start_judged : AreSums (judged_at_start part start)
     start_judged = by (part.at.machine == 0)
       where
         by : (b : Bool) →
-            AreSums (if b then record { active = start.active; edges = start.edges; totals = start.totals } else no_sums)
+            AreSums (if b then record { active = start.active; edges = start.edges; totals = start.totals }
+            else no_sums)
         by true =
             let active = is.active in
             let edges = is.edges in
@@ -195,19 +224,25 @@ one_found true l = refl
 one_found false l = refl
 
 start_taken : (part : PlainPart) (start : PlainStart) (x : Name) →
-    is_some (found x (held_at_start part start)) ≡ (not (part.at.machine == 0) && same_name (verdict_name start.round part.at.machine) x)
+    is_some (found x (held_at_start part start)) ≡
+    (not (part.at.machine == 0) && same_name (verdict_name start.round part.at.machine) x)
 start_taken part start x = by (part.at.machine == 0)
   where
     by : (b : Bool) →
         is_some
-        (found x (if b then [] else record { name = verdict_name start.round part.at.machine; body = body_at_start start } ∷ []))
+        (found x (if b then [] else record {
+          name = verdict_name start.round part.at.machine;
+          body = body_at_start
+              start;
+        } ∷ []))
         ≡ (not b && same_name (verdict_name start.round part.at.machine) x)
     by true = refl
     by false =
         one_found (same_name (verdict_name start.round part.at.machine) x)
         (record { name = verdict_name start.round part.at.machine; body = body_at_start start })
 
-pub begins_at : (part : PlainPart) (split : Split) (start : PlainStart) → BeginsAt part split start (core_restarted part split start)
+pub begins_at : (part : PlainPart) (split : Split) (start : PlainStart) →
+    BeginsAt part split start (core_restarted part split start)
 begins_at part split start = record {
   part = refl;
   split = refl;
@@ -231,21 +266,22 @@ there_at s true Over = refl
 pub ahead_there : (s : State) → is_some (core_ahead s) ≡ (machine s == 0 && is_begin s.at.spot)
 ahead_there s = there_at s (machine s == 0) s.at.spot
 
-same_ahead : (a b : PlainAhead) → Some a ≡ Some b → a ≡ b
-same_ahead a b e = cc
-
 -- what it tells where it does
 record TellsAhead (s : State) (spot : Spot) (a : PlainAhead) : Type 0 where
   round : spot ≡ Begin a.round
   ruling : a.ruling ≡ s.ruling
 
-tells_at : (s : State) (b : Bool) (spot : Spot) (a : PlainAhead) → (if b then ahead_at s spot else None) ≡ Some a → TellsAhead s spot a
+tells_at : (s : State) (b : Bool) (spot : Spot) (a : PlainAhead) → (if b then ahead_at s spot else None) ≡ Some a →
+    TellsAhead s spot a
 tells_at s false spot a e = cc
 tells_at s true Tell a e = cc
 tells_at s true (Judge r) a e = cc
 tells_at s true (Begin r) a e =
-    let same = same_ahead _ a e in
-    record { round = ap (λ (x : PlainAhead). Begin x.round) same; ruling = sym (ap (λ (x : PlainAhead). x.ruling) same) }
+    let same = same_Some _ a e in
+    record {
+      round = ap (λ (x : PlainAhead). Begin x.round) same;
+      ruling = sym (ap (λ (x : PlainAhead). x.ruling) same);
+    }
 tells_at s true (Scan r step h) a e = cc
 tells_at s true (Close r dense) a e = cc
 tells_at s true Over a e = cc

@@ -2,7 +2,7 @@
 use Rattle.std.proofs.Common.{◌≡◌, ◌≢◌, ◌<◌, ◌≤◌, ◌+◌, ◌-◌, ◌*◌, ◌==◌, ◌^◌, ℕ, zero, suc, Bool, true, false, ◌&&◌, ◌||◌, not, List, [], ◌∷◌, map, length, refl, sym, ap, subst, ◌∙◌, Option, None, Some, arith}
 use Rattle.std.specs.Prelude.{⊤, if◌then◌else◌, is_some, nat_le, nat_lt}
 use Rattle.std.specs.List.{AllByRecursion}
-use Rattle.std.proofs.lemmas.Bool.{and_parts, eqb-true, leb-true, ltb-true, true≢false}
+use Rattle.std.proofs.lemmas.Bool.{and_from, and_parts, eqb-true, leb-true, ltb-true, true≢false}
 use Rattle.std.proofs.lemmas.Bool.Decides.{nat_tests}
 use Rattle.vert_base.specs.declared.message.Name.{Name}
 use Rattle.vert_base.specs.declared.value.Mode.{Mode}
@@ -41,24 +41,17 @@ use Rattle.work_laws.proofs.Sees.{scan_kept_fits, scan_read_fits}
 use Rattle.work_laws.proofs.Sparse.{begin_go_fits}
 
 -- ---- a judge rules as the program may
-may_by : (m : Mode) (active edges r limit : ℕ) (dense sparse : Bool) → mode_stands m dense sparse ≡ true → nat_le r limit ≡ true →
+may_by : (m : Mode) (active edges r limit : ℕ) (dense sparse : Bool) → mode_stands m dense sparse ≡ true →
+    nat_le r limit ≡ true →
     may_rule (record { limit = limit; dense = dense; sparse = sparse }) r (mode_of active edges m) ≡ true
-may_by mode.Dense active edges r limit dense sparse stands low = both dense (nat_le r limit) stands low
-  where
-    both : (a b : Bool) → a ≡ true → b ≡ true → (a && b) ≡ true
-    both a b e f = ap (λ q. q && b) e ∙ f
-may_by mode.Sparse active edges r limit dense sparse stands low = both sparse (nat_le r limit) stands low
-  where
-    both : (a b : Bool) → a ≡ true → b ≡ true → (a && b) ≡ true
-    both a b e f = ap (λ q. q && b) e ∙ f
+may_by mode.Dense active edges r limit dense sparse stands low = and_from dense (nat_le r limit) stands low
+may_by mode.Sparse active edges r limit dense sparse stands low = and_from sparse (nat_le r limit) stands low
 may_by mode.Auto active edges r limit dense sparse stands low = by (nat_lt edges (20 * active))
   where
-    both : (a b : Bool) → a ≡ true → b ≡ true → (a && b) ≡ true
-    both a b e f = ap (λ q. q && b) e ∙ f
-
-    by : (b : Bool) → may_rule (record { limit = limit; dense = dense; sparse = sparse }) r (if b then Dense else Sparse) ≡ true
-    by true = both dense (nat_le r limit) (and_parts dense sparse stands).0 low
-    by false = both sparse (nat_le r limit) (and_parts dense sparse stands).1 low
+    by : (b : Bool) → may_rule (record { limit = limit; dense = dense; sparse = sparse }) r
+        (if b then Dense else Sparse) ≡ true
+    by true = and_from dense (nat_le r limit) (and_parts dense sparse stands).0 low
+    by false = and_from sparse (nat_le r limit) (and_parts dense sparse stands).1 low
 
 may_if : (blocks : Blocks) (r : ℕ) (b : Bool) (ruling : Ruling) → (b ≡ false → may_rule blocks r ruling ≡ true) →
     may_rule blocks r (if b then Stop else ruling) ≡ true
@@ -78,15 +71,18 @@ judged_may s r sums =
     (λ going.
     may_if (blocks_of s.split) (r + 1) _ _
     (λ early.
-    may_by (program_of s.split).mode sums.edges s.part.edges (r + 1) (program_of s.split).limit (is_some (program_of s.split).dense)
-    (is_some (program_of s.split).sparse) (mode_block s.split) (not_late sums.active (r + 1) (program_of s.split).limit early)))
+    may_by (program_of s.split).mode sums.edges s.part.edges (r + 1) (program_of s.split).limit
+    (is_some (program_of s.split).dense)
+    (is_some (program_of s.split).sparse) (mode_block s.split)
+    (not_late sums.active (r + 1) (program_of s.split).limit early)))
 
 pub judge_may : (s : State) (r : ℕ) → Judges s r → may_rule (blocks_of s.split) (r + 1) (core_judge s) ≡ true
 judge_may s r judges =
     ap (λ spot. may_rule (blocks_of s.split) (r + 1) (judge_at s spot)) judges ∙ judged_may s r (sums_at s r)
 
 -- ---- where it stands then
-held_fits : (part : PlainPart) (split : Split) (spot : Spot) (held : List Letter) → AllByRecursion (IsHeld split part) held →
+held_fits : (part : PlainPart) (split : Split) (spot : Spot) (held : List Letter) →
+    AllByRecursion (IsHeld split part) held →
     AllByRecursion (IsHeld split part) (held_at spot held)
 held_fits part split Tell held all = all
 held_fits part split (Judge r) held all = all
@@ -95,7 +91,8 @@ held_fits part split (Scan r step h) held all = all
 held_fits part split (Close r dense) held all = all
 held_fits part split Over held all = all
 
-moved_fits : (part : PlainPart) (split : Split) (at : Standing) (s : State) → HoldsFit part split s → HoldsFit part split (moved at s)
+moved_fits : (part : PlainPart) (split : Split) (at : Standing) (s : State) → HoldsFit part split s →
+    HoldsFit part split (moved at s)
 moved_fits part split at s fits = record {
   rows = fits.rows;
   partials = fits.partials;
@@ -108,7 +105,8 @@ moved_fits part split at s fits = record {
 }
 
 -- at the begin of a round no other machine than 0 knows its totals
-unknown : (s : State) (r : ℕ) → (machine s == 0) ≡ false → known (moved (record { spot = Begin r; round = r }) s) ≡ true → ⊥
+unknown : (s : State) (r : ℕ) → (machine s == 0) ≡ false →
+    known (moved (record { spot = Begin r; round = r }) s) ≡ true → ⊥
 unknown s r other known = true≢false (sym known ∙ ap (λ b. if b then nat_le 1 r else false) other)
 
 stop_not : (ruling : Ruling) → ruling ≢ Stop → (other : Ruling) → other ≡ ruling → other ≢ Stop
@@ -133,7 +131,8 @@ module _ (s : State) (can : CanRun s.part s.split) (fits : HoldsFit s.part s.spl
   pub small_within : (r : ℕ) → r ≤ (program_of s.split).limit → r < 2 ^ 32
   small_within r low = small r (omega (arith, low))
 
-  gone_tell : (round : ℕ) → core_sound (moved (next_standing (ring_of s.split (p_of s)) (machine s) s.ruling (record { spot = Tell; round = round })) s)
+  gone_tell : (round : ℕ) → core_sound (moved (next_standing (ring_of s.split (p_of s)) (machine s) s.ruling
+      (record { spot = Tell; round = round })) s)
   gone_tell round = by (machine s == 0) refl
     where
       by : (b : Bool) → (machine s == 0) ≡ b → core_sound (moved (standing_at round (if b then Judge 0 else Begin 1)) s)
@@ -158,7 +157,8 @@ module _ (s : State) (can : CanRun s.part s.split) (fits : HoldsFit s.part s.spl
           core_sound (moved (standing_at (r + 1) (Begin (r + 1))) (judge_go s r))
       begins ruling going e = record {
         can = can;
-        fits = moved_fits s.part s.split (standing_at (r + 1) (Begin (r + 1))) (judge_go s r) (judge_go_fits s can fits r (small_within r low));
+        fits = moved_fits s.part s.split (standing_at (r + 1) (Begin (r + 1))) (judge_go s r)
+            (judge_go_fits s can fits r (small_within r low));
         round = refl;
         spot = (
           omega arith,
@@ -171,7 +171,8 @@ module _ (s : State) (can : CanRun s.part s.split) (fits : HoldsFit s.part s.spl
           core_sound (moved (standing_at (r + 1) (after_judge r ruling)) (judge_go s r))
       by Stop e = record {
         can = can;
-        fits = moved_fits s.part s.split (standing_at (r + 1) Over) (judge_go s r) (judge_go_fits s can fits r (small_within r low));
+        fits = moved_fits s.part s.split (standing_at (r + 1) Over) (judge_go s r)
+            (judge_go_fits s can fits r (small_within r low));
         round = refl;
         spot = tt;
       }
@@ -195,7 +196,8 @@ module _ (s : State) (can : CanRun s.part s.split) (fits : HoldsFit s.part s.spl
           let place = can.place in
           record {
             can = can;
-            fits = moved_fits s.part s.split (standing_at r (Scan r 0 0)) (begin_go s r) (begin_go_fits s can fits r (small r low));
+            fits = moved_fits s.part s.split (standing_at r (Scan r 0 0)) (begin_go s r)
+                (begin_go_fits s can fits r (small r low));
             round = refl;
             spot = (b.0, (some, leb-true r (program_of s.split).limit b.1), omega (arith, place), omega arith);
           }
@@ -203,7 +205,8 @@ module _ (s : State) (can : CanRun s.part s.split) (fits : HoldsFit s.part s.spl
           let b = and_parts (blocks_of s.split).sparse (nat_le r (program_of s.split).limit) may in
           record {
             can = can;
-            fits = moved_fits s.part s.split (standing_at r (Close r false)) (begin_go s r) (begin_go_fits s can fits r (small r low));
+            fits = moved_fits s.part s.split (standing_at r (Close r false)) (begin_go s r)
+                (begin_go_fits s can fits r (small r low));
             round = refl;
             spot = (b.0, (some, leb-true r (program_of s.split).limit b.1));
           }
@@ -211,7 +214,8 @@ module _ (s : State) (can : CanRun s.part s.split) (fits : HoldsFit s.part s.spl
   gone_scan : (r step h : ℕ) → (blocks_of s.split).dense ≡ true → TakesPlace s r → step < p_of s →
       core_sound
       (moved
-      (standing_at r (if h == 0 then Scan r step 1 else if nat_lt step (p_of s - 1) then Scan r (step + 1) 0 else Close r true))
+      (standing_at r (if h == 0 then Scan r step 1 else if nat_lt step (p_of s - 1) then Scan r (step + 1) 0 else Close
+      r true))
       (scan_go s r step h))
   gone_scan r step h block place low = by (nat_lt step (p_of s - 1)) refl (h == 0)
     where
@@ -254,7 +258,8 @@ module _ (s : State) (can : CanRun s.part s.split) (fits : HoldsFit s.part s.spl
       core_sound (moved (standing_at r (if machine s == 0 then Judge r else Begin (r + 1))) (close_go s r dense))
   gone_close r dense place = by (machine s == 0) refl
     where
-      by : (b : Bool) → (machine s == 0) ≡ b → core_sound (moved (standing_at r (if b then Judge r else Begin (r + 1))) (close_go s r dense))
+      by : (b : Bool) → (machine s == 0) ≡ b → core_sound
+          (moved (standing_at r (if b then Judge r else Begin (r + 1))) (close_go s r dense))
       by true e = record {
         can = can;
         fits = moved_fits s.part s.split (standing_at r (Judge r)) (close_go s r dense)
@@ -283,17 +288,24 @@ module _ (s : State) (can : CanRun s.part s.split) (fits : HoldsFit s.part s.spl
   gone (Scan r step h) round spot ruled = gone_scan r step h spot.0 spot.1 spot.2
   gone (Close r true) round spot ruled = gone_close r true spot.1
   gone (Close r false) round spot ruled = gone_close r false spot.1
-  gone Over round spot ruled = record { can = can; fits = moved_fits s.part s.split (standing_at round Over) s fits; round = refl; spot = tt }
+  gone Over round spot ruled = record {
+    can = can;
+    fits = moved_fits s.part s.split (standing_at round Over) s fits;
+    round = refl;
+    spot = tt;
+  }
 
 -- a machine that can act at the begin of a round knows its totals
-missing_none : (x : Name) (held : List Letter) → waiting_for (first_missing (x ∷ []) held) ≡ action.Ready → is_some (found x held) ≡ true
+missing_none : (x : Name) (held : List Letter) → waiting_for (first_missing (x ∷ []) held) ≡ action.Ready →
+    is_some (found x held) ≡ true
 missing_none x held ready = by (is_some (found x held)) ready
   where
     by : (b : Bool) → waiting_for (if b then None else Some x) ≡ action.Ready → b ≡ true
     by true e = refl
     by false e = cc
 
-pub ready_knows : (s : State) (r : ℕ) → 1 ≤ r → s.at.spot ≡ Begin r → s.at.round ≡ r → action_of s ≡ action.Ready → known s ≡ true
+pub ready_knows : (s : State) (r : ℕ) → 1 ≤ r → s.at.spot ≡ Begin r → s.at.round ≡ r → action_of s ≡ action.Ready →
+    known s ≡ true
 ready_knows s r some here round ready = by (machine s == 0) acts
   where
     acts : waiting_for
@@ -305,11 +317,13 @@ ready_knows s r some here round ready = by (machine s == 0) acts
         else waiting_for (first_missing (needs (record s { at = record s.at { spot = spot } })) s.held)) here)
         ∙ ready
 
-    by : (b : Bool) → waiting_for (first_missing (if b then [] else verdict_name r (machine s) ∷ []) s.held) ≡ action.Ready →
+    by : (b : Bool) → waiting_for (first_missing (if b then [] else verdict_name r (machine s) ∷ []) s.held) ≡
+        action.Ready →
         (if b then nat_le 1 s.at.round else is_some (found (verdict_name s.at.round (machine s)) s.held)) ≡ true
     by true e = grind (arith, nat_tests, some, round)
     by false e =
-        ap (λ (q : ℕ). is_some (found (verdict_name q (machine s)) s.held)) round ∙ missing_none (verdict_name r (machine s)) s.held e
+        ap (λ (q : ℕ). is_some (found (verdict_name q (machine s)) s.held)) round ∙ missing_none
+        (verdict_name r (machine s)) s.held e
 
 pub begin_ruled : (s : State) (spot : Spot) → FitsSpot s spot → (r : ℕ) → spot ≡ Begin r → known s ≡ true → IsRuled s r
 begin_ruled s spot fits r e known = (subst (FitsSpot s) e fits).2 known

@@ -17,7 +17,8 @@ use Rattle.symple_face.proofs.ChunkLaws.{chunk_rises, chunk_within}
 use Rattle.symple_face.proofs.ListLaws.{other_list}
 use Rattle.work_laws.proofs.Partials.{over_range}
 
-all_filtered : {X : Type 0} (p : X → Bool) (P : X → Type 0) → ((x : X) → p x ≡ true → P x) → (xs : List X) → All P (filter p xs)
+all_filtered : {X : Type 0} (p : X → Bool) (P : X → Type 0) → ((x : X) → p x ≡ true → P x) → (xs : List X) →
+    All P (filter p xs)
 all_filtered p P h [] = All-nil P
 all_filtered p P h (x ∷ xs) = by (p x) refl (all_filtered p P h xs)
   where
@@ -25,24 +26,30 @@ all_filtered p P h (x ∷ xs) = by (p x) refl (all_filtered p P h xs)
     by true e rest = All-cons P x (filter p xs) (h x e) rest
     by false e rest = rest
 
-any_end : (end : Edge → ℕ) (P : ℕ → Type 0) (v : ℕ) (es : List Edge) → list_any (λ e. end e == v) es ≡ true → All (λ e. P (end e)) es → P v
+any_end : (end : Edge → ℕ) (P : ℕ → Type 0) (v : ℕ) (es : List Edge) → list_any (λ e. end e == v) es ≡ true →
+    All (λ e. P (end e)) es → P v
 any_end end P v [] h all = absurd (true≢false (sym h))
-any_end end P v (e ∷ es) h all = by (end e == v) refl h (λ more. any_end end P v es more (All-tail (λ e. P (end e)) e es all))
+any_end end P v (e ∷ es) h all = by (end e == v) refl h
+    (λ more. any_end end P v es more (All-tail (λ e. P (end e)) e es all))
   where
-    by : (b : Bool) → (end e == v) ≡ b → (b || list_any (λ e. end e == v) es) ≡ true → (list_any (λ e. end e == v) es ≡ true → P v) → P v
+    by : (b : Bool) → (end e == v) ≡ b → (b || list_any (λ e. end e == v) es) ≡ true →
+        (list_any (λ e. end e == v) es ≡ true → P v) → P v
     by true same any rest = subst P (eqb-true (end e) v same) (All-head (λ e. P (end e)) e es all)
     by false same any rest = rest any
 
 -- what holds of an end of each edge holds of the vertices met
-met_are : (end : Edge → ℕ) (P : ℕ → Type 0) (n : ℕ) (es : List Edge) → All (λ e. P (end e)) es → All P (ends_met end n es)
-met_are end P n es all = all_filtered (λ v. list_any (λ e. end e == v) es) P (λ v met. any_end end P v es met all) (range_with_len 0 n)
+met_are : (end : Edge → ℕ) (P : ℕ → Type 0) (n : ℕ) (es : List Edge) → All (λ e. P (end e)) es →
+    All P (ends_met end n es)
+met_are end P n es all = all_filtered (λ v. list_any (λ e. end e == v) es) P (λ v met. any_end end P v es met all)
+    (range_with_len 0 n)
 
 met_small : (end : Edge → ℕ) (n most : ℕ) (es : List Edge) → n ≤ most → All (λ v. v < most) (ends_met end n es)
 met_small end n most es few =
     All-filter (λ v. list_any (λ e. end e == v) es) (λ v. v < most) (range_with_len 0 n)
     (over_range (λ v. v < most) 0 n (λ v low high. omega (arith, high, few)))
 
-module _ (part : PlainPart) (split : Split) (can : CanRun part split) (k : ℕ) (within : k < part.at.machines) (other : k ≢ part.at.machine) where
+module _ (part : PlainPart) (split : Split) (can : CanRun part split) (k : ℕ) (within : k < part.at.machines)
+    (other : k ≢ part.at.machine) where
   apart : (k == part.at.machine) ≡ false
   apart = ne_eqb k part.at.machine other
 
@@ -89,7 +96,8 @@ chunk_low m s p some = omega arith
 cut_low : (a b : ℕ) → a ≤ b → cut_of a b ≤ b
 cut_low a b rises = omega (arith, rises)
 
-half_below : (a b h v : ℕ) → a ≤ b → (half_of a b h).0 ≤ v → v < (half_of a b h).0 + ((half_of a b h).1 - (half_of a b h).0) → v < b
+half_below : (a b h v : ℕ) → a ≤ b → (half_of a b h).0 ≤ v →
+    v < (half_of a b h).0 + ((half_of a b h).1 - (half_of a b h).0) → v < b
 half_below a b zero v rises low high = let cut = cut_low a b rises in omega (arith, low, high, cut)
 half_below a b (suc h) v rises low high = omega (arith, low, high)
 

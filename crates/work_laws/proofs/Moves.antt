@@ -27,9 +27,11 @@ either_same : {X Y : Type 0} (f : X → Y) (b : Bool) (x y : X) (z : Y) → f x 
 either_same f true x y z p q = p
 either_same f false x y z p q = q
 
-scan_same : {Y : Type 0} (f : State → Y) (z : Y) (s : State) (r step h : ℕ) → f (scan_read s r step h) ≡ z → f (scan_kept s r step h) ≡ z →
+scan_same : {Y : Type 0} (f : State → Y) (z : Y) (s : State) (r step h : ℕ) → f (scan_read s r step h) ≡ z →
+    f (scan_kept s r step h) ≡ z →
     f (scan_go s r step h) ≡ z
-scan_same f z s r step h p q = either_same f (nat_lt step (p_of s - 1)) (scan_read s r step h) (scan_kept s r step h) z p q
+scan_same f z s r step h p q = either_same f (nat_lt step (p_of s - 1)) (scan_read s r step h) (scan_kept s r step h) z
+    p q
 
 pub acted_part : (s : State) (spot : Spot) → (acted s spot).part ≡ s.part
 acted_part s Tell = refl
@@ -57,7 +59,8 @@ acted_ruling s Over = refl
 
 -- ---- the names held
 -- a name is held as before, where a body is dropped
-found_emptied : (xs : List Name) (x : Name) (held : List Letter) → is_some (found x (emptied xs held)) ≡ is_some (found x held)
+found_emptied : (xs : List Name) (x : Name) (held : List Letter) →
+    is_some (found x (emptied xs held)) ≡ is_some (found x held)
 found_emptied xs x [] = refl
 found_emptied xs x (l ∷ ls) = by (has_name l.name xs) (found_emptied xs x ls)
   where
@@ -100,15 +103,19 @@ go_held s x =
     ∙ ap (λ b. not (is_begin (core_go s).at.spot) && b) (acted_held s s.at.spot x)
 
 -- ---- what is sent
-mapped_names : (f : Name → List ℕ) (xs : List Name) → map (λ l. l.name) (map (λ x. let l : Letter = record { name = x; body = f x } in l) xs) ≡ xs
+mapped_names : (f : Name → List ℕ) (xs : List Name) →
+    map (λ l. l.name) (map (λ x. let l : Letter = record { name = x; body = f x } in l) xs) ≡ xs
 mapped_names f [] = refl
 mapped_names f (x ∷ xs) = ap (λ l. x ∷ l) (mapped_names f xs)
 
-pub sent_names : (s : State) → map (λ l. l.name) (core_sent s) ≡ gives_of (ring_of s.split (p_of s)) (machine s) s.at.spot (core_acting s)
-sent_names s = mapped_names (sent_at s s.at.spot) (gives_of (ring_of s.split (p_of s)) (machine s) s.at.spot (core_acting s))
+pub sent_names : (s : State) → map (λ l. l.name) (core_sent s) ≡ gives_of (ring_of s.split (p_of s)) (machine s)
+    s.at.spot (core_acting s)
+sent_names s = mapped_names (sent_at s s.at.spot)
+    (gives_of (ring_of s.split (p_of s)) (machine s) s.at.spot (core_acting s))
 
 -- ---- takes
-push_same : {Y : Type 0} (f : State → Y) (z : Y) (s : State) (l : Letter) (a b : State) → f a ≡ z → f b ≡ z → f (if known s then a else b) ≡ z
+push_same : {Y : Type 0} (f : State → Y) (z : Y) (s : State) (l : Letter) (a b : State) → f a ≡ z → f b ≡ z →
+    f (if known s then a else b) ≡ z
 push_same f z s l a b p q = either_same f (known s) a b z p q
 
 pub taken_part : (k : NameKind) (s : State) (l : Letter) → (taken k s l).part ≡ s.part
@@ -139,15 +146,18 @@ some_if : (b : Bool) (l : Letter) (o : Option Letter) → is_some (if b then Som
 some_if true l o = refl
 some_if false l o = refl
 
-pub placed_held : (l : Letter) (held : List Letter) (x : Name) → is_some (found x (placed l held)) ≡ (same_name l.name x || is_some (found x held))
+pub placed_held : (l : Letter) (held : List Letter) (x : Name) →
+    is_some (found x (placed l held)) ≡ (same_name l.name x || is_some (found x held))
 placed_held l held x = ap is_some (placed_law l held x) ∙ some_if (same_name l.name x) l (found x held)
 
-pub taken_held : (k : NameKind) (s : State) (l : Letter) (x : Name) → has_taken (taken k s l) x ≡ (same_name l.name x || has_taken s x)
+pub taken_held : (k : NameKind) (s : State) (l : Letter) (x : Name) →
+    has_taken (taken k s l) x ≡ (same_name l.name x || has_taken s x)
 taken_held kind.Refresh s l x = placed_held l s.held x
 taken_held kind.Dep s l x = placed_held l s.held x
 taken_held kind.Update s l x = placed_held (record l { body = [] }) s.held x
 taken_held kind.Push s l x =
-    push_same (λ t. has_taken t x) (same_name l.name x || has_taken s x) s l _ _ (placed_held (record l { body = [] }) s.held x)
+    push_same (λ t. has_taken t x) (same_name l.name x || has_taken s x) s l _ _
+    (placed_held (record l { body = [] }) s.held x)
     (placed_held l s.held x)
 taken_held kind.Tally s l x = placed_held l s.held x
 taken_held kind.Verdict s l x = placed_held l s.held x

@@ -2,8 +2,9 @@
 use Rattle.std.proofs.Common.{◌≡◌, ◌+◌, ◌==◌, ℕ, zero, suc, Bool, true, false, ◌&&◌, List, [], ◌∷◌, ◌++◌, map, refl, sym, ap, subst, ◌∙◌, Option, None, Some, arith}
 use Rattle.std.specs.Prelude.{◌||◌, not, if◌then◌else◌, slice_get}
 use Rattle.std.specs.List.{list_all}
+use Rattle.std.proofs.lemmas.Option.{same_Some}
 use Rattle.std.proofs.lemmas.List.Folds.{list_all-append}
-use Rattle.std.proofs.lemmas.Bool.{and_parts, eqb-true, true≢false}
+use Rattle.std.proofs.lemmas.Bool.{and_from, and_parts, eqb-true, true≢false}
 use Rattle.vert_base.specs.declared.value.Combine.{Combine}
 use Rattle.vert_base.specs.declared.value.Combine.TheVariants as combine
 use Rattle.vert_base.specs.declared.value.ValueType.{ValueType}
@@ -34,21 +35,22 @@ abbrev Calm : Kinds → List Mark → Type 0
 Calm k ms = (i : ℕ) → has_kind kind.Int (slice_get k.locals i) ≡ false →
     list_all (λ u. not (is_added u || (is_lowered u || is_raised u))) (uses_of i ms) ≡ true
 
-tests_both : {U : Type 0} (test : U → Bool) (all a b : List U) → all ≡ a ++ b → list_all test a ≡ true → list_all test b ≡ true →
+tests_both : {U : Type 0} (test : U → Bool) (all a b : List U) → all ≡ a ++ b → list_all test a ≡ true →
+    list_all test b ≡ true →
     list_all test all ≡ true
-tests_both test all a b e p q = ap (list_all test) e ∙ list_all-append test a b ∙ and_true (list_all test a) (list_all test b) p q
-  where
-    and_true : (x y : Bool) → x ≡ true → y ≡ true → (x && y) ≡ true
-    and_true x y e f = ap (λ b. b && y) e ∙ f
+tests_both test all a b e p q = ap (list_all test) e ∙ list_all-append test a b ∙ and_from (list_all test a)
+    (list_all test b) p q
 
-one_use : {U : Type 0} (test : U → Bool) (b : Bool) (u : U) → (b ≡ true → test u ≡ true) → list_all test (if b then u ∷ [] else []) ≡ true
+one_use : {U : Type 0} (test : U → Bool) (b : Bool) (u : U) → (b ≡ true → test u ≡ true) →
+    list_all test (if b then u ∷ [] else []) ≡ true
 one_use test true u h = ap (λ t. t && true) (h refl)
 one_use test false u h = refl
 
 module _ (k : Kinds) where
   both : (a b : List Mark) → Calm k a → Calm k b → Calm k (a ++ b)
   both a b p q i h =
-      tests_both (λ u. not (is_added u || (is_lowered u || is_raised u))) _ (uses_of i a) (uses_of i b) (uses-append i a b) (p i h) (q i h)
+      tests_both (λ u. not (is_added u || (is_lowered u || is_raised u))) _ (uses_of i a) (uses_of i b)
+      (uses-append i a b) (p i h) (q i h)
 
   none : Calm k []
   none i h = refl
@@ -91,7 +93,8 @@ module _ (k : Kinds) where
       let int = (and_parts (has_kind kind.Int (slice_get k.locals j)) value h).0 in
       true≢false (sym int ∙ ap (λ n. has_kind kind.Int (slice_get k.locals n)) (sym (eqb-true i j e)) ∙ other)
 
-  target_fits : (w : What) (op : AssignOp) (e : Expr) → assign_typed op (name_kind k w) (node_kind k e.node) ≡ true → Calm k (assign_marks w op)
+  target_fits : (w : What) (op : AssignOp) (e : Expr) → assign_typed op (name_kind k w) (node_kind k e.node) ≡ true →
+      Calm k (assign_marks w op)
   target_fits (what.Local j) assign.Set e h i other =
       one_use (λ u. not (is_added u || (is_lowered u || is_raised u))) (i == j) _ (λ same. refl)
   target_fits (what.Local j) assign.Add e h i other =
@@ -131,7 +134,8 @@ module _ (k : Kinds) where
   level_marks (level.Assign t op e) = expr_marks e ++ assign_marks t.what op
   level_marks (level.SetActive at e) = expr_marks e
   level_marks (level.If at test held None) = expr_marks test ++ (body_marks held.items ++ [])
-  level_marks (level.If at test held (Some other)) = expr_marks test ++ (body_marks held.items ++ body_marks other.items)
+  level_marks (level.If at test held (Some other)) =
+      expr_marks test ++ (body_marks held.items ++ body_marks other.items)
   level_marks (level.Emit at slot e) = expr_marks e
   level_marks (level.Break at) = Breaks ∷ []
 
@@ -155,7 +159,8 @@ module _ (k : Kinds) where
       (both (body_marks (stmts held.items)) []
       (all_fit held.items (and_parts (typed_all (stmts held.items)) true typed.1).0) none)
   level_fit (level.If at test held (Some other)) h =
-      let typed = and_parts (expr_has k kind.Bool test) (typed_all (stmts held.items) && typed_all (stmts other.items)) h in
+      let typed = and_parts (expr_has k kind.Bool test) (typed_all (stmts held.items) && typed_all (stmts other.items))
+      h in
       let each = and_parts (typed_all (stmts held.items)) (typed_all (stmts other.items)) typed.1 in
       both (expr_marks test) (body_marks (stmts held.items) ++ body_marks (stmts other.items)) (reads test)
       (both (body_marks (stmts held.items)) (body_marks (stmts other.items)) (all_fit held.items each.0)
@@ -199,7 +204,8 @@ calm_raise false false true h e = true≢false (sym h)
 calm_raise false false false h e = true≢false (sym e)
 
 no_class : {U : Type 0} (read add low raise : U → Bool) (uses : List U) (op : Combine) →
-    list_all (λ u. not (add u || (low u || raise u))) uses ≡ true → (a b c d : Bool) → list_all read uses ≡ a → list_all add uses ≡ b →
+    list_all (λ u. not (add u || (low u || raise u))) uses ≡ true → (a b c d : Bool) → list_all read uses ≡ a →
+    list_all add uses ≡ b →
     list_all low uses ≡ c → list_all raise uses ≡ d →
     (if a then Constant else if b then Reduced combine.Sum else if c then Reduced combine.Min
     else if d then Reduced combine.Max else Carried) ≡ Reduced op → ⊥
@@ -209,17 +215,15 @@ no_class read add low raise uses op calm false true c d ea eb ec ed is =
 no_class read add low raise uses op calm false false true d ea eb ec ed is =
     no_use read low (λ u. not (add u || (low u || raise u))) uses (λ u. calm_low (add u) (low u) (raise u)) calm ea ec
 no_class read add low raise uses op calm false false false true ea eb ec ed is =
-    no_use read raise (λ u. not (add u || (low u || raise u))) uses (λ u. calm_raise (add u) (low u) (raise u)) calm ea ed
+    no_use read raise (λ u. not (add u || (low u || raise u))) uses (λ u. calm_raise (add u) (low u) (raise u)) calm ea
+    ed
 no_class read add low raise uses op calm false false false false ea eb ec ed is = cc
-
-some_same : (a b : Class) → Some a ≡ Some b → a ≡ b
-some_same a b e = cc
 
 class_at : (j : ℕ) (ds : List Decl) (ms : List Mark) (i : ℕ) (c : Class) → slice_get (let_classes j ds ms) i ≡ Some c →
     class_of (uses_of (j + i) ms) ≡ c
 class_at j [] ms i c e = cc
 class_at j (d ∷ ds) ms zero c e =
-    ap (λ n. class_of (uses_of n ms)) (omega arith) ∙ some_same (class_of (uses_of j ms)) c e
+    ap (λ n. class_of (uses_of n ms)) (omega arith) ∙ same_Some (class_of (uses_of j ms)) c e
 class_at j (d ∷ ds) ms (suc i) c e =
     ap (λ n. class_of (uses_of n ms)) (omega arith) ∙ class_at (j + 1) ds ms i c e
 
@@ -232,10 +236,12 @@ pub reduced_are_ints : (k : Kinds) (ds : List Decl) (body : List Stmt) → body_
 reduced_are_ints k ds body typed i op e = by (has_kind kind.Int (slice_get k.locals i)) refl
   where
     is : class_of (uses_of i (body_marks body)) ≡ Reduced op
-    is = ap (λ n. class_of (uses_of n (body_marks body))) (omega arith) ∙ class_at 0 ds (body_marks body) i (Reduced op) e
+    is = ap (λ n. class_of (uses_of n (body_marks body))) (omega arith) ∙ class_at 0 ds (body_marks body) i
+        (Reduced op) e
 
     by : (b : Bool) → has_kind kind.Int (slice_get k.locals i) ≡ b → slice_get k.locals i ≡ Some kind.Int
     by true int = kind_is kind.Int (slice_get k.locals i) int
     by false other =
-        absurd (no_class is_read is_added is_lowered is_raised (uses_of i (body_marks body)) op (body_fit k body typed i other)
+        absurd (no_class is_read is_added is_lowered is_raised (uses_of i (body_marks body)) op
+        (body_fit k body typed i other)
         _ _ _ _ refl refl refl refl is)

@@ -5,6 +5,7 @@ use Rattle.std.specs.Int.{bit_at}
 use Rattle.std.specs.List.{AllByRecursion}
 use Rattle.std.proofs.lemmas.Bool.{ltb-true}
 use Rattle.std.proofs.lemmas.Bool.Decides.{nat_tests}
+use Rattle.std.proofs.lemmas.Option.{same_Some}
 use Rattle.std.proofs.lemmas.List.{length-map, length-replicate}
 use Rattle.std.proofs.lemmas.List.Elements.{All-nil}
 use Rattle.vert_base.specs.declared.graph.Edge.{Edge}
@@ -63,7 +64,8 @@ classes_in d = let_classes 0 d.lets.items (body_marks d.body.items)
 pub class_each : (d : Dense) → length (classes_in d) ≡ length (kinds_of d.lets.items)
 class_each d = length-let_classes 0 d.lets.items (body_marks d.body.items) ∙ sym (length-map d.lets.items (λ x. x.kind))
 
-carried_count : (cs : List Class) (kinds : List ValueType) → length cs ≡ length kinds → length (carried_kinds cs kinds) ≡ carried_in cs
+carried_count : (cs : List Class) (kinds : List ValueType) → length cs ≡ length kinds →
+    length (carried_kinds cs kinds) ≡ carried_in cs
 carried_count [] kinds n = refl
 carried_count (c ∷ cs) [] n = absurd (omega (arith, n))
 carried_count (Constant ∷ cs) (k ∷ ks) n = carried_count cs ks (omega (arith, n))
@@ -74,7 +76,8 @@ carry_count : (breaks : Bool) (cs : List Class) → words_in (carry_in breaks cs
 carry_count true cs = refl
 carry_count false cs = by (nat_lt 0 (carried_in cs)) refl
   where
-    by : (b : Bool) → nat_lt 0 (carried_in cs) ≡ b → words_in (if b then Some (record { words = carried_in cs }) else None) ≡ carried_in cs
+    by : (b : Bool) → nat_lt 0 (carried_in cs) ≡ b →
+        words_in (if b then Some (record { words = carried_in cs }) else None) ≡ carried_in cs
     by true e = refl
     by false e = grind (arith, nat_tests)
 
@@ -83,7 +86,8 @@ abbrev pub carried_of : Dense → List ValueType
 carried_of d = carried_kinds (classes_in d) (kinds_of d.lets.items)
 
 carried_width : (d : Dense) → words_in (loop_split d).carry ≡ length (carried_of d)
-carried_width d = carry_count (loop_split d).classes.breaks (classes_in d) ∙ sym (carried_count (classes_in d) (kinds_of d.lets.items) (class_each d))
+carried_width d = carry_count (loop_split d).classes.breaks (classes_in d) ∙
+    sym (carried_count (classes_in d) (kinds_of d.lets.items) (class_each d))
 
 carried_bits : (d : Dense) → types_at (types_of d.lets.items) (places_where is_carried 0 (classes_in d)) ≡ carried_of d
 carried_bits d =
@@ -91,7 +95,8 @@ carried_bits d =
     (λ j. ap (λ m. slice_index_or (kinds_of d.lets.items) m kind.Int) (omega arith))
 
 -- ---- loop states
-pub state_from : (d : Dense) (mark : Mark) (words : List ℤ) → AreWords (carried_of d) words → length words ≡ length (carried_of d) →
+pub state_from : (d : Dense) (mark : Mark) (words : List ℤ) → AreWords (carried_of d) words →
+    length words ≡ length (carried_of d) →
     (mark ≡ Fresh → words ≡ replicate (words_in (loop_split d).carry) (pos 0)) →
     IsStateIn (Some d) (Some (loop_split d)) (record { mark = mark; words = words })
 state_from d mark words are n still = record {
@@ -101,7 +106,8 @@ state_from d mark words are n still = record {
   still = still;
 }
 
-pub state_words : (d : Dense) (st : LoopState) → IsStateIn (Some d) (Some (loop_split d)) st → AreWords (carried_of d) st.words
+pub state_words : (d : Dense) (st : LoopState) → IsStateIn (Some d) (Some (loop_split d)) st →
+    AreWords (carried_of d) st.words
 state_words d st is =
     words_alone (carried_of d) st.words (is.count ∙ carried_width d) is.fits
     (ap (λ ts. are_typed (bool_bits ts) st.words) (sym (carried_bits d)) ∙ is.typed)
@@ -115,7 +121,8 @@ loop_state split d st e is =
     subst (λ q. IsStateIn (program_of split).dense q st) (sym (split_dense split d e))
     (subst (λ o. IsStateIn o (Some (loop_split d)) st) (sym e) is)
 
-pub state_of_loop : (split : Split) (d : Dense) (st : LoopState) → (program_of split).dense ≡ Some d → IsLoopState split st →
+pub state_of_loop : (split : Split) (d : Dense) (st : LoopState) → (program_of split).dense ≡ Some d →
+    IsLoopState split st →
     IsStateIn (Some d) (Some (loop_split d)) st
 state_of_loop split d st e is =
     subst (λ o. IsStateIn o (Some (loop_split d)) st) e
@@ -161,25 +168,27 @@ unsent_fits split = record {
   operands = none_fit (length (reduced_in split.dense));
 }
 
-same_some : {X : Type 0} (a b : X) → Some a ≡ Some b → a ≡ b
-same_some a b e = cc
-
 pub may_all_fit : (slots : List (Option ℤ)) → SlotsFit slots → AllByRecursion MayFit slots
 may_all_fit [] h = tt
 may_all_fit (x ∷ xs) h = (λ z e. h zero z (ap Some e), may_all_fit xs (λ i. h (suc i)))
 
 pub slots_all_fit : (slots : List (Option ℤ)) → AllByRecursion MayFit slots → SlotsFit slots
 slots_all_fit [] h i z e = cc
-slots_all_fit (x ∷ xs) h zero z e = h.0 z (same_some x (Some z) e)
+slots_all_fit (x ∷ xs) h zero z e = h.0 z (same_Some x (Some z) e)
 slots_all_fit (x ∷ xs) h (suc i) z e = slots_all_fit xs h.1 i z e
 
 operand_fits : (n : ℕ) (x : ℤ) → FitsSigned w64 x → MayFit (operand n x)
 operand_fits zero x f z e = cc
-operand_fits (suc n) x f z e = subst (FitsSigned w64) (same_some x z e) f
+operand_fits (suc n) x f z e = subst (FitsSigned w64) (same_Some x z e) f
 
-operands_fit : (places : List ℕ) (env : Env) → ((i : ℕ) → FitsSigned w64 (word_at env.locals.items i)) → AllByRecursion MayFit (operands places env)
+operands_fit : (places : List ℕ) (env : Env) → ((i : ℕ) → FitsSigned w64 (word_at env.locals.items i)) →
+    AllByRecursion MayFit (operands places env)
 operands_fit [] env f = tt
-operands_fit (i ∷ is) env f = (operand_fits (bit_at env.touched i) (word_at env.locals.items i) (f i), operands_fit is env f)
+operands_fit (i ∷ is) env f = (
+  operand_fits (bit_at env.touched i) (word_at env.locals.items i) (f i),
+  operands_fit is
+      env f,
+)
 
 -- ---- a scan
 pub record ScanFits (split : Split) (most : ℕ) (s : Scanned) : Type 0 where
@@ -187,7 +196,8 @@ pub record ScanFits (split : Split) (most : ℕ) (s : Scanned) : Type 0 where
   pub sent : SentFits split s.sent
   pub few : length s.reads ≤ most
 
-pub passed_fits : (split : Split) (most : ℕ) (st : LoopState) → IsLoopState split st → ScanFits split most (passed split st)
+pub passed_fits : (split : Split) (most : ℕ) (st : LoopState) → IsLoopState split st →
+    ScanFits split most (passed split st)
 passed_fits split most st is = record { state = is; sent = unsent_fits split; few = omega arith }
 
 untouched : (k : Kinds) (env : Env) → HasKinds k env → HasKinds k (record env { touched = 0 })
@@ -216,7 +226,8 @@ not_fresh : (flow : Flow) → mark_after flow ≡ Fresh → ⊥
 not_fresh Going e = cc
 not_fresh Broke e = cc
 
-carried_length : (cs : List Class) (kinds : List ValueType) (words : List ℤ) → length words ≡ length cs → length cs ≡ length kinds →
+carried_length : (cs : List Class) (kinds : List ValueType) (words : List ℤ) → length words ≡ length cs →
+    length cs ≡ length kinds →
     length (carried_words cs words) ≡ length (carried_kinds cs kinds)
 carried_length cs kinds words n m = length-carried_words cs words n ∙ sym (carried_count cs kinds m)
 
@@ -234,10 +245,12 @@ module _ (split : Split) (d : Dense) (is : (program_of split).dense ≡ Some d) 
   pub lets_have : (env : Env) → HasKinds (field_kinds (program_of split)) env →
       HasKinds (inner_kinds (program_of split) d) (only_lets d.lets.items env)
   lets_have env has =
-      (lets_keep (field_kinds (program_of split)) d.lets.items (record env { locals = record { items = [] } }) refl block.lets.0 block.lets.1
+      (lets_keep (field_kinds (program_of split)) d.lets.items (record env { locals = record { items = [] } }) refl
+      block.lets.0 block.lets.1
       (with_locals (field_kinds (program_of split)) [] [] env (no_words []) has) (All-nil (FitsSigned w64))).has
 
-  told_are : (mark : Mark) (words : List ℤ) (own : List ℤ) → AreWords (carried_of d) words → AreWords (kinds_of d.lets.items) own →
+  told_are : (mark : Mark) (words : List ℤ) (own : List ℤ) → AreWords (carried_of d) words →
+      AreWords (kinds_of d.lets.items) own →
       AreWords (kinds_of d.lets.items) (with_received (classes_in d) (words_by mark words) own)
   told_are Fresh words own are mine = mine
   told_are Running words own are mine = received_are (classes_in d) (kinds_of d.lets.items) words own mine are
@@ -262,7 +275,8 @@ module _ (split : Split) (d : Dense) (is : (program_of split).dense ≡ Some d) 
       begun_length (classes_in d) (told_words st) (own_words d.lets.items env)
       ∙ length-own d.lets.items env ∙ sym (length-let_classes 0 d.lets.items (body_marks d.body.items))
 
-  ran_fits : (members : List Edge) (ran : Ran) → Looped (inner_kinds (program_of split) d) (length (classes_in d)) (length members) ran →
+  ran_fits : (members : List Edge) (ran : Ran) → Looped (inner_kinds (program_of split) d) (length (classes_in d))
+      (length members) ran →
       ScanFits split (length members) (scanned_by split d ran)
   ran_fits members ran looped =
       let cs : List Class = classes_in d in
@@ -276,7 +290,8 @@ module _ (split : Split) (d : Dense) (is : (program_of split).dense ≡ Some d) 
       record {
         state = loop_state split d (record { mark = mark_after ran.flow; words = words }) is state;
         sent = record {
-          value_count = length-slot_values 0 (slot_ops (program_of split)) ran.emitted ∙ length-map (program_of split).slots.items (λ s. s.op);
+          value_count = length-slot_values 0 (slot_ops (program_of split)) ran.emitted ∙ length-map
+              (program_of split).slots.items (λ s. s.op);
           values = may_all_fit (slot_values 0 (slot_ops (program_of split)) ran.emitted)
               (slot_values_fit 0 (slot_ops (program_of split)) ran.emitted looped.kinds.emitted);
           operand_count = length-map (loop_split d).reduced.items (λ i. operand_at i ran.env)
@@ -286,26 +301,32 @@ module _ (split : Split) (d : Dense) (is : (program_of split).dense ≡ Some d) 
         few = looped.few;
       }
 
-  segment_fits : (g : Sight) (members : List Edge) (st : LoopState) (env : Env) → SightFits (field_kinds (program_of split)).fields g →
+  segment_fits : (g : Sight) (members : List Edge) (st : LoopState) (env : Env) →
+      SightFits (field_kinds (program_of split)).fields g →
       All IsEdge members → IsLoopState split st → HasKinds (field_kinds (program_of split)) env →
       ScanFits split (length members) (scanned_by split d (segment_seen d g members st env))
   segment_fits g members st env sees edges state has =
       let begins : Env = begun (loop_split d) d.lets.items (told_words st) env in
-      let looped = loop_looped (inner_kinds (program_of split) d) g d.body.items sees block.body.0 block.body.1 members edges begins
+      let looped = loop_looped (inner_kinds (program_of split) d) g d.body.items sees block.body.0 block.body.1 members
+      edges begins
       (begun_has st env state has) in
       ran_fits members (segment_seen d g members st env)
       (record { kinds = looped.kinds; count = looped.count ∙ begun_count st env; few = looped.few })
 
-  either_fits : (most : ℕ) (b : Bool) (x y : Scanned) → ScanFits split most x → ScanFits split most y → ScanFits split most (if b then x else y)
+  either_fits : (most : ℕ) (b : Bool) (x y : Scanned) → ScanFits split most x → ScanFits split most y →
+      ScanFits split most (if b then x else y)
   either_fits most true x y p q = p
   either_fits most false x y p q = q
 
-  pub scanned_fits : (g : Sight) (key : ℕ) (members : List Edge) (v : ℕ) (st : LoopState) → SightFits (field_kinds (program_of split)).fields g →
-      v < 2 ^ 32 → All IsEdge members → IsLoopState split st → ScanFits split (length members) (scanned split d g key members v st)
+  pub scanned_fits : (g : Sight) (key : ℕ) (members : List Edge) (v : ℕ) (st : LoopState) →
+      SightFits (field_kinds (program_of split)).fields g →
+      v < 2 ^ 32 → All IsEdge members → IsLoopState split st →
+      ScanFits split (length members) (scanned split d g key members v st)
   scanned_fits g key [] v st sees small edges state = passed_fits split 0 st state
   scanned_fits g key (e ∷ es) v st sees small edges state =
       let env : Env = seen_env g v key (none split) in
-      let has = seen_has (field_kinds (program_of split)) g v key (none split) sees small (no_values_fit (slot_ops (program_of split))) in
+      let has = seen_has (field_kinds (program_of split)) g v key (none split) sees small
+      (no_values_fit (slot_ops (program_of split))) in
       either_fits (length (e ∷ es)) (is_broken st.mark || not (is_set (value_of d.when_test env))) (passed split st)
       (scanned_by split d (segment_seen d g (e ∷ es) st env)) (passed_fits split (length (e ∷ es)) st state)
       (segment_fits g (e ∷ es) st env sees edges state has)

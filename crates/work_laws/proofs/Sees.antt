@@ -5,7 +5,7 @@ use Rattle.std.specs.List.{AllByRecursion, list_any, range_with_len}
 use Rattle.std.proofs.lemmas.Bool.{and_parts, eqb-true, ltb-true}
 use Rattle.std.proofs.lemmas.Bool.Decides.{nat_tests}
 use Rattle.std.proofs.lemmas.List.FromFn.{length-range_with_len}
-use Rattle.std.proofs.lemmas.List.Elements.{All-cons, All-filter, All-head, All-nil, All-tail}
+use Rattle.std.proofs.lemmas.List.Elements.{All-cons, All-filter, All-from_recursion, All-head, All-nil, All-tail}
 use Rattle.vert_base.specs.declared.graph.Edge.{Edge}
 use Rattle.vert_base.specs.declared.limits.TheConstants.{VERTICES}
 use Rattle.vert_base.specs.declared.message.Name.{Name}
@@ -43,13 +43,14 @@ use Rattle.work_laws.proofs.Held.{beside_is, get_or_is, may_read, mirror_words, 
 use Rattle.work_laws.proofs.Partials.{IsAmong, made_own, over_range, own_at, sent_more}
 use Rattle.work_laws.proofs.Scans.{ScanFits, fresh_fits, passed_fits, scanned_fits}
 use Rattle.work_laws.proofs.Sights.{SightFits, all_fit_at, part_sees}
-use Rattle.work_laws.proofs.Words.{all_from}
 
 -- ---- the part's edges and vertices
-pub all_two : {X : Type 0} (P Q R : X → Type 0) (xs : List X) → ((x : X) → P x → Q x → R x) → All P xs → All Q xs → All R xs
+pub all_two : {X : Type 0} (P Q R : X → Type 0) (xs : List X) → ((x : X) → P x → Q x → R x) → All P xs → All Q xs →
+    All R xs
 all_two P Q R [] both p q = All-nil R
 all_two P Q R (x ∷ xs) both p q =
-    All-cons R x xs (both x (All-head P x xs p) (All-head Q x xs q)) (all_two P Q R xs both (All-tail P x xs p) (All-tail Q x xs q))
+    All-cons R x xs (both x (All-head P x xs p) (All-head Q x xs q))
+    (all_two P Q R xs both (All-tail P x xs p) (All-tail Q x xs q))
 
 module _ (part : PlainPart) (split : Split) (can : CanRun part split) where
   pub own_small : (v : ℕ) → lies_in part.ends part.at.machine v ≡ true → v < 2 ^ 32
@@ -70,7 +71,8 @@ module _ (part : PlainPart) (split : Split) (can : CanRun part split) where
       let few = can.whole.within in
       let below : All (λ e. source e < n) part.push =
       subst (All (λ e. source e < n)) (sym can.whole.push_order)
-      (all_from (λ e. source e < n) (in_order source n (in_order target n part.push)) (in_order_below source n (in_order target n part.push))) in
+      (All-from_recursion (λ e. source e < n) (in_order source n (in_order target n part.push))
+      (in_order_below source n (in_order target n part.push))) in
       all_two (λ e. source e < n) _ IsEdge part.push
       (λ e low fits. record { source = omega (arith, low, few); weight = fits }) below can.push
 
@@ -82,7 +84,8 @@ module _ (part : PlainPart) (split : Split) (can : CanRun part split) where
       (over_range (λ v. v < 2 ^ 32) 0 n (λ v low high. omega (arith, high, few)))
 
 -- a vertex among the own ones lies in the own chunk
-pub among_lies : (part : PlainPart) (v : ℕ) → IsAmong (start_of part.ends part.at.machine) (length (chunk_vertices part.ends part.at.machine)) v →
+pub among_lies : (part : PlainPart) (v : ℕ) → IsAmong (start_of part.ends part.at.machine)
+    (length (chunk_vertices part.ends part.at.machine)) v →
     lies_in part.ends part.at.machine v ≡ true
 among_lies part v among =
     let a : ℕ = start_of part.ends part.at.machine in
@@ -110,14 +113,16 @@ within_map part f P [] all h = tt
 within_map part f P (v ∷ vs) all h = (h v (All-head P v vs all), within_map part f P vs (All-tail P v vs all) h)
 
 -- ---- messages whose bodies are dropped
-emptied_held : (split : Split) (part : PlainPart) (xs : List Name) (l : Letter) → IsHeld split part l → IsHeld split part (emptied_under xs l)
+emptied_held : (split : Split) (part : PlainPart) (xs : List Name) (l : Letter) → IsHeld split part l →
+    IsHeld split part (emptied_under xs l)
 emptied_held split part xs l h = by (has_name l.name xs)
   where
     by : (b : Bool) → IsHeld split part (if b then record l { body = [] } else l)
     by true = inl refl
     by false = h
 
-pub emptied_all : (split : Split) (part : PlainPart) (xs : List Name) (held : List Letter) → AllByRecursion (IsHeld split part) held →
+pub emptied_all : (split : Split) (part : PlainPart) (xs : List Name) (held : List Letter) →
+    AllByRecursion (IsHeld split part) held →
     AllByRecursion (IsHeld split part) (emptied xs held)
 emptied_all split part xs [] all = tt
 emptied_all split part xs (l ∷ ls) all = (emptied_held split part xs l all.0, emptied_all split part xs ls all.1)
@@ -141,7 +146,8 @@ module _ (s : State) (can : CanRun s.part s.split) (fits : HoldsFit s.part s.spl
 
   pub own_sees : (r : ℕ) → r < 2 ^ 32 → SightFits (kinds_of (program_of s.split).fields.items) (own_sight s r)
   own_sees r small =
-      part_sees s.part s.split (kinds_of (program_of s.split).fields.items) r (known_totals s) (own_row s) can small known_fit own_words
+      part_sees s.part s.split (kinds_of (program_of s.split).fields.items) r (known_totals s) (own_row s) can small
+      known_fit own_words
 
   pub chunk_sees : (r d : ℕ) → r < 2 ^ 32 → SightFits (kinds_of (program_of s.split).fields.items) (sight_at s r d)
   chunk_sees r d small =
@@ -149,7 +155,8 @@ module _ (s : State) (can : CanRun s.part s.split) (fits : HoldsFit s.part s.spl
       (λ v. by v (not (d == machine s) && lies_in s.part.ends d v))
     where
       by : (v : ℕ) (b : Bool) →
-          AreWords (kinds_of (program_of s.split).fields.items) (if b then mirror_row s r d v else own_row s v).words.items
+          AreWords (kinds_of (program_of s.split).fields.items)
+          (if b then mirror_row s r d v else own_row s v).words.items
       by v true =
           mirror_words s.split s.part r d v (held_body s (refresh_name r d (machine s)))
           (may_read s.split s.part (refresh_name r d (machine s)) s.held fits.held)
@@ -163,31 +170,37 @@ module _ (s : State) (can : CanRun s.part s.split) (fits : HoldsFit s.part s.spl
     where
       by : (b : Bool) → ((ring_of s.split (p_of s)).carry && nat_lt 0 step) ≡ b →
           All (IsLoopState s.split)
-          (states_told s (size_of (scan_half s step h)) (name_if b (dep_name r (step - 1) h (before_machine (machine s) (p_of s)) (machine s))))
+          (states_told s (size_of (scan_half s step h))
+          (name_if b (dep_name r (step - 1) h (before_machine (machine s) (p_of s)) (machine s))))
       by true e =
-          all_from (IsLoopState s.split) _
+          All-from_recursion (IsLoopState s.split) _
           (states_told_fit s.split s.part r step h
           (held_body s (dep_name r (step - 1) h (before_machine (machine s) (p_of s)) (machine s))) can.place
           (ltb-true 0 step (and_parts (ring_of s.split (p_of s)).carry (nat_lt 0 step) e).1) low
-          (may_read s.split s.part (dep_name r (step - 1) h (before_machine (machine s) (p_of s)) (machine s)) s.held fits.held))
+          (may_read s.split s.part (dep_name r (step - 1) h (before_machine (machine s) (p_of s)) (machine s)) s.held
+          fits.held))
       by false e = All-nil (IsLoopState s.split)
 
   pub scan_fits : (r step h v : ℕ) → r < 2 ^ 32 → step < p_of s → v < 2 ^ 32 →
       ScanFits s.split (length (members s v)) (scanned_at s r step h v)
   scan_fits r step h v small low id = by (program_of s.split).dense refl
     where
-      by : (o : Option Dense) → (program_of s.split).dense ≡ o → ScanFits s.split (length (members s v)) (scanned_in o s r step h v)
+      by : (o : Option Dense) → (program_of s.split).dense ≡ o →
+          ScanFits s.split (length (members s v)) (scanned_in o s r step h v)
       by None e = passed_fits s.split (length (members s v)) (received_at s r step h v) (received_fits r step h v low)
       by (Some d) e =
-          scanned_fits s.split d e can.program (sight_at s r (scan_chunk s step)) step (members s v) v (received_at s r step h v)
+          scanned_fits s.split d e can.program (sight_at s r (scan_chunk s step)) step (members s v) v
+          (received_at s r step h v)
           (chunk_sees r (scan_chunk s step) small) id
-          (All-filter (λ e. target e == v) IsEdge s.part.scan (scan_edges s.part s.split can)) (received_fits r step h v low)
+          (All-filter (λ e. target e == v) IsEdge s.part.scan (scan_edges s.part s.split can))
+          (received_fits r step h v low)
 
   -- ---- what a scan leaves
   reading_within : (v : ℕ) → length (reading_at s v) ≤ length (members s v)
   reading_within v = beside_within s.part v (targets s) s.reading fits.reading
 
-  read_within : (r step h v : ℕ) → r < 2 ^ 32 → step < p_of s → v < 2 ^ 32 → length (read_after s r step h v) ≤ length (members s v)
+  read_within : (r step h v : ℕ) → r < 2 ^ 32 → step < p_of s → v < 2 ^ 32 →
+      length (read_after s r step h v) ≤ length (members s v)
   read_within r step h v small low id = by (is_within (scan_half s step h) v)
     where
       by : (b : Bool) → length (if b then (scanned_at s r step h v).reads else reading_at s v) ≤ length (members s v)
@@ -210,14 +223,16 @@ module _ (s : State) (can : CanRun s.part s.split) (fits : HoldsFit s.part s.spl
   among_small : (v : ℕ) → IsAmong (own_start s) (length (own_vertices s)) v → v < 2 ^ 32
   among_small v among = own_small s.part s.split can v (among_lies s.part v among)
 
-  pub own_partials_are : (v : ℕ) → IsAmong (own_start s) (length (own_vertices s)) v → ArePartials s.split (own_partials s v)
+  pub own_partials_are : (v : ℕ) → IsAmong (own_start s) (length (own_vertices s)) v →
+      ArePartials s.split (own_partials s v)
   own_partials_are v among = own_at s.part (ArePartials s.split) s.partials [] v fits.partials among
 
   scan_partials : (r step h v : ℕ) → r < 2 ^ 32 → step < p_of s → IsAmong (own_start s) (length (own_vertices s)) v →
       ArePartials s.split (partials_after s r step h v)
   scan_partials r step h v small low among = by (is_within (scan_half s step h) v)
     where
-      by : (b : Bool) → ArePartials s.split (if b then with_sent step (scanned_at s r step h v).sent (own_partials s v) else own_partials s v)
+      by : (b : Bool) → ArePartials s.split (if b then with_sent step (scanned_at s r step h v).sent (own_partials s v)
+          else own_partials s v)
       by true =
           sent_more s.split step (scanned_at s r step h v).sent (own_partials s v)
           (scan_fits r step h v small low (among_small v among)).sent (own_partials_are v among)
@@ -236,18 +251,13 @@ module _ (s : State) (can : CanRun s.part s.split) (fits : HoldsFit s.part s.spl
       let read = scan_read_fits r step h small low in
       record {
         rows = fits.rows;
-        partials = made_own s.part (ArePartials s.split) (partials_after s r step h) (λ v among. scan_partials r step h v small low among);
-        ring = made_own s.part (IsLoopState s.split) (ring_after s r step h) (λ v among. scan_ring r step h v small low among);
+        partials = made_own s.part (ArePartials s.split) (partials_after s r step h)
+            (λ v among. scan_partials r step h v small low among);
+        ring = made_own s.part (IsLoopState s.split) (ring_after s r step h)
+            (λ v among. scan_ring r step h v small low among);
         held = read.held;
         reading = read.reading;
         reads = fits.reads;
         judged = fits.judged;
         report = fits.report;
       }
-
-  pub scan_go_fits : (r step h : ℕ) → r < 2 ^ 32 → step < p_of s → HoldsFit s.part s.split (scan_go s r step h)
-  scan_go_fits r step h small low = by (nat_lt step (p_of s - 1))
-    where
-      by : (b : Bool) → HoldsFit s.part s.split (if b then scan_read s r step h else scan_kept s r step h)
-      by true = scan_read_fits r step h small low
-      by false = scan_kept_fits r step h small low

@@ -2,8 +2,9 @@
 use Rattle.std.proofs.Common.{◌≡◌, ◌≢◌, ◌⊎◌, ◌<◌, ◌≤◌, ◌+◌, ◌-◌, ◌*◌, ◌==◌, ◌^◌, inl, inr, ⊎_elim, ℕ, zero, suc, ℤ, Bool, true, false, ◌&&◌, List, [], ◌∷◌, ◌++◌, map, length, All, refl, sym, ap, subst, ◌∙◌, Option, None, Some, option_map, FitsSigned, w64, arith, length-append}
 use Rattle.std.specs.Prelude.{filter, if◌then◌else◌, is_none, nat_le, nat_lt, slice_index_or, sum}
 use Rattle.std.specs.List.{AllByRecursion, list_all, range_with_len}
-use Rattle.std.proofs.lemmas.Bool.{and_parts, eq-eqb, eqb-true, leb-true, ltb-true, true≢false}
+use Rattle.std.proofs.lemmas.Bool.{and_from, and_parts, eq-eqb, eqb-true, leb-true, ltb-true, true≢false}
 use Rattle.std.proofs.lemmas.Bool.Decides.{nat_tests}
+use Rattle.std.proofs.lemmas.Option.{same_Some}
 use Rattle.std.proofs.lemmas.List.{length-map}
 use Rattle.std.proofs.lemmas.List.Elements.{All-filter, All-head, All-tail}
 use Rattle.std.proofs.lemmas.List.FromFn.{length-range_with_len}
@@ -87,17 +88,23 @@ use Rattle.work_laws.proofs.Lists.{chunk_low, half_small, mirrors_small, push_to
 use Rattle.work_laws.proofs.Scans.{SentFits}
 use Rattle.work_laws.proofs.Sees.{own_small, scan_fits}
 use Rattle.work_laws.proofs.Sparse.{lies_among, own_sends_fit}
-use Rattle.work_laws.proofs.Words.{MayFit, both_true, typed_words, words_fit}
+use Rattle.work_laws.proofs.Words.{MayFit, typed_words, words_fit}
 
 -- ---- rows
-sent_row : (kinds : List ValueType) (row : Row) → IsRow kinds row → IsPlainRow (length kinds) (bool_bits (kinds ++ value.Bool ∷ [])) (plain_row row)
+sent_row : (kinds : List ValueType) (row : Row) → IsRow kinds row →
+    IsPlainRow (length kinds) (bool_bits (kinds ++ value.Bool ∷ [])) (plain_row row)
 sent_row kinds row is =
     let flag : ℤ = word_of_bool row.active in
-    let all = append_words kinds value.Bool row.words.items flag is.count is.words (flag_word row.active) in
-    (
+    let all = append_words kinds value.Bool row.words.items flag is.count is.words (flag_word row.active) in (
       (is.count, words_fit kinds row.words.items is.count is.words),
       typed_words (kinds ++ value.Bool ∷ []) (row.words.items ++ flag ∷ []) all
-          (let n = is.count in omega (arith, length-append row.words.items (flag ∷ []), length-append kinds (value.Bool ∷ []), n)),
+          (let n = is.count in omega (
+            arith,
+            length-append row.words.items (flag ∷ []),
+            length-append kinds
+                (value.Bool ∷ []),
+            n,
+          )),
     )
   where
     flag_word : (b : Bool) → IsWord value.Bool (word_of_bool b)
@@ -120,7 +127,8 @@ places_few test i (c ∷ cs) = by (test c) (places_few test (i + 1) cs)
     by false rest = omega (arith, rest)
 
 -- a part of a list by its elements
-mapped_all : {X : Type 0} (P : ℕ → Type 0) (Q : X → Type 0) (f : ℕ → X) (vs : List ℕ) → All P vs → ((v : ℕ) → P v → Q (f v)) →
+mapped_all : {X : Type 0} (P : ℕ → Type 0) (Q : X → Type 0) (f : ℕ → X) (vs : List ℕ) → All P vs →
+    ((v : ℕ) → P v → Q (f v)) →
     AllByRecursion Q (map f vs)
 mapped_all P Q f [] all h = tt
 mapped_all P Q f (v ∷ vs) all h = (h v (All-head P v vs all), mapped_all P Q f vs (All-tail P v vs all) h)
@@ -144,21 +152,20 @@ sends_typed kinds [] all = refl
 sends_typed kinds (None ∷ sends) all = sends_typed kinds sends all.1
 sends_typed kinds (Some ws ∷ sends) all =
     let one = all.0 ws refl in
-    both_true (are_typed (bool_bits kinds) ws) (list_all (are_typed (bool_bits kinds)) (there sends))
+    and_from (are_typed (bool_bits kinds) ws) (list_all (are_typed (bool_bits kinds)) (there sends))
     (typed_words kinds ws one.1 one.0) (sends_typed kinds sends all.1)
 
-sent_length : (b : Bool) (n : ℕ) (ws words : List ℤ) → length ws ≡ n → (if b then Some ws else None) ≡ Some words → length words ≡ n
-sent_length true n ws words count e = subst (λ (l : List ℤ). length l ≡ n) (same_words ws words e) count
-  where
-    same_words : (a b : List ℤ) → Some a ≡ Some b → a ≡ b
-    same_words a b e = cc
+sent_length : (b : Bool) (n : ℕ) (ws words : List ℤ) → length ws ≡ n → (if b then Some ws else None) ≡ Some words →
+    length words ≡ n
+sent_length true n ws words count e = subst (λ (l : List ℤ). length l ≡ n) (same_Some ws words e) count
 sent_length false n ws words count e = cc
 
 sent_count : (o : Option SparseBlock) (env : Env) (words : List ℤ) → sends_at o env ≡ Some words →
     length words ≡ length (kinds_of (sends_in o))
 sent_count None env words e = cc
 sent_count (Some b) env words e =
-    sent_length (env.row.active && is_set (value_of b.when_test env)) (length (kinds_of b.sends.items)) (sent_by b env) words
+    sent_length (env.row.active && is_set (value_of b.when_test env)) (length (kinds_of b.sends.items)) (sent_by b env)
+    words
     (length-map b.sends.items (λ d. value_of d.value env) ∙ sym (length-map b.sends.items (λ d. d.kind))) e
 
 -- ---- forms
@@ -179,14 +186,30 @@ module _ (s : State) (sound : core_sound s) where
   formed : (spot : Spot) (ruling : Ruling) (x : Name) (body : List ℕ) → has_block (blocks_of s.split) ruling ≡ true →
       HasSpot (ring_of s.split (p_of s)) (machine s) ruling spot →
       Has (gives_of (ring_of s.split (p_of s)) (machine s) spot ruling) x →
-      is_in_range (program_of s.split).limit x.kind x.round ≡ true → is_fit (form_of s.split s.part x.kind x) body ≡ true →
+      is_in_range (program_of s.split).limit x.kind x.round ≡ true →
+      is_fit (form_of s.split s.part x.kind x) body ≡ true →
       HasForm s (record { name = x; body = body })
   formed spot ruling x body block has gives range fit =
-      let planned = (plans_by_table s.split (p_of s) (machine s) x few_machines sound.can.place).1
-      ((ruling, block, (spot, has, inl (contains_from_has (gives_of (ring_of s.split (p_of s)) (machine s) spot ruling) x gives))), range) in
-      (form_of s.split s.part x.kind x, ap (λ b. if b then Some (form_of s.split s.part x.kind x) else None) planned, fit)
+      let planned = (plans_by_table s.split (p_of s) (machine s) x few_machines sound.can.place).1 (
+        (
+          ruling,
+          block,
+          (
+            spot,
+            has,
+            inl (contains_from_has (gives_of (ring_of s.split (p_of s)) (machine s) spot ruling)
+                x gives),
+          ),
+        ),
+        range,
+      ) in (
+        form_of s.split s.part x.kind x,
+        ap (λ b. if b then Some (form_of s.split s.part x.kind x) else None) planned,
+        fit,
+      )
 
-  letters : (f : Name → List ℕ) (g : ℕ → Name) (ks : List ℕ) → ((k : ℕ) → Has ks k → HasForm s (record { name = g k; body = f (g k) })) →
+  letters : (f : Name → List ℕ) (g : ℕ → Name) (ks : List ℕ) →
+      ((k : ℕ) → Has ks k → HasForm s (record { name = g k; body = f (g k) })) →
       AllByRecursion (HasForm s) (map (λ x. let l : Letter = record { name = x; body = f x } in l) (map g ks))
   letters f g [] h = tt
   letters f g (k ∷ ks) h = (h k (inl refl), letters f g ks (λ j has. h j (inr has)))
@@ -194,20 +217,24 @@ module _ (s : State) (sound : core_sound s) where
   -- ---- tallies
   tally_sent : (spot : Spot) (ruling : Ruling) (r : ℕ) (body : List ℕ) → has_block (blocks_of s.split) ruling ≡ true →
       HasSpot (ring_of s.split (p_of s)) (machine s) ruling spot →
-      gives_of (ring_of s.split (p_of s)) (machine s) spot ruling ≡ tally_gives (machine s) r → r ≤ (program_of s.split).limit →
+      gives_of (ring_of s.split (p_of s)) (machine s) spot ruling ≡ tally_gives (machine s) r →
+      r ≤ (program_of s.split).limit →
       is_fit (Tally (total_count s.split)) body ≡ true →
-      AllByRecursion (HasForm s) (map (λ x. let l : Letter = record { name = x; body = body } in l) (tally_gives (machine s) r))
+      AllByRecursion (HasForm s) (map (λ x. let l : Letter = record { name = x; body = body } in l)
+      (tally_gives (machine s) r))
   tally_sent spot ruling r body block has gives low fit = by (machine s == 0) refl
     where
       by : (b : Bool) → (machine s == 0) ≡ b →
           AllByRecursion (HasForm s)
-          (map (λ x. let l : Letter = record { name = x; body = body } in l) (if b then [] else tally_name r (machine s) ∷ []))
+          (map (λ x. let l : Letter = record { name = x; body = body } in l)
+          (if b then [] else tally_name r (machine s) ∷ []))
       by true e = tt
       by false e = (
         formed spot ruling (tally_name r (machine s)) body block has
-        (subst (λ (xs : List Name). Has xs (tally_name r (machine s))) (sym gives)
-        (subst (λ b. Has (if b then [] else tally_name r (machine s) ∷ []) (tally_name r (machine s))) (sym e) (inl refl)))
-        (grind (arith, nat_tests, low)) fit,
+            (subst (λ (xs : List Name). Has xs (tally_name r (machine s))) (sym gives)
+            (subst (λ b. Has (if b then [] else tally_name r (machine s) ∷ []) (tally_name r (machine s))) (sym e)
+            (inl refl)))
+            (grind (arith, nat_tests, low)) fit,
         tt,
       )
 
@@ -222,11 +249,13 @@ module _ (s : State) (sound : core_sound s) where
       (counted_suits s.part s.split sound.can s.rows [] 0 sound.fits.rows few (omega arith)))
 
   closed_fit : (r : ℕ) (dense : Bool) → TakesPlace s r →
-      is_fit (Tally (total_count s.split)) (tally_body (counted s.part s.split (closed_rows s r dense) s.reading r)) ≡ true
+      is_fit (Tally (total_count s.split)) (tally_body (counted s.part s.split (closed_rows s r dense) s.reading r)) ≡
+      true
   closed_fit r dense place =
       let low = small_within s sound.can sound.fits r place.1 in
       tally_fits (total_count s.split) (counted s.part s.split (closed_rows s r dense) s.reading r)
-      (counted_suits s.part s.split sound.can (closed_rows s r dense) s.reading r (closed_rows_fit s sound.can sound.fits r dense low)
+      (counted_suits s.part s.split sound.can (closed_rows s r dense) s.reading r
+      (closed_rows_fit s sound.can sound.fits r dense low)
       (reads_few s.part s.reading sound.fits.reading) low)
 
   -- ---- verdicts
@@ -245,9 +274,11 @@ module _ (s : State) (sound : core_sound s) where
       let sums = sums_at s r in
       let judged : Judged = record { ruling = ruling_by s r sums; totals = sums.totals } in
       let block = some_block s.split in
-      let fit = verdict_fits (may_rule (blocks_of s.split) (r + 1) Dense) (may_rule (blocks_of s.split) (r + 1) Sparse) (total_count s.split) judged
-      (ruled_be (r + 1) (ruling_by s r sums) (judged_may s r sums),
-      (sums_fit s sound.can sound.fits r (small_within s sound.can sound.fits r low)).totals) in
+      let fit = verdict_fits (may_rule (blocks_of s.split) (r + 1) Dense) (may_rule (blocks_of s.split) (r + 1) Sparse)
+      (total_count s.split) judged (
+        ruled_be (r + 1) (ruling_by s r sums) (judged_may s r sums),
+        (sums_fit s sound.can sound.fits r (small_within s sound.can sound.fits r low)).totals,
+      ) in
       subst
       (λ b. AllByRecursion (HasForm s)
       (map (λ x. let l : Letter = record { name = x; body = sent_at s (Judge r) x } in l)
@@ -255,7 +286,8 @@ module _ (s : State) (sound : core_sound s) where
       (letters (sent_at s (Judge r)) (verdict_name (r + 1)) (others_of (p_of s) 0)
       (λ k has.
       formed (Judge r) block.0 (verdict_name (r + 1) k) (verdict_body judged) block.1 first
-      (subst (λ b. Has (if b then map (verdict_name (r + 1)) (others_of (p_of s) 0) else []) (verdict_name (r + 1) k)) (sym is)
+      (subst (λ b. Has (if b then map (verdict_name (r + 1)) (others_of (p_of s) 0) else []) (verdict_name (r + 1) k))
+      (sym is)
       (has_map (verdict_name (r + 1)) (others_of (p_of s) 0) k has))
       (grind (arith, nat_tests, low)) fit))
 
@@ -263,7 +295,8 @@ module _ (s : State) (sound : core_sound s) where
   same_machine : (machine s == machine s) ≡ true
   same_machine = eq-eqb (machine s) (machine s) refl
 
-  pub own_is_row : (v : ℕ) → lies_in s.part.ends (machine s) v ≡ true → IsRow (kinds_of (program_of s.split).fields.items) (own_row s v)
+  pub own_is_row : (v : ℕ) → lies_in s.part.ends (machine s) v ≡ true →
+      IsRow (kinds_of (program_of s.split).fields.items) (own_row s v)
   own_is_row v lies =
       let kinds : List ValueType = kinds_of (program_of s.split).fields.items in
       let among = lies_among s.part v lies in
@@ -282,11 +315,13 @@ module _ (s : State) (sound : core_sound s) where
       let vertices : List ℕ = slice_index_or s.part.refresh_to k [] in
       let rows : List PlainRow = map (λ v. plain_row (own_row s v)) vertices in
       let bools : ℕ = bool_bits (kinds ++ value.Bool ∷ []) in
-      let fit = refresh_fits (length vertices) (length kinds) bools rows
-      (length-map vertices (λ v. plain_row (own_row s v)),
-      mapped_all (λ v. lies_in s.part.ends (machine s) v ≡ true) (IsPlainRow (length kinds) bools) (λ v. plain_row (own_row s v)) vertices
-      (refresh_to_own s.part s.split sound.can k within other)
-      (λ v lies. sent_row kinds (own_row s v) (own_is_row v lies))) in
+      let fit = refresh_fits (length vertices) (length kinds) bools rows (
+        length-map vertices (λ v. plain_row (own_row s v)),
+        mapped_all (λ v. lies_in s.part.ends (machine s) v ≡ true) (IsPlainRow (length kinds) bools)
+            (λ v. plain_row (own_row s v)) vertices
+            (refresh_to_own s.part s.split sound.can k within other)
+            (λ v lies. sent_row kinds (own_row s v) (own_is_row v lies)),
+      ) in
       ap (λ b. is_fit (Refresh (length (if b then vertices else slice_index_or s.part.refresh_of (machine s) []))
       (length (kinds ++ value.Bool ∷ [])) bools) (refresh_sent s k)) same_machine
       ∙ ap (λ n. is_fit (Refresh (length vertices) n bools) (refresh_sent s k)) (flag_count kinds)
@@ -305,21 +340,25 @@ module _ (s : State) (sound : core_sound s) where
       let all : AllByRecursion (IsSend kinds) sends =
       mapped_all (λ v. lies_in s.part.ends (machine s) v ≡ true) (IsSend kinds) (own_sends s r) vertices
       (push_to_own s.part s.split sound.can k within other)
-      (λ v lies words e.
-      (sent_count (program_of s.split).sparse (seen_env (own_sight s r) v 0 (none s.split)) words e,
-      own_sends_fit s sound.can sound.fits r v low (own_small s.part s.split sound.can v lies) words e)) in
+      (λ v lies words e. (
+        sent_count (program_of s.split).sparse (seen_env (own_sight s r) v 0 (none s.split)) words e,
+        own_sends_fit s sound.can sound.fits r v low (own_small s.part s.split sound.can v lies) words e,
+      )) in
       let fit = push_fits (length vertices) (length kinds) (bool_bits kinds) sends (record {
         count = length-map vertices (own_sends s r);
         each = sends_words kinds sends all;
         typed = sends_typed kinds sends all;
       }) in
-      ap (λ b. is_fit (Push (length (if b then vertices else slice_index_or s.part.push_of (machine s) [])) (length kinds) (bool_bits kinds))
+      ap (λ b. is_fit (Push (length (if b then vertices else slice_index_or s.part.push_of (machine s) []))
+      (length kinds) (bool_bits kinds))
       (push_sent s r k)) same_machine
       ∙ fit
 
-  begin_sent : (r : ℕ) → 1 ≤ r → r ≤ (program_of s.split).limit + 1 → (ruling : Ruling) → may_rule (blocks_of s.split) r ruling ≡ true →
+  begin_sent : (r : ℕ) → 1 ≤ r → r ≤ (program_of s.split).limit + 1 → (ruling : Ruling) →
+      may_rule (blocks_of s.split) r ruling ≡ true →
       AllByRecursion (HasForm s)
-      (map (λ x. let l : Letter = record { name = x; body = sent_at s (Begin r) x } in l) (begin_gives (p_of s) (machine s) r ruling))
+      (map (λ x. let l : Letter = record { name = x; body = sent_at s (Begin r) x } in l)
+      (begin_gives (p_of s) (machine s) r ruling))
   begin_sent r some low Stop may = tt
   begin_sent r some low Dense may =
       let b = and_parts (blocks_of s.split).dense (nat_le r (program_of s.split).limit) may in
@@ -328,7 +367,7 @@ module _ (s : State) (sound : core_sound s) where
       let other = has_others_cases (p_of s) (machine s) k sound.can.place has in
       formed (Begin r) Dense (refresh_name r (machine s) k) (refresh_sent s k) b.0 some
       (has_map (refresh_name r (machine s)) (others_of (p_of s) (machine s)) k has)
-      (both_true (nat_le 1 r) (nat_le r (program_of s.split).limit) (grind (arith, nat_tests, some)) b.1)
+      (and_from (nat_le 1 r) (nat_le r (program_of s.split).limit) (grind (arith, nat_tests, some)) b.1)
       (refresh_fit r k other.0 other.1))
   begin_sent r some low Sparse may =
       let b = and_parts (blocks_of s.split).sparse (nat_le r (program_of s.split).limit) may in
@@ -337,7 +376,7 @@ module _ (s : State) (sound : core_sound s) where
       let other = has_others_cases (p_of s) (machine s) k sound.can.place has in
       formed (Begin r) Sparse (push_name r (machine s) k) (push_sent s r k) b.0 some
       (has_map (push_name r (machine s)) (others_of (p_of s) (machine s)) k has)
-      (both_true (nat_le 1 r) (nat_le r (program_of s.split).limit) (grind (arith, nat_tests, some)) b.1)
+      (and_from (nat_le 1 r) (nat_le r (program_of s.split).limit) (grind (arith, nat_tests, some)) b.1)
       (push_fit r k (small s sound.can sound.fits r low) other.0 other.1))
 
   -- ---- updates and loop states
@@ -357,8 +396,7 @@ module _ (s : State) (sound : core_sound s) where
       let slots = few_slots (program_of s.split) s.split.program.typed in
       let reduced = few_reduced in
       let a = fit.value_count in
-      let b = fit.operand_count in
-      (
+      let b = fit.operand_count in (
         subst (λ n. AreValues n sent.values) fit.value_count
             (few_places sent.values (omega (arith, a, slots)) (there_fit sent.values fit.values)),
         subst (λ n. AreValues n sent.operands) fit.operand_count
@@ -366,7 +404,8 @@ module _ (s : State) (sound : core_sound s) where
       )
 
   update_fit : (r step h : ℕ) → r < 2 ^ 32 → step < p_of s - 1 →
-      is_fit (form_of s.split s.part kind.Update (update_name r step h (machine s) (chunk_of (machine s) step (p_of s)))) (scan_update s r step h)
+      is_fit (form_of s.split s.part kind.Update
+      (update_name r step h (machine s) (chunk_of (machine s) step (p_of s)))) (scan_update s r step h)
       ≡ true
   update_fit r step h low early =
       let place = sound.can.place in
@@ -377,17 +416,20 @@ module _ (s : State) (sound : core_sound s) where
       let f : ℕ → Sent = λ v. (scanned_at s r step h v).sent in
       let within : d < p_of s = chunk_low (machine s) step (p_of s) (omega (arith, place)) in
       let other : d ≢ machine s = chunk_other (machine s) step (p_of s) place early in
-      let fit = update_fits (length vertices) (slot_count s.split) (length (reduced_in s.split.dense)) (map f vertices)
-      (length-map vertices f,
-      mapped_all (λ v. v < 2 ^ 32) (IsSent (slot_count s.split) (length (reduced_in s.split.dense))) f vertices
-      (All-filter (is_within range) (λ v. v < 2 ^ 32) all (mirrors_small s.part s.split sound.can d within other))
-      (λ v id. sent_is (f v) (scan_fits s sound.can sound.fits r step h v low (omega (arith, early)) id).sent)) in
-      ap (λ b. is_fit (Update (count_within range (if b then all else slice_index_or s.part.refresh_to (machine s) [])) (slot_count s.split)
+      let fit = update_fits (length vertices) (slot_count s.split) (length (reduced_in s.split.dense)) (map f vertices) (
+        length-map vertices f,
+        mapped_all (λ v. v < 2 ^ 32) (IsSent (slot_count s.split) (length (reduced_in s.split.dense))) f vertices
+            (All-filter (is_within range) (λ v. v < 2 ^ 32) all (mirrors_small s.part s.split sound.can d within other))
+            (λ v id. sent_is (f v) (scan_fits s sound.can sound.fits r step h v low (omega (arith, early)) id).sent),
+      ) in
+      ap (λ b. is_fit (Update (count_within range (if b then all else slice_index_or s.part.refresh_to (machine s) []))
+      (slot_count s.split)
       (length (reduced_in s.split.dense))) (scan_update s r step h)) same_machine
       ∙ fit
 
   dep_fit : (r step h : ℕ) → r < 2 ^ 32 → step < p_of s - 1 →
-      is_fit (form_of s.split s.part kind.Dep (dep_name r step h (machine s) (after_machine (machine s) (p_of s)))) (scan_dep s r step h) ≡ true
+      is_fit (form_of s.split s.part kind.Dep (dep_name r step h (machine s) (after_machine (machine s) (p_of s))))
+      (scan_dep s r step h) ≡ true
   dep_fit r step h low early =
       let place = sound.can.place in
       let d : ℕ = chunk_of (machine s) step (p_of s) in
@@ -400,7 +442,8 @@ module _ (s : State) (sound : core_sound s) where
       let fits = (back_law width bools (map f vertices)
       (mapped_all (λ v. v < 2 ^ 32) (IsState width bools) f vertices (half_small s.part s.split d h sound.can within)
       (λ v id. (scan_fits s sound.can sound.fits r step h v low (omega (arith, early)) id).state))).0 in
-      let count : length (map f vertices) ≡ size_of range = length-map vertices f ∙ length-range_with_len range.0 (size_of range) in
+      let count : length (map f vertices) ≡ size_of range =
+      length-map vertices f ∙ length-range_with_len range.0 (size_of range) in
       ap is_none (subst (λ n. refusal_of width n bools (spelled (map f vertices)) ≡ None) count fits)
 
   scan_sent : (r step h : ℕ) → (blocks_of s.split).dense ≡ true → TakesPlace s r → step < p_of s → h ≤ 1 →
@@ -414,7 +457,8 @@ module _ (s : State) (sound : core_sound s) where
           (map (λ x. let l : Letter = record { name = x; body = sent_at s (Scan r step h) x } in l)
           (if b
           then update_name r step h (machine s) (chunk_of (machine s) step (p_of s))
-          ∷ name_if (ring_of s.split (p_of s)).carry (dep_name r step h (machine s) (after_machine (machine s) (p_of s)))
+          ∷ name_if (ring_of s.split (p_of s)).carry
+          (dep_name r step h (machine s) (after_machine (machine s) (p_of s)))
           else []))
       by false e = tt
       by true e =
@@ -424,28 +468,38 @@ module _ (s : State) (sound : core_sound s) where
           let y : Name = dep_name r step h (machine s) (after_machine (machine s) (p_of s)) in
           let carry : Bool = (ring_of s.split (p_of s)).carry in
           let range : (nat_le 1 r && nat_le r (program_of s.split).limit) ≡ true =
-          both_true (nat_le 1 r) (nat_le r (program_of s.split).limit) (grind (arith, nat_tests, place.0)) (grind (arith, nat_tests, place.1)) in
-          let given : (z : Name) → Has (x ∷ name_if carry y) z → Has (gives_of (ring_of s.split (p_of s)) (machine s) (Scan r step h) Dense) z =
-          λ z has. subst (λ b. Has (if b then x ∷ name_if carry y else []) z) (sym e) has in
-          (
-            formed (Scan r step h) Dense x (scan_update s r step h) block (place.0, low, one, refl) (given x (inl refl)) range
+          and_from (nat_le 1 r) (nat_le r (program_of s.split).limit) (grind (arith, nat_tests, place.0))
+          (grind (arith, nat_tests, place.1)) in
+          let given : (z : Name) → Has (x ∷ name_if carry y) z →
+          Has (gives_of (ring_of s.split (p_of s)) (machine s) (Scan r step h) Dense) z =
+          λ z has. subst (λ b. Has (if b then x ∷ name_if carry y else []) z) (sym e) has in (
+            formed (Scan r step h) Dense x (scan_update s r step h) block (place.0, low, one, refl)
+                (given x (inl refl)) range
                 (update_fit r step h small early),
             deps carry refl
-                (λ has. formed (Scan r step h) Dense y (scan_dep s r step h) block (place.0, low, one, refl) (given y (inr has)) range
+                (λ has. formed (Scan r step h) Dense y (scan_dep s r step h) block (place.0, low, one, refl)
+                (given y (inr has)) range
                 (dep_fit r step h small early)),
           )
         where
           deps : (c : Bool) → (ring_of s.split (p_of s)).carry ≡ c →
-              (Has (name_if (ring_of s.split (p_of s)).carry (dep_name r step h (machine s) (after_machine (machine s) (p_of s))))
+              (Has (name_if (ring_of s.split (p_of s)).carry
+              (dep_name r step h (machine s) (after_machine (machine s) (p_of s))))
               (dep_name r step h (machine s) (after_machine (machine s) (p_of s))) →
               HasForm s
-              (record { name = dep_name r step h (machine s) (after_machine (machine s) (p_of s)); body = scan_dep s r step h })) →
+              (record {
+                name = dep_name r step h (machine s) (after_machine (machine s) (p_of s));
+                body = scan_dep s r
+                    step h;
+              })) →
               AllByRecursion (HasForm s)
               (map (λ x. let l : Letter = record { name = x; body = sent_at s (Scan r step h) x } in l)
               (name_if c (dep_name r step h (machine s) (after_machine (machine s) (p_of s)))))
-          deps true e form =
-              (form (subst (λ b. Has (name_if b (dep_name r step h (machine s) (after_machine (machine s) (p_of s))))
-              (dep_name r step h (machine s) (after_machine (machine s) (p_of s)))) (sym e) (inl refl)), tt)
+          deps true e form = (
+            form (subst (λ b. Has (name_if b (dep_name r step h (machine s) (after_machine (machine s) (p_of s))))
+                (dep_name r step h (machine s) (after_machine (machine s) (p_of s)))) (sym e) (inl refl)),
+            tt,
+          )
           deps false e form = tt
 
   sent_by_spot : (spot : Spot) → FitsSpot s spot → ((r : ℕ) → spot ≡ Begin r → IsRuled s r) →
@@ -457,10 +511,12 @@ module _ (s : State) (sound : core_sound s) where
   sent_by_spot (Begin r) fits ruled = begin_sent r fits.0 fits.1 s.ruling (ruled r refl).1
   sent_by_spot (Scan r step h) fits ruled = scan_sent r step h fits.0 fits.1 fits.2 fits.3
   sent_by_spot (Close r true) fits ruled =
-      tally_sent (Close r true) Dense r (tally_body (counted s.part s.split (closed_rows s r true) s.reading r)) fits.0 (fits.1.0, refl) refl
+      tally_sent (Close r true) Dense r (tally_body (counted s.part s.split (closed_rows s r true) s.reading r)) fits.0
+      (fits.1.0, refl) refl
       fits.1.1 (closed_fit r true fits.1)
   sent_by_spot (Close r false) fits ruled =
-      tally_sent (Close r false) Sparse r (tally_body (counted s.part s.split (closed_rows s r false) s.reading r)) fits.0 (fits.1.0, refl) refl
+      tally_sent (Close r false) Sparse r (tally_body (counted s.part s.split (closed_rows s r false) s.reading r))
+      fits.0 (fits.1.0, refl) refl
       fits.1.1 (closed_fit r false fits.1)
   sent_by_spot Over fits ruled = tt
 

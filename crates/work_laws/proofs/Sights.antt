@@ -40,7 +40,8 @@ pub record SightFits (kinds : List ValueType) (g : Sight) : Type 0 where
   pub ins : (v : ℕ) → g.ins v < 2 ^ 32
   pub outs : (v : ℕ) → g.outs v < 2 ^ 32
 
-pub seen_has : (k : Kinds) (g : Sight) (v key : ℕ) (slots : List (Option ℤ)) → SightFits k.fields g → v < 2 ^ 32 → SlotsFit slots →
+pub seen_has : (k : Kinds) (g : Sight) (v key : ℕ) (slots : List (Option ℤ)) → SightFits k.fields g → v < 2 ^ 32 →
+    SlotsFit slots →
     HasKinds k (seen_env g v key slots)
 seen_has k g v key slots sees small fit = record {
   fields = sees.rows v;
@@ -87,7 +88,8 @@ pub record Looped (k : Kinds) (locals most : ℕ) (ran : Ran) : Type 0 where
   pub count : length ran.env.locals.items ≡ locals
   pub few : length ran.reads ≤ most
 
-looped_by : (k : Kinds) (locals most : ℕ) (flow : Flow) (first rest : Ran) → Looped k locals 1 first → Looped k locals most rest →
+looped_by : (k : Kinds) (locals most : ℕ) (flow : Flow) (first rest : Ran) → Looped k locals 1 first →
+    Looped k locals most rest →
     Looped k locals (suc most) (by_flow flow first (after first rest))
 looped_by k locals most Broke first rest p q =
     let few = p.few in record { kinds = p.kinds; count = p.count; few = omega (arith, few) }
@@ -100,8 +102,10 @@ looped_by k locals most Going first rest p q =
       few = omega (arith, a, b, length-append first.reads rest.reads);
     }
 
-module _ (k : Kinds) (g : Sight) (body : List Stmt) (sees : SightFits k.fields g) (typed : body_typed k body ≡ true) (fit : body_fits body ≡ true) where
-  act_looped : (e : Edge) (env : Env) → IsEdge e → HasKinds k env → Looped k (length env.locals.items) 1 (seen_act g body e env)
+module _ (k : Kinds) (g : Sight) (body : List Stmt) (sees : SightFits k.fields g) (typed : body_typed k body ≡ true)
+    (fit : body_fits body ≡ true) where
+  act_looped : (e : Edge) (env : Env) → IsEdge e → HasKinds k env →
+      Looped k (length env.locals.items) 1 (seen_act g body e env)
   act_looped e env edge has =
       let at : Env = seen_at g e env in
       let kept = run_keeps k body typed fit at (seen_at_has k g e env sees edge has) in
@@ -128,9 +132,11 @@ either_fits false x y p q = q
 
 degree_fits : (ds : List Degree) (v : ℕ) → All AreCounts ds → AreCounts (degree_among ds v)
 degree_fits [] v h = record { ins = omega arith; outs = omega arith }
-degree_fits (d ∷ ds) v h = either_fits (d.id.0 == v) d (degree_among ds v) (All-head AreCounts d ds h) (degree_fits ds v (All-tail AreCounts d ds h))
+degree_fits (d ∷ ds) v h = either_fits (d.id.0 == v) d (degree_among ds v) (All-head AreCounts d ds h)
+    (degree_fits ds v (All-tail AreCounts d ds h))
 
-pub part_sees : (part : PlainPart) (split : Split) (kinds : List ValueType) (r : ℕ) (totals : List ℤ) (row : ℕ → Row) → CanRun part split →
+pub part_sees : (part : PlainPart) (split : Split) (kinds : List ValueType) (r : ℕ) (totals : List ℤ) (row : ℕ → Row) →
+    CanRun part split →
     r < 2 ^ 32 → ((i : ℕ) → FitsSigned w64 (word_at totals i)) → ((v : ℕ) → AreWords kinds (row v).words.items) →
     SightFits kinds (part_sight part r totals row)
 part_sees part split kinds r totals row can small fit are =

@@ -2,6 +2,7 @@
 use Rattle.std.proofs.Common.{◌≡◌, ◌<◌, ◌≤◌, ◌+◌, ◌-◌, ◌==◌, ◌^◌, ℕ, zero, suc, ℤ, Bool, true, false, ◌&&◌, List, [], ◌∷◌, ◌++◌, map, length, All, refl, sym, ap, subst, ◌∙◌, Option, None, Some, FitsSigned, w64, arith}
 use Rattle.std.specs.Prelude.{if◌then◌else◌, slice_index, slice_index_or}
 use Rattle.std.specs.List.{AllByRecursion}
+use Rattle.std.proofs.lemmas.Option.{same_Some}
 use Rattle.std.proofs.lemmas.List.Elements.{All-head, All-nil, All-tail}
 use Rattle.std.proofs.lemmas.List.FromFn.{length-range_with_len}
 use Rattle.vert_base.specs.declared.graph.Edge.{Edge}
@@ -48,10 +49,8 @@ use Rattle.work_laws.proofs.Partials.{IsAmong, emissions_more, own_at, set_own}
 use Rattle.work_laws.proofs.Sees.{all_two, emptied_all, own_sees, own_small, push_edges}
 use Rattle.work_laws.proofs.Sights.{SightFits, seen_has}
 
-same_words : (a b : List ℤ) → Some a ≡ Some b → a ≡ b
-same_words a b e = cc
-
-received_has : (k : Kinds) (kinds : List ValueType) (g : Sight) (e : Edge) (ws : List ℤ) (env : Env) → IsEdge e → AreWords kinds ws →
+received_has : (k : Kinds) (kinds : List ValueType) (g : Sight) (e : Edge) (ws : List ℤ) (env : Env) → IsEdge e →
+    AreWords kinds ws →
     HasKinds k env → HasKinds (record k { sends = kinds }) (at_receiver g e ws env)
 received_has k kinds g e ws env edge are has = record {
   fields = has.fields;
@@ -79,7 +78,8 @@ block_of p b fit is =
     (subst (λ o. option_all sparse_fits o ≡ true) is own.sparse.1)
 
 pushed_fit : (split : Split) → IsFitting (program_of split) → (g : Sight) (key : ℕ) (ws : List ℤ) (e : Edge) →
-    SightFits (field_kinds (program_of split)).fields g → target e < 2 ^ 32 → IsEdge e → AreWords (send_kinds split) ws →
+    SightFits (field_kinds (program_of split)).fields g → target e < 2 ^ 32 → IsEdge e →
+    AreWords (send_kinds split) ws →
     All WordFits (pushed_to (program_of split).sparse split g key ws e)
 pushed_fit split fit g key ws e sees small edge are = by (program_of split).sparse refl
   where
@@ -90,14 +90,18 @@ pushed_fit split fit g key ws e sees small edge are = by (program_of split).spar
         let own = block_of (program_of split) b fit is in
         let env : Env = seen_env g (target e) key (none split) in
         let has = seen_has k g (target e) key (none split) sees small (no_values_fit (slot_ops (program_of split))) in
-        (run_keeps (record k { sends = kinds_of b.sends.items }) b.body.items own.body.0 own.body.1 (at_receiver g e ws env)
-        (received_has k (kinds_of b.sends.items) g e ws env edge (subst (λ o. AreWords (kinds_of (sends_in o)) ws) is are) has)).emitted
+        (run_keeps (record k { sends = kinds_of b.sends.items }) b.body.items own.body.0 own.body.1
+        (at_receiver g e ws env)
+        (received_has k (kinds_of b.sends.items) g e ws env edge
+        (subst (λ o. AreWords (kinds_of (sends_in o)) ws) is are) has)).emitted
 
-sent_if : (kinds : List ValueType) (b : Bool) (ws : List ℤ) → AreWords kinds ws → SendFits kinds (if b then Some ws else None)
-sent_if kinds true ws are words e = subst (AreWords kinds) (same_words ws words e) are
+sent_if : (kinds : List ValueType) (b : Bool) (ws : List ℤ) → AreWords kinds ws →
+    SendFits kinds (if b then Some ws else None)
+sent_if kinds true ws are words e = subst (AreWords kinds) (same_Some ws words e) are
 sent_if kinds false ws are words e = cc
 
-pub sends_fit : (split : Split) → IsFitting (program_of split) → (env : Env) → HasKinds (field_kinds (program_of split)) env →
+pub sends_fit : (split : Split) → IsFitting (program_of split) → (env : Env) →
+    HasKinds (field_kinds (program_of split)) env →
     SendFits (send_kinds split) (sends_at (program_of split).sparse env)
 sends_fit split fit env has = by (program_of split).sparse refl
   where
@@ -131,7 +135,8 @@ module _ (s : State) (can : CanRun s.part s.split) (fits : HoldsFit s.part s.spl
   sends_from_fit : (r : ℕ) → r < 2 ^ 32 → AllSend (sends_from s r)
   sends_from_fit r small u = by (lies_in s.part.ends (machine s) u) refl
     where
-      by : (b : Bool) → lies_in s.part.ends (machine s) u ≡ b → SendFits (send_kinds s.split) (if b then own_sends s r u else None)
+      by : (b : Bool) → lies_in s.part.ends (machine s) u ≡ b →
+          SendFits (send_kinds s.split) (if b then own_sends s r u else None)
       by true lies = own_sends_fit r u small (own_small s.part s.split can u lies)
       by false lies = λ words e. cc
 
@@ -150,7 +155,8 @@ module _ (s : State) (can : CanRun s.part s.split) (fits : HoldsFit s.part s.spl
 
   pushed_edges : All IsPushed s.part.push
   pushed_edges =
-      all_two (λ e. lies_in s.part.ends (machine s) (target e) ≡ true) IsEdge IsPushed s.part.push (λ e lies edge. (lies, edge))
+      all_two (λ e. lies_in s.part.ends (machine s) (target e) ≡ true) IsEdge IsPushed s.part.push
+      (λ e lies edge. (lies, edge))
       can.whole.push_chunk (push_edges s.part s.split can)
 
   abbrev Rows : List (List Partial) → Type 0
@@ -163,34 +169,41 @@ module _ (s : State) (can : CanRun s.part s.split) (fits : HoldsFit s.part s.spl
       let key : ℕ = key_of (vertices_of s.part.ends) (slice_index s.part.ends (machine s)) (source e) in
       let emitted = pushed_to (program_of s.split).sparse s.split (own_sight s r) key ws e in
       let v : ℕ = target e in
-      set_own s.part (ArePartials s.split) all (v - own_start s) (with_emissions key (slice_index_or all (v - own_start s) []) emitted) are
+      set_own s.part (ArePartials s.split) all (v - own_start s)
+      (with_emissions key (slice_index_or all (v - own_start s) []) emitted) are
       (emissions_more s.split key (slice_index_or all (v - own_start s) []) emitted
-      (pushed_fit s.split can.program (own_sight s r) key ws e (own_sees s can fits r small) (own_small s.part s.split can v pushed.0) pushed.1
+      (pushed_fit s.split can.program (own_sight s r) key ws e (own_sees s can fits r small)
+      (own_small s.part s.split can v pushed.0) pushed.1
       (sends ws refl))
       (own_at s.part (ArePartials s.split) all [] v are (lies_among s.part v pushed.0)))
 
-  pub worked_are : (r : ℕ) (f : ℕ → Option (List ℤ)) (es : List Edge) (all : List (List Partial)) → r < 2 ^ 32 → AllSend f →
+  pub worked_are : (r : ℕ) (f : ℕ → Option (List ℤ)) (es : List Edge) (all : List (List Partial)) → r < 2 ^ 32 →
+      AllSend f →
       All IsPushed es → Rows all → Rows (worked s r f es all)
   worked_are r f [] all small sends edges are = are
   worked_are r f (e ∷ es) all small sends edges are =
       worked_are r f es (edge_worked s r e (f (source e)) all) small sends (All-tail IsPushed e es edges)
       (edge_are r e (f (source e)) all small (All-head IsPushed e es edges) (sends (source e)) are)
 
-  pub push_worked : (r : ℕ) (f : ℕ → Option (List ℤ)) → r < 2 ^ 32 → AllSend f → Rows (worked s r f s.part.push s.partials)
+  pub push_worked : (r : ℕ) (f : ℕ → Option (List ℤ)) → r < 2 ^ 32 → AllSend f →
+      Rows (worked s r f s.part.push s.partials)
   push_worked r f small sends = worked_are r f s.part.push s.partials small sends pushed_edges fits.partials
 
-  all_are : (r : ℕ) (fs : List (ℕ → Option (List ℤ))) (all : List (List Partial)) → r < 2 ^ 32 → AllByRecursion AllSend fs → Rows all →
+  all_are : (r : ℕ) (fs : List (ℕ → Option (List ℤ))) (all : List (List Partial)) → r < 2 ^ 32 →
+      AllByRecursion AllSend fs → Rows all →
       Rows (all_worked s r fs all)
   all_are r [] all small sends are = are
   all_are r (f ∷ fs) all small sends are =
-      all_are r fs (worked s r f s.part.push all) small sends.1 (worked_are r f s.part.push all small sends.0 pushed_edges are)
+      all_are r fs (worked s r f s.part.push all) small sends.1
+      (worked_are r f s.part.push all small sends.0 pushed_edges are)
 
   kept_all : (r : ℕ) (ks : List ℕ) → AllByRecursion AllSend (map (kept_sends s r) ks)
   kept_all r [] = tt
   kept_all r (k ∷ ks) = (kept_fit r k, kept_all r ks)
 
   first_all : (r : ℕ) (ruling : Ruling) → r < 2 ^ 32 →
-      AllByRecursion AllSend (own_first ruling (sends_from s r) ++ map (kept_sends s r) (others_of (p_of s) (machine s)))
+      AllByRecursion AllSend (own_first ruling (sends_from s r) ++ map (kept_sends s r)
+      (others_of (p_of s) (machine s)))
   first_all r Stop small = kept_all r (others_of (p_of s) (machine s))
   first_all r Dense small = kept_all r (others_of (p_of s) (machine s))
   first_all r Sparse small = (sends_from_fit r small, kept_all r (others_of (p_of s) (machine s)))
@@ -198,7 +211,8 @@ module _ (s : State) (can : CanRun s.part s.split) (fits : HoldsFit s.part s.spl
   pub begin_go_fits : (r : ℕ) → r < 2 ^ 32 → HoldsFit s.part s.split (begin_go s r)
   begin_go_fits r small = record {
     rows = fits.rows;
-    partials = all_are r (own_first s.ruling (sends_from s r) ++ map (kept_sends s r) (others_of (p_of s) (machine s))) s.partials small
+    partials = all_are r (own_first s.ruling (sends_from s r) ++ map (kept_sends s r) (others_of (p_of s) (machine s)))
+        s.partials small
         (first_all r s.ruling small) fits.partials;
     ring = fits.ring;
     held = emptied_all s.split s.part (pushes s r) s.held fits.held;

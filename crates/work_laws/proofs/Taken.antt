@@ -3,6 +3,7 @@ use Rattle.std.proofs.Common.{◌≡◌, ◌≢◌, ◌<◌, ◌≤◌, ◌+◌,
 use Rattle.std.specs.Prelude.{if◌then◌else◌, is_some, nat_le, slice_index_or}
 use Rattle.std.specs.List.{AllByRecursion}
 use Rattle.std.proofs.lemmas.Bool.{and_parts, leb-true}
+use Rattle.std.proofs.lemmas.Option.{same_Some}
 use Rattle.std.proofs.lemmas.List.Elements.{All-cons, All-nil}
 use Rattle.vert_base.specs.declared.message.Name.{Name}
 use Rattle.vert_base.specs.declared.message.NameKind.{NameKind}
@@ -48,7 +49,8 @@ use Rattle.work_laws.proofs.Sparse.{push_worked, told_fit}
 use Rattle.work_laws.proofs.Words.{MayFit}
 
 -- ---- what is held
-placed_all : (P : Letter → Type 0) (l : Letter) (held : List Letter) → P l → AllByRecursion P held → AllByRecursion P (placed l held)
+placed_all : (P : Letter → Type 0) (l : Letter) (held : List Letter) → P l → AllByRecursion P held →
+    AllByRecursion P (placed l held)
 placed_all P l [] p all = (p, tt)
 placed_all P l (y ∷ ys) p all = by (is_before y.name l.name) (placed_all P l ys p all.1)
   where
@@ -57,20 +59,26 @@ placed_all P l (y ∷ ys) p all = by (is_before y.name l.name) (placed_all P l y
     by false rest = (p, all)
 
 -- ---- an update
-filled_fit : (flags : List Bool) (xs : List ℤ) → AllByRecursion (FitsSigned w64) xs → AllByRecursion MayFit (filled flags xs)
+filled_fit : (flags : List Bool) (xs : List ℤ) → AllByRecursion (FitsSigned w64) xs →
+    AllByRecursion MayFit (filled flags xs)
 filled_fit [] xs all = tt
 filled_fit (false ∷ flags) xs all = (λ z e. cc, filled_fit flags xs all)
 filled_fit (true ∷ flags) [] all = (λ z e. cc, filled_fit flags [] tt)
-filled_fit (true ∷ flags) (x ∷ xs) all = (λ z e. subst (FitsSigned w64) (same_some x z e) all.0, filled_fit flags xs all.1)
-  where
-    same_some : (a b : ℤ) → Some a ≡ Some b → a ≡ b
-    same_some a b e = cc
+filled_fit (true ∷ flags) (x ∷ xs) all = (
+  λ z e. subst (FitsSigned w64) (same_Some x z e) all.0,
+  filled_fit flags xs
+      all.1,
+)
 
-values_are : (count mask : ℕ) (bytes : List ℕ) → (length (values_in count mask bytes) ≡ count) × AllByRecursion MayFit (values_in count mask bytes)
+values_are : (count mask : ℕ) (bytes : List ℕ) → (length (values_in count mask bytes) ≡ count) × AllByRecursion MayFit
+    (values_in count mask bytes)
 values_are count mask bytes =
     let flags : List Bool = flags_of count mask in
-    let words : List ℤ = words_in (set_count flags) bytes in
-    (length-placed flags words ∙ length-flags_of count mask, filled_fit flags words (fits-words_in (set_count flags) bytes))
+    let words : List ℤ = words_in (set_count flags) bytes in (
+      length-placed flags words ∙ length-flags_of count mask,
+      filled_fit flags words
+          (fits-words_in (set_count flags) bytes),
+    )
 
 sent_with_fits : (split : Split) (low high : ℕ) (bytes : List ℕ) →
     SentFits split (sent_with (slot_count split) (length (reduced_in split.dense)) low high bytes)
@@ -79,7 +87,8 @@ sent_with_fits split low high bytes =
     let operands = values_are (length (reduced_in split.dense)) high (behind_values (slot_count split) low bytes) in
     record { value_count = values.0; values = values.1; operand_count = operands.0; operands = operands.1 }
 
-sent_at_fits : (split : Split) (bytes : List ℕ) → SentFits split (sent_at (slot_count split) (length (reduced_in split.dense)) bytes)
+sent_at_fits : (split : Split) (bytes : List ℕ) → SentFits split
+    (sent_at (slot_count split) (length (reduced_in split.dense)) bytes)
 sent_at_fits split [] = sent_with_fits split 0 0 []
 sent_at_fits split (low ∷ []) = sent_with_fits split 0 0 []
 sent_at_fits split (low ∷ high ∷ bytes) = sent_with_fits split low high bytes
@@ -90,7 +99,8 @@ sents_fit split zero bytes = All-nil (SentFits split)
 sents_fit split (suc count) bytes =
     let slots : ℕ = slot_count split in
     let reduced : ℕ = length (reduced_in split.dense) in
-    All-cons (SentFits split) (sent_at slots reduced bytes) (sents_read slots reduced count (behind_sent slots reduced bytes))
+    All-cons (SentFits split) (sent_at slots reduced bytes)
+    (sents_read slots reduced count (behind_sent slots reduced bytes))
     (sent_at_fits split bytes) (sents_fit split count (behind_sent slots reduced bytes))
 
 update_fits : (s : State) (x : Name) (body : List ℕ) (v : ℕ) → SentFits s.split (update_of s x body v)
@@ -103,7 +113,8 @@ update_fits s x body v =
 -- ---- the spot
 -- what is held and the partials count for no spot but that of a begin, where it is asked whether the totals are known
 spot_kept : (s : State) (held : List Letter) (partials : List (List Partial)) (spot : Spot) →
-    known (record s { held = held; partials = partials }) ≡ known s → FitsSpot s spot → FitsSpot (record s { held = held; partials = partials }) spot
+    known (record s { held = held; partials = partials }) ≡ known s → FitsSpot s spot →
+    FitsSpot (record s { held = held; partials = partials }) spot
 spot_kept s held partials Tell same fits = tt
 spot_kept s held partials (Judge r) same fits = fits
 spot_kept s held partials (Begin r) same fits = (fits.0, fits.1, λ k. fits.2 (sym same ∙ k))
@@ -113,7 +124,8 @@ spot_kept s held partials (Close r false) same fits = fits
 spot_kept s held partials Over same fits = tt
 
 spot_ruled : (s : State) (held : List Letter) (ruling : Ruling) (spot : Spot) → FitsSpot s spot →
-    ((r : ℕ) → spot ≡ Begin r → IsRuled (record s { ruling = ruling }) r) → FitsSpot (record s { held = held; ruling = ruling }) spot
+    ((r : ℕ) → spot ≡ Begin r → IsRuled (record s { ruling = ruling }) r) →
+    FitsSpot (record s { held = held; ruling = ruling }) spot
 spot_ruled s held ruling Tell fits ruled = tt
 spot_ruled s held ruling (Judge r) fits ruled = fits
 spot_ruled s held ruling (Begin r) fits ruled = (fits.0, fits.1, λ k. ruled r refl)
@@ -127,7 +139,8 @@ known_same : (s : State) (l : Letter) (partials : List (List Partial)) → l.nam
     known (record s { held = placed l s.held; partials = partials }) ≡ known s
 known_same s l partials other =
     let x : Name = verdict_name s.at.round (machine s) in
-    let apart : same_name l.name x ≡ false = not_true (same_name l.name x) (λ e. other (ap (λ y. y.kind) (names_law l.name x e))) in
+    let apart : same_name l.name x ≡ false =
+    not_true (same_name l.name x) (λ e. other (ap (λ y. y.kind) (names_law l.name x e))) in
     ap (λ b. if machine s == 0 then nat_le 1 s.at.round else b)
     (placed_held l s.held x ∙ ap (λ b. b || is_some (found x s.held)) apart)
 
@@ -135,12 +148,14 @@ module _ (s : State) (l : Letter) (sound : core_sound s) (takes : IsTakeable s l
   form : FitsForm s.split s.part l
   form = (takes.shape, takes.has, takes.fits)
 
-  shaped : (is_planned s.split (p_of s) (machine s) l.name ≡ true) × (form_of s.split s.part l.name.kind l.name ≡ takes.shape)
+  shaped : (is_planned s.split (p_of s) (machine s) l.name ≡ true) ×
+      (form_of s.split s.part l.name.kind l.name ≡ takes.shape)
   shaped = shape_parts s.split s.part l.name takes.shape takes.has
 
   -- with a message and these partials
   with_held : (held : List Letter) (partials : List (List Partial)) → AllByRecursion (IsHeld s.split s.part) held →
-      HoldsFit s.part s.split (record s { partials = partials }) → known (record s { held = held; partials = partials }) ≡ known s →
+      HoldsFit s.part s.split (record s { partials = partials }) →
+      known (record s { held = held; partials = partials }) ≡ known s →
       core_sound (record s { held = held; partials = partials })
   with_held held partials all fits same = record {
     can = sound.can;
@@ -159,7 +174,8 @@ module _ (s : State) (l : Letter) (sound : core_sound s) (takes : IsTakeable s l
   }
 
   with_partials : (partials : List (List Partial)) →
-      (length partials ≡ length (own_vertices s)) × All (ArePartials s.split) partials → HoldsFit s.part s.split (record s { partials = partials })
+      (length partials ≡ length (own_vertices s)) × All (ArePartials s.split) partials →
+      HoldsFit s.part s.split (record s { partials = partials })
   with_partials partials are = record {
     rows = sound.fits.rows;
     partials = are;
@@ -184,7 +200,8 @@ module _ (s : State) (l : Letter) (sound : core_sound s) (takes : IsTakeable s l
   update_sound other =
       with_held (noted l s.held) (with_update s l.name l.body) noted_held
       (with_partials (with_update s l.name l.body)
-      (made_own s.part (ArePartials s.split) (λ v. with_sent l.name.step (update_of s l.name l.body v) (own_partials s v))
+      (made_own s.part (ArePartials s.split) (λ v. with_sent l.name.step (update_of s l.name l.body v)
+      (own_partials s v))
       (λ v among.
       sent_more s.split l.name.step (update_of s l.name l.body v) (own_partials s v) (update_fits s l.name l.body v)
       (own_partials_are s sound.can sound.fits v among))))
@@ -199,7 +216,8 @@ module _ (s : State) (l : Letter) (sound : core_sound s) (takes : IsTakeable s l
       let c = and_parts (serves (blocks_of s.split) x.kind) _ b.1 in
       let d : (nat_le 1 x.round && nat_le x.round (program_of s.split).limit) ≡ true =
       ap (λ k. is_in_range (program_of s.split).limit k x.round) (sym is) ∙ c.1 in
-      leb-true x.round (program_of s.split).limit (and_parts (nat_le 1 x.round) (nat_le x.round (program_of s.split).limit) d).1
+      leb-true x.round (program_of s.split).limit
+      (and_parts (nat_le 1 x.round) (nat_le x.round (program_of s.split).limit) d).1
 
   push_sound : l.name.kind ≡ kind.Push → l.name.kind ≢ kind.Verdict → core_sound (take_push s l)
   push_sound is other = by (known s)
@@ -213,7 +231,8 @@ module _ (s : State) (l : Letter) (sound : core_sound s) (takes : IsTakeable s l
           }
           else record s { held = placed l s.held })
       by true =
-          let partials : List (List Partial) = worked s l.name.round (told_sends s l.name.from l.body) s.part.push s.partials in
+          let partials : List (List Partial) =
+          worked s l.name.round (told_sends s l.name.from l.body) s.part.push s.partials in
           with_held (noted l s.held) partials noted_held
           (with_partials partials
           (push_worked s sound.can sound.fits l.name.round (told_sends s l.name.from l.body)
@@ -237,7 +256,8 @@ module _ (s : State) (l : Letter) (sound : core_sound s) (takes : IsTakeable s l
       same_ruling a b (byte ∷ bytes) = refl
 
       rules : (ruling : Ruling) →
-          may_be (may_rule (blocks_of s.split) l.name.round Dense) (may_rule (blocks_of s.split) l.name.round Sparse) ruling ≡ true →
+          may_be (may_rule (blocks_of s.split) l.name.round Dense) (may_rule (blocks_of s.split) l.name.round Sparse)
+          ruling ≡ true →
           may_rule (blocks_of s.split) l.name.round ruling ≡ true
       rules Stop h = refl
       rules Dense h = h

@@ -21,12 +21,14 @@ use Rattle.work_laws.proofs.Taken.{take_sound}
 
 -- each body of a judge tells its ruling
 rules_all : (s : State) (r : ℕ) (xs : List Name) →
-    AllByRecursion (Rules (judge_at s (Judge r))) (map (λ x. let l : Letter = record { name = x; body = sent_at s (Judge r) x } in l) xs)
+    AllByRecursion (Rules (judge_at s (Judge r)))
+    (map (λ x. let l : Letter = record { name = x; body = sent_at s (Judge r) x } in l) xs)
 rules_all s r [] = tt
 rules_all s r (x ∷ xs) = (((sums_at s r).totals, refl), rules_all s r xs)
 
 rules_at : (s : State) (r : ℕ) (spot : Spot) → spot ≡ Judge r → (xs : List Name) →
-    AllByRecursion (Rules (judge_at s spot)) (map (λ x. let l : Letter = record { name = x; body = sent_at s spot x } in l) xs)
+    AllByRecursion (Rules (judge_at s spot)) (map
+    (λ x. let l : Letter = record { name = x; body = sent_at s spot x } in l) xs)
 rules_at s r spot e xs =
     subst
     (λ spot. AllByRecursion (Rules (judge_at s spot))

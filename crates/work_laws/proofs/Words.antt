@@ -2,7 +2,8 @@
 use Rattle.std.proofs.Common.{◌≡◌, ◌<◌, ◌≤◌, ◌+◌, ◌*◌, ◌/◌, ◌%◌, ◌==◌, inl, inr, ℕ, zero, suc, ℤ, pos, negsuc, Bool, true, false, ◌&&◌, ◌||◌, List, [], ◌∷◌, ◌++◌, map, length, All, refl, sym, ap, subst, ◌∙◌, Option, None, Some, FitsSigned, w64, arith, append-nil}
 use Rattle.std.specs.Prelude.{if◌then◌else◌, nat_lt, slice_get, slice_index_or}
 use Rattle.std.specs.List.{AllByRecursion}
-use Rattle.std.proofs.lemmas.Bool.{and_parts, eq-eqb, eqb-true, ltb-true, true≢false}
+use Rattle.std.proofs.lemmas.Bool.{and_from, and_parts, eq-eqb, eqb-true, ltb-true, or_left, or_right, true≢false}
+use Rattle.std.proofs.lemmas.Option.{same_Some}
 use Rattle.std.proofs.lemmas.List.Elements.{All-cons, All-head, All-nil, All-tail}
 use Rattle.vert_base.specs.declared.value.Combine.{Combine}
 use Rattle.vert_base.specs.declared.value.ValueType.{ValueType}
@@ -23,24 +24,12 @@ use Rattle.symple_face.specs.Ring.{closing, with_operand}
 use Rattle.symple_face.specs.Shapes.{types_at}
 use Rattle.work_laws.proofs.Reduced.{AreInts}
 
--- ---- lists
-pub by_recursion : {X : Type 0} (P : X → Type 0) (xs : List X) → All P xs → AllByRecursion P xs
-by_recursion P [] h = tt
-by_recursion P (x ∷ xs) h = (All-head P x xs h, by_recursion P xs (All-tail P x xs h))
-
-pub all_from : {X : Type 0} (P : X → Type 0) (xs : List X) → AllByRecursion P xs → All P xs
-all_from P [] h = All-nil P
-all_from P (x ∷ xs) h = All-cons P x xs h.0 (all_from P xs h.1)
-
-same_kind : (a b : ValueType) → Some a ≡ Some b → a ≡ b
-same_kind a b e = cc
-
 pub any_words : (words : List ℤ) → AreWords [] words
 any_words words i t e = cc
 
 pub cons_words : (t : ValueType) (kinds : List ValueType) (x : ℤ) (words : List ℤ) → IsWord t x → AreWords kinds words →
     AreWords (t ∷ kinds) (x ∷ words)
-cons_words t kinds x words is are zero u e = subst (λ k. IsWord k x) (same_kind t u e) is
+cons_words t kinds x words is are zero u e = subst (λ k. IsWord k x) (same_Some t u e) is
 cons_words t kinds x words is are (suc i) u e = are i u e
 
 -- each fits 64 bits
@@ -64,28 +53,18 @@ bool_suits : (x : ℤ) → IsTruth kind.Bool x → is_bool x ≡ true
 bool_suits x (inl e) = ap is_bool e
 bool_suits x (inr e) = ap is_bool e
 
-or_first : (a b : Bool) → a ≡ true → (a || b) ≡ true
-or_first a b e = ap (λ q. q || b) e
-
-or_second : (a b : Bool) → b ≡ true → (a || b) ≡ true
-or_second true b e = refl
-or_second false b e = e
-
-pub both_true : (a b : Bool) → a ≡ true → b ≡ true → (a && b) ≡ true
-both_true a b e f = ap (λ q. q && b) e ∙ f
-
 -- words of these types are Bools where their types are
 pub typed_words : (kinds : List ValueType) (words : List ℤ) → AreWords kinds words → length words ≡ length kinds →
     are_typed (bool_bits kinds) words ≡ true
 typed_words kinds [] are n = refl
 typed_words [] (x ∷ xs) are n = absurd (omega (arith, n))
 typed_words (kind.Int ∷ ks) (x ∷ xs) are n =
-    both_true (suits (2 * bool_bits ks) x) (are_typed (2 * bool_bits ks / 2) xs)
-    (or_first (2 * bool_bits ks % 2 == 0) (is_bool x) (even (bool_bits ks)))
+    and_from (suits (2 * bool_bits ks) x) (are_typed (2 * bool_bits ks / 2) xs)
+    (or_left (2 * bool_bits ks % 2 == 0) (is_bool x) (even (bool_bits ks)))
     (ap (λ b. are_typed b xs) (half_even (bool_bits ks)) ∙ typed_words ks xs (λ i. are (suc i)) (omega (arith, n)))
 typed_words (kind.Bool ∷ ks) (x ∷ xs) are n =
-    both_true (suits (1 + 2 * bool_bits ks) x) (are_typed ((1 + 2 * bool_bits ks) / 2) xs)
-    (or_second ((1 + 2 * bool_bits ks) % 2 == 0) (is_bool x) (bool_suits x (are zero kind.Bool refl).truth))
+    and_from (suits (1 + 2 * bool_bits ks) x) (are_typed ((1 + 2 * bool_bits ks) / 2) xs)
+    (or_right ((1 + 2 * bool_bits ks) % 2 == 0) (is_bool x) (bool_suits x (are zero kind.Bool refl).truth))
     (ap (λ b. are_typed b xs) (half_odd (bool_bits ks)) ∙ typed_words ks xs (λ i. are (suc i)) (omega (arith, n)))
 
 truth_of : (x : ℤ) → is_bool x ≡ true → IsTruth kind.Bool x
@@ -103,19 +82,22 @@ or_left_out n b h = by ((1 + 2 * n) % 2 == 0) refl h
 
 -- and words whose Bools are such, with others behind them, are of these types
 pub words_typed : (kinds more : List ValueType) (words others : List ℤ) → length words ≡ length kinds →
-    AllByRecursion (FitsSigned w64) words → are_typed (bool_bits (kinds ++ more)) (words ++ others) ≡ true → AreWords kinds words
+    AllByRecursion (FitsSigned w64) words → are_typed (bool_bits (kinds ++ more)) (words ++ others) ≡ true →
+    AreWords kinds words
 words_typed [] more words others n fits typed = any_words words
 words_typed (k ∷ ks) more [] others n fits typed = no_words (k ∷ ks)
 words_typed (kind.Int ∷ ks) more (x ∷ xs) others n fits typed =
     let b : ℕ = bool_bits (ks ++ more) in
     let parts = and_parts (suits (2 * b) x) (are_typed (2 * b / 2) (xs ++ others)) typed in
     cons_words kind.Int ks x xs (int_word x fits.0)
-    (words_typed ks more xs others (omega (arith, n)) fits.1 (ap (λ q. are_typed q (xs ++ others)) (sym (half_even b)) ∙ parts.1))
+    (words_typed ks more xs others (omega (arith, n)) fits.1
+    (ap (λ q. are_typed q (xs ++ others)) (sym (half_even b)) ∙ parts.1))
 words_typed (kind.Bool ∷ ks) more (x ∷ xs) others n fits typed =
     let b : ℕ = bool_bits (ks ++ more) in
     let parts = and_parts (suits (1 + 2 * b) x) (are_typed ((1 + 2 * b) / 2) (xs ++ others)) typed in
     cons_words kind.Bool ks x xs (record { fits = fits.0; truth = truth_of x (or_left_out b (is_bool x) parts.0) })
-    (words_typed ks more xs others (omega (arith, n)) fits.1 (ap (λ q. are_typed q (xs ++ others)) (sym (half_odd b)) ∙ parts.1))
+    (words_typed ks more xs others (omega (arith, n)) fits.1
+    (ap (λ q. are_typed q (xs ++ others)) (sym (half_odd b)) ∙ parts.1))
 
 pub words_alone : (kinds : List ValueType) (words : List ℤ) → length words ≡ length kinds →
     AllByRecursion (FitsSigned w64) words → are_typed (bool_bits kinds) words ≡ true → AreWords kinds words
@@ -140,13 +122,17 @@ pub carried_types : (all kinds : List ValueType) (i : ℕ) (cs : List Class) →
 carried_types all kinds i [] n same = refl
 carried_types all [] i (c ∷ cs) n same = absurd (omega (arith, n))
 carried_types all (k ∷ ks) i (Constant ∷ cs) n same =
-    carried_types all ks (i + 1) cs (omega (arith, n)) (λ j. ap (λ m. slice_index_or all m kind.Int) (omega arith) ∙ same (suc j))
+    carried_types all ks (i + 1) cs (omega (arith, n))
+    (λ j. ap (λ m. slice_index_or all m kind.Int) (omega arith) ∙ same (suc j))
 carried_types all (k ∷ ks) i (Reduced op ∷ cs) n same =
-    carried_types all ks (i + 1) cs (omega (arith, n)) (λ j. ap (λ m. slice_index_or all m kind.Int) (omega arith) ∙ same (suc j))
+    carried_types all ks (i + 1) cs (omega (arith, n))
+    (λ j. ap (λ m. slice_index_or all m kind.Int) (omega arith) ∙ same (suc j))
 carried_types all (k ∷ ks) i (Carried ∷ cs) n same =
-    ap (λ t. t ∷ types_at all (places_where is_carried (i + 1) cs)) (ap (λ m. slice_index_or all m kind.Int) (omega arith) ∙ same zero)
+    ap (λ t. t ∷ types_at all (places_where is_carried (i + 1) cs))
+    (ap (λ m. slice_index_or all m kind.Int) (omega arith) ∙ same zero)
     ∙ ap (λ ts. k ∷ ts)
-    (carried_types all ks (i + 1) cs (omega (arith, n)) (λ j. ap (λ m. slice_index_or all m kind.Int) (omega arith) ∙ same (suc j)))
+    (carried_types all ks (i + 1) cs (omega (arith, n))
+    (λ j. ap (λ m. slice_index_or all m kind.Int) (omega arith) ∙ same (suc j)))
 
 -- the words handed on are of the types of the carried lets
 pub carried_are : (cs : List Class) (kinds : List ValueType) (words : List ℤ) → AreWords kinds words →
@@ -157,7 +143,8 @@ carried_are (c ∷ cs) [] (x ∷ xs) are = any_words (carried_words (c ∷ cs) (
 carried_are (Constant ∷ cs) (k ∷ ks) (x ∷ xs) are = carried_are cs ks xs (λ i. are (suc i))
 carried_are (Reduced op ∷ cs) (k ∷ ks) (x ∷ xs) are = carried_are cs ks xs (λ i. are (suc i))
 carried_are (Carried ∷ cs) (k ∷ ks) (x ∷ xs) are =
-    cons_words k (carried_kinds cs ks) x (carried_words cs xs) (are zero k refl) (carried_are cs ks xs (λ i. are (suc i)))
+    cons_words k (carried_kinds cs ks) x (carried_words cs xs) (are zero k refl)
+    (carried_are cs ks xs (λ i. are (suc i)))
 
 -- words received over own ones
 pub received_are : (cs : List Class) (kinds : List ValueType) (ws own : List ℤ) → AreWords kinds own →
@@ -173,10 +160,12 @@ received_are (Carried ∷ cs) (k ∷ ks) [] (x ∷ xs) are came =
     cons_words k ks x (received_over cs [] xs) (are zero k refl)
     (received_are cs ks [] xs (λ i. are (suc i)) (no_words (carried_kinds cs ks)))
 received_are (Carried ∷ cs) (k ∷ ks) (w ∷ ws) (x ∷ xs) are came =
-    cons_words k ks w (received_over cs ws xs) (came zero k refl) (received_are cs ks ws xs (λ i. are (suc i)) (λ i. came (suc i)))
+    cons_words k ks w (received_over cs ws xs) (came zero k refl)
+    (received_are cs ks ws xs (λ i. are (suc i)) (λ i. came (suc i)))
 
-first_int : (op : Combine) (cs : List Class) (k : ValueType) (ks : List ValueType) → AreInts (Reduced op ∷ cs) (k ∷ ks) → k ≡ kind.Int
-first_int op cs k ks ints = same_kind k kind.Int (ints zero op refl)
+first_int : (op : Combine) (cs : List Class) (k : ValueType) (ks : List ValueType) →
+    AreInts (Reduced op ∷ cs) (k ∷ ks) → k ≡ kind.Int
+first_int op cs k ks ints = same_Some k kind.Int (ints zero op refl)
 
 -- neutral values in the places of the reduced ones
 pub neutral_are : (cs : List Class) (kinds : List ValueType) (own : List ℤ) → AreInts cs kinds → AreWords kinds own →
@@ -185,9 +174,11 @@ neutral_are [] kinds own ints are = are
 neutral_are (c ∷ cs) kinds [] ints are = no_words kinds
 neutral_are (c ∷ cs) [] (x ∷ xs) ints are = any_words (with_neutral (c ∷ cs) (x ∷ xs))
 neutral_are (Constant ∷ cs) (k ∷ ks) (x ∷ xs) ints are =
-    cons_words k ks x (with_neutral cs xs) (are zero k refl) (neutral_are cs ks xs (λ i. ints (suc i)) (λ i. are (suc i)))
+    cons_words k ks x (with_neutral cs xs) (are zero k refl)
+    (neutral_are cs ks xs (λ i. ints (suc i)) (λ i. are (suc i)))
 neutral_are (Carried ∷ cs) (k ∷ ks) (x ∷ xs) ints are =
-    cons_words k ks x (with_neutral cs xs) (are zero k refl) (neutral_are cs ks xs (λ i. ints (suc i)) (λ i. are (suc i)))
+    cons_words k ks x (with_neutral cs xs) (are zero k refl)
+    (neutral_are cs ks xs (λ i. ints (suc i)) (λ i. are (suc i)))
 neutral_are (Reduced op ∷ cs) (k ∷ ks) (x ∷ xs) ints are =
     cons_words k ks (neutral op) (with_neutral cs xs)
     (subst (λ t. IsWord t (neutral op)) (sym (first_int op cs k ks ints)) (int_word (neutral op) (neutral_fits op)))
@@ -197,12 +188,14 @@ neutral_are (Reduced op ∷ cs) (k ∷ ks) (x ∷ xs) ints are =
 abbrev pub MayFit : Option ℤ → Type 0
 MayFit o = (z : ℤ) → o ≡ Some z → FitsSigned w64 z
 
-operand_fits : (op : Combine) (x : ℤ) (t : Option ℤ) → FitsSigned w64 x → MayFit t → FitsSigned w64 (with_operand op x t)
+operand_fits : (op : Combine) (x : ℤ) (t : Option ℤ) → FitsSigned w64 x → MayFit t →
+    FitsSigned w64 (with_operand op x t)
 operand_fits op x None f h = f
 operand_fits op x (Some z) f h = combined_fits op x z f (h z refl)
 
 -- the words of the lets for the tail
-pub closing_are : (cs : List Class) (kinds : List ValueType) (own carried : List ℤ) (came : List (Option ℤ)) → AreInts cs kinds →
+pub closing_are : (cs : List Class) (kinds : List ValueType) (own carried : List ℤ) (came : List (Option ℤ)) →
+    AreInts cs kinds →
     AreWords kinds own → AreWords (carried_kinds cs kinds) carried → AllByRecursion MayFit came →
     AreWords kinds (closing cs own carried came)
 closing_are [] kinds own carried came ints are over all = no_words kinds
