@@ -35,7 +35,7 @@ use Rattle.symple_face.specs.Sight.{Sight, seen_env}
 use Rattle.symple_face.specs.State.{State, p_of}
 use Rattle.work_laws.specs.Sound.{ArePartials, HasWord, HoldsFit, IsLoopState, IsStateIn, OfOwn, members_in}
 use Rattle.work_laws.proofs.Partials.{IsAmong, emissions_more, empty_are, made_own, own_at}
-use Rattle.work_laws.proofs.Scans.{carried_of, classes_in, fresh_fits, inner_kinds, ints, lets_have, slots_all_fit, state_of_loop, state_words}
+use Rattle.work_laws.proofs.Scans.{carried_of, block_classes, fresh_fits, inner_kinds, ints, lets_have, slots_all_fit, state_of_loop, state_words}
 use Rattle.work_laws.proofs.Sees.{among_lies, own_partials_are, own_sees, own_small, targets_small, within_map}
 use Rattle.work_laws.proofs.Sights.{SightFits, dense_of, seen_has}
 use Rattle.work_laws.proofs.Words.{MayFit, closing_are}
@@ -58,8 +58,8 @@ module _ (split : Split) (d : Dense) (is : (program_of split).dense ≡ Some d) 
       let kinds : List ValueType = kinds_of d.lets.items in
       let own : List ℤ = own_words d.lets.items env in
       let lets : List Partial = drop (slot_count split) ps in
-      with_locals (field_kinds (program_of split)) kinds (closing_words (classes_in d) own st lets) env
-      (closing_are (classes_in d) kinds own (unwrap_or (told_words st) []) (values_of lets) (ints split d is fit)
+      with_locals (field_kinds (program_of split)) kinds (closing_words (block_classes d) own st lets) env
+      (closing_are (block_classes d) kinds own (unwrap_or (told_words st) []) (values_of lets) (ints split d is fit)
       (lets_have split d is fit env has).locals
       (handed st.mark st.words (state_words d st (state_of_loop split d st is state)))
       (values_fit lets (All-drop HasWord (slot_count split) ps are.words)))

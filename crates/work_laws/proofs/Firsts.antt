@@ -38,7 +38,7 @@ use Rattle.symple_face.specs.CoreSight.{part_sight, program_of, targets_of}
 use Rattle.symple_face.specs.CoreTakes.{empty_partials}
 use Rattle.symple_face.specs.Lawful.{CanRun, is_begin}
 use Rattle.symple_face.specs.Parts.{PlainPart, chunk_vertices}
-use Rattle.symple_face.specs.Planned.{has_block}
+use Rattle.symple_face.specs.Planned.{HasMessage, has_block}
 use Rattle.symple_face.specs.Plans.{blocks_of, ring_of}
 use Rattle.symple_face.specs.Restarts.{BeginsAt, IsStart}
 use Rattle.symple_face.specs.Shapes.{form_of}
@@ -159,20 +159,13 @@ module _ (part : PlainPart) (split : Split) (can : CanRun part split) where
             and_from (nat_le 1 start.round) (nat_le start.round ((program_of split).limit + 1))
             (grind (arith, nat_tests, late))
             (grind (arith, nat_tests, within)) in
+            let first : 1 ≤ start.round = omega (arith, late) in
+            let needs : List Name = needs_of (ring_of split part.at.machines) part.at.machine (Begin start.round) in
+            let message : HasMessage (ring_of split part.at.machines) part.at.machine start.ruling name =
+            (Begin start.round, first, inr (contains_from_has needs name needed)) in
             let planned = (plans_by_table split part.at.machines part.at.machine name (omega (arith, whole, few))
-            can.place).1 (
-              (
-                start.ruling,
-                is.block,
-                (
-                  Begin start.round,
-                  (let some : 1 ≤ start.round = omega (arith, late) in some),
-                  inr (contains_from_has (needs_of (ring_of split part.at.machines) part.at.machine (Begin start.round)) name
-                      needed),
-                ),
-              ),
-              range,
-            ) in
+            can.place).1
+            ((start.ruling, is.block, message), range) in
             let judged : Judged = record { ruling = start.ruling; totals = start.totals } in
             let n : ℕ = length (program_of split).totals.items in
             let fit = verdict_fits (may_rule (blocks_of split) start.round Dense)

@@ -6,7 +6,7 @@ use Rattle.std.proofs.Math.Seq.{take-nil}
 use Rattle.std.proofs.lemmas.Bool.{and_parts, eq-eqb, eqb-true, ltb-true, ne_eqb, true≢false}
 use Rattle.std.proofs.lemmas.Option.{same_Some}
 use Rattle.std.proofs.lemmas.List.{length-map}
-use Rattle.std.proofs.lemmas.List.Elements.{All-cons, All-head, All-nil, All-tail}
+use Rattle.std.proofs.lemmas.List.Elements.{All-cons, All-from_recursion, All-head, All-nil, All-tail}
 use Rattle.vert_base.specs.declared.message.Name.{Name}
 use Rattle.vert_base.specs.declared.message.NameKind.TheVariants as kind
 use Rattle.vert_base.specs.declared.value.Row.{Row}
@@ -49,6 +49,7 @@ use Rattle.symple_face.specs.Plans.{concerns, is_planned, loop_carry}
 use Rattle.symple_face.specs.Shapes.{carried_in, form_of, half_in, lets_in, pushed, refreshed, sends_in, shape_of, size_of, types_at, types_of}
 use Rattle.symple_face.specs.Shapes as shapes
 use Rattle.work_laws.specs.Sound.{IsHeld, IsLoopState}
+use Rattle.work_laws.proofs.Sights.{all_fit_at}
 use Rattle.work_laws.proofs.Words.{words_alone, words_typed}
 
 -- ---- bodies under a name
@@ -303,11 +304,10 @@ states_told split part r step h body within later low may =
     (⊎_elim (λ (none : body ≡ []). inl none) (λ (fits : FitsAs split part x body). inr (fit fits)) may)
 
 -- ---- totals that were told
-words_at : (words : List ℤ) → AllByRecursion (FitsSigned w64) words → (i : ℕ) → FitsSigned w64 (word_at words i)
-words_at [] h i = zero_fits
-words_at (x ∷ xs) h zero = h.0
-words_at (x ∷ xs) h (suc i) = words_at xs h.1 i
+read_fit : (n : ℕ) (bytes : List ℕ) (i : ℕ) → FitsSigned w64 (word_at (words_in n bytes) i)
+read_fit n bytes i =
+    all_fit_at (words_in n bytes) (All-from_recursion (FitsSigned w64) (words_in n bytes) (fits-words_in n bytes)) i
 
 pub totals_told : (n : ℕ) (body : List ℕ) (i : ℕ) → FitsSigned w64 (word_at (judged_read n body).totals i)
-totals_told n [] i = words_at (words_in n []) (fits-words_in n []) i
-totals_told n (byte ∷ bytes) i = words_at (words_in n bytes) (fits-words_in n bytes) i
+totals_told n [] i = read_fit n [] i
+totals_told n (byte ∷ bytes) i = read_fit n bytes i

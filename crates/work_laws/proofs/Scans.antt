@@ -58,10 +58,10 @@ use Rattle.work_laws.proofs.Sights.{Looped, SightFits, dense_of, fits_at, loop_l
 use Rattle.work_laws.proofs.Words.{MayFit, begun_length, carried_are, carried_kinds, carried_types, neutral_are, received_are, typed_words, words_alone, words_fit}
 
 -- ---- the classes of a block's lets
-abbrev pub classes_in : Dense → List Class
-classes_in d = let_classes 0 d.lets.items (body_marks d.body.items)
+abbrev pub block_classes : Dense → List Class
+block_classes d = let_classes 0 d.lets.items (body_marks d.body.items)
 
-pub class_each : (d : Dense) → length (classes_in d) ≡ length (kinds_of d.lets.items)
+pub class_each : (d : Dense) → length (block_classes d) ≡ length (kinds_of d.lets.items)
 class_each d = length-let_classes 0 d.lets.items (body_marks d.body.items) ∙ sym (length-map d.lets.items (λ x. x.kind))
 
 carried_count : (cs : List Class) (kinds : List ValueType) → length cs ≡ length kinds →
@@ -83,15 +83,16 @@ carry_count false cs = by (nat_lt 0 (carried_in cs)) refl
 
 -- the types of its carried lets
 abbrev pub carried_of : Dense → List ValueType
-carried_of d = carried_kinds (classes_in d) (kinds_of d.lets.items)
+carried_of d = carried_kinds (block_classes d) (kinds_of d.lets.items)
 
 carried_width : (d : Dense) → words_in (loop_split d).carry ≡ length (carried_of d)
-carried_width d = carry_count (loop_split d).classes.breaks (classes_in d) ∙
-    sym (carried_count (classes_in d) (kinds_of d.lets.items) (class_each d))
+carried_width d = carry_count (loop_split d).classes.breaks (block_classes d) ∙
+    sym (carried_count (block_classes d) (kinds_of d.lets.items) (class_each d))
 
-carried_bits : (d : Dense) → types_at (types_of d.lets.items) (places_where is_carried 0 (classes_in d)) ≡ carried_of d
+carried_bits : (d : Dense) → types_at (types_of d.lets.items) (places_where is_carried 0 (block_classes d)) ≡
+    carried_of d
 carried_bits d =
-    carried_types (kinds_of d.lets.items) (kinds_of d.lets.items) 0 (classes_in d) (class_each d)
+    carried_types (kinds_of d.lets.items) (kinds_of d.lets.items) 0 (block_classes d) (class_each d)
     (λ j. ap (λ m. slice_index_or (kinds_of d.lets.items) m kind.Int) (omega arith))
 
 -- ---- loop states
@@ -238,7 +239,7 @@ module _ (split : Split) (d : Dense) (is : (program_of split).dense ≡ Some d) 
   block : DenseParts (field_kinds (program_of split)) d
   block = dense_of (program_of split) d fit is
 
-  pub ints : AreInts (classes_in d) (kinds_of d.lets.items)
+  pub ints : AreInts (block_classes d) (kinds_of d.lets.items)
   ints = reduced_are_ints (inner_kinds (program_of split) d) d.lets.items d.body.items block.body.0
 
   -- the lets have words of their types
@@ -251,10 +252,10 @@ module _ (split : Split) (d : Dense) (is : (program_of split).dense ≡ Some d) 
 
   told_are : (mark : Mark) (words : List ℤ) (own : List ℤ) → AreWords (carried_of d) words →
       AreWords (kinds_of d.lets.items) own →
-      AreWords (kinds_of d.lets.items) (with_received (classes_in d) (words_by mark words) own)
+      AreWords (kinds_of d.lets.items) (with_received (block_classes d) (words_by mark words) own)
   told_are Fresh words own are mine = mine
-  told_are Running words own are mine = received_are (classes_in d) (kinds_of d.lets.items) words own mine are
-  told_are Broken words own are mine = received_are (classes_in d) (kinds_of d.lets.items) words own mine are
+  told_are Running words own are mine = received_are (block_classes d) (kinds_of d.lets.items) words own mine are
+  told_are Broken words own are mine = received_are (block_classes d) (kinds_of d.lets.items) words own mine are
 
   begun_has : (st : LoopState) (env : Env) → IsLoopState split st → HasKinds (field_kinds (program_of split)) env →
       HasKinds (inner_kinds (program_of split) d) (begun (loop_split d) d.lets.items (told_words st) env)
@@ -262,24 +263,24 @@ module _ (split : Split) (d : Dense) (is : (program_of split).dense ≡ Some d) 
       let first : Env = only_lets d.lets.items env in
       let own : List ℤ = own_words d.lets.items env in
       let mine = lets_have env has in
-      let all : List ℤ = with_neutral (classes_in d) (with_received (classes_in d) (told_words st) own) in
+      let all : List ℤ = with_neutral (block_classes d) (with_received (block_classes d) (told_words st) own) in
       let are : AreWords (kinds_of d.lets.items) all =
-      neutral_are (classes_in d) (kinds_of d.lets.items) (with_received (classes_in d) (told_words st) own) ints
+      neutral_are (block_classes d) (kinds_of d.lets.items) (with_received (block_classes d) (told_words st) own) ints
       (told_are st.mark st.words own (state_words d st (state_of_loop split d st is state)) mine.locals) in
       untouched (inner_kinds (program_of split) d) (with_words all first)
       (with_locals (inner_kinds (program_of split) d) (kinds_of d.lets.items) all first are mine)
 
   begun_count : (st : LoopState) (env : Env) →
-      length (begun (loop_split d) d.lets.items (told_words st) env).locals.items ≡ length (classes_in d)
+      length (begun (loop_split d) d.lets.items (told_words st) env).locals.items ≡ length (block_classes d)
   begun_count st env =
-      begun_length (classes_in d) (told_words st) (own_words d.lets.items env)
+      begun_length (block_classes d) (told_words st) (own_words d.lets.items env)
       ∙ length-own d.lets.items env ∙ sym (length-let_classes 0 d.lets.items (body_marks d.body.items))
 
-  ran_fits : (members : List Edge) (ran : Ran) → Looped (inner_kinds (program_of split) d) (length (classes_in d))
+  ran_fits : (members : List Edge) (ran : Ran) → Looped (inner_kinds (program_of split) d) (length (block_classes d))
       (length members) ran →
       ScanFits split (length members) (scanned_by split d ran)
   ran_fits members ran looped =
-      let cs : List Class = classes_in d in
+      let cs : List Class = block_classes d in
       let kinds : List ValueType = kinds_of d.lets.items in
       let words : List ℤ = carried_words cs ran.env.locals.items in
       let locals : AreWords kinds ran.env.locals.items = looped.kinds.env.locals in

@@ -72,7 +72,7 @@ use Rattle.symple_face.specs.CoreSparse.{own_sends, sends_at}
 use Rattle.symple_face.specs.CoreTakes.{slot_count}
 use Rattle.symple_face.specs.CoreWork.{core_sent, push_sent, refresh_sent, sent_at}
 use Rattle.symple_face.specs.Lawful.{CanRun, HasForm}
-use Rattle.symple_face.specs.Planned.{has_block}
+use Rattle.symple_face.specs.Planned.{HasMessage, has_block}
 use Rattle.symple_face.specs.Plans.{blocks_of, is_in_range, loop_carry, ring_of}
 use Rattle.symple_face.specs.Shapes.{carried_in, count_within, form_of, half_in, lets_in, reduced_in, refreshed, sends_in, shape_of, size_of, types_at, types_of}
 use Rattle.symple_face.specs.Shapes as shapes
@@ -190,23 +190,13 @@ module _ (s : State) (sound : core_sound s) where
       is_fit (form_of s.split s.part x.kind x) body ≡ true →
       HasForm s (record { name = x; body = body })
   formed spot ruling x body block has gives range fit =
-      let planned = (plans_by_table s.split (p_of s) (machine s) x few_machines sound.can.place).1 (
-        (
-          ruling,
-          block,
-          (
-            spot,
-            has,
-            inl (contains_from_has (gives_of (ring_of s.split (p_of s)) (machine s) spot ruling)
-                x gives),
-          ),
-        ),
-        range,
-      ) in (
-        form_of s.split s.part x.kind x,
-        ap (λ b. if b then Some (form_of s.split s.part x.kind x) else None) planned,
-        fit,
-      )
+      let all : List Name = gives_of (ring_of s.split (p_of s)) (machine s) spot ruling in
+      let message : HasMessage (ring_of s.split (p_of s)) (machine s) ruling x =
+      (spot, has, inl (contains_from_has all x gives)) in
+      let planned = (plans_by_table s.split (p_of s) (machine s) x few_machines sound.can.place).1
+      ((ruling, block, message), range) in
+      let form : BodyShape = form_of s.split s.part x.kind x in
+      (form, ap (λ b. if b then Some form else None) planned, fit)
 
   letters : (f : Name → List ℕ) (g : ℕ → Name) (ks : List ℕ) →
       ((k : ℕ) → Has ks k → HasForm s (record { name = g k; body = f (g k) })) →
@@ -416,12 +406,13 @@ module _ (s : State) (sound : core_sound s) where
       let f : ℕ → Sent = λ v. (scanned_at s r step h v).sent in
       let within : d < p_of s = chunk_low (machine s) step (p_of s) (omega (arith, place)) in
       let other : d ≢ machine s = chunk_other (machine s) step (p_of s) place early in
-      let fit = update_fits (length vertices) (slot_count s.split) (length (reduced_in s.split.dense)) (map f vertices) (
-        length-map vertices f,
-        mapped_all (λ v. v < 2 ^ 32) (IsSent (slot_count s.split) (length (reduced_in s.split.dense))) f vertices
-            (All-filter (is_within range) (λ v. v < 2 ^ 32) all (mirrors_small s.part s.split sound.can d within other))
-            (λ v id. sent_is (f v) (scan_fits s sound.can sound.fits r step h v low (omega (arith, early)) id).sent),
-      ) in
+      let reduced : ℕ = length (reduced_in s.split.dense) in
+      let each : AllByRecursion (IsSent (slot_count s.split) reduced) (map f vertices) =
+      mapped_all (λ v. v < 2 ^ 32) (IsSent (slot_count s.split) reduced) f vertices
+      (All-filter (is_within range) (λ v. v < 2 ^ 32) all (mirrors_small s.part s.split sound.can d within other))
+      (λ v id. sent_is (f v) (scan_fits s sound.can sound.fits r step h v low (omega (arith, early)) id).sent) in
+      let fit = update_fits (length vertices) (slot_count s.split) reduced (map f vertices)
+      (length-map vertices f, each) in
       ap (λ b. is_fit (Update (count_within range (if b then all else slice_index_or s.part.refresh_to (machine s) []))
       (slot_count s.split)
       (length (reduced_in s.split.dense))) (scan_update s r step h)) same_machine
