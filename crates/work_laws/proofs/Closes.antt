@@ -1,9 +1,8 @@
 -- The close of a round leaves rows of words.
-use Rattle.std.proofs.Common.{◌≡◌, ◌<◌, ◌≤◌, ◌+◌, ◌-◌, ◌^◌, ℕ, zero, suc, ℤ, Bool, true, false, List, [], ◌∷◌, map, length, take, drop, All, refl, sym, ap, subst, ◌∙◌, Option, None, Some, FitsSigned, w64, arith}
+use Rattle.std.proofs.Common.{◌≡◌, ◌<◌, ◌-◌, ◌^◌, ℕ, ℤ, Bool, true, false, List, [], ◌∷◌, length, take, drop, All, refl, ap, ◌∙◌, Option, None, Some, arith}
 use Rattle.std.specs.Prelude.{if◌then◌else◌, unwrap_or}
 use Rattle.std.specs.List.{AllByRecursion}
 use Rattle.std.proofs.lemmas.List.Elements.{All-drop, All-head, All-tail, All-take}
-use Rattle.vert_base.specs.declared.value.Row.{Row}
 use Rattle.vert_base.specs.declared.value.ValueType.{ValueType}
 use Rattle.vert_tree.specs.declared.program.Dense.{Dense}
 use Rattle.vert_tree.specs.Kinds.{Kinds, field_kinds, kinds_of}
@@ -19,21 +18,20 @@ use Rattle.vert_eval.specs.Values.{value_of}
 use Rattle.vert_eval.specs.Words.{is_set}
 use Rattle.vert_eval.proofs.FrameLaws.{run_keeps as run_frame}
 use Rattle.instrument.specs.declared.split.Split.{Split}
-use Rattle.instrument.specs.Loops.{loop_split}
 use Rattle.instrument.specs.Segments.{own_words}
 use Rattle.word_kinds.specs.Fits.{AreWords, HasKinds, IsFitting, IsRow}
 use Rattle.value_laws.proofs.Rounds.{no_words, parts, row_count, with_locals}
-use Rattle.value_laws.proofs.Rows.{SlotsFit, no_values_fit}
+use Rattle.value_laws.proofs.Rows.{no_values_fit}
 use Rattle.value_laws.proofs.Runs.{run_keeps}
 use Rattle.symple_face.specs.CoreClose.{close_go, closed_partials, closed_row, closed_rows, closing_words, tail_at, tail_env, values_of, with_tail}
 use Rattle.symple_face.specs.CoreDense.{ring_at}
 use Rattle.symple_face.specs.CoreScan.{fresh, told_words, words_by}
-use Rattle.symple_face.specs.CoreSight.{none, own_row, own_sight, own_start, own_vertices, program_of, targets}
+use Rattle.symple_face.specs.CoreSight.{none, own_sight, own_start, own_vertices, program_of, targets}
 use Rattle.symple_face.specs.CoreTakes.{empty_partials, own_partials, slot_count}
 use Rattle.symple_face.specs.Lawful.{CanRun}
 use Rattle.symple_face.specs.Sight.{Sight, seen_env}
 use Rattle.symple_face.specs.State.{State, p_of}
-use Rattle.work_laws.specs.Sound.{ArePartials, HasWord, HoldsFit, IsLoopState, IsStateIn, OfOwn, members_in}
+use Rattle.work_laws.specs.Sound.{ArePartials, HasWord, HoldsFit, IsLoopState, OfOwn}
 use Rattle.work_laws.proofs.Partials.{IsAmong, emissions_more, empty_are, made_own, own_at}
 use Rattle.work_laws.proofs.Scans.{carried_of, block_classes, fresh_fits, inner_kinds, ints, lets_have, slots_all_fit, state_of_loop, state_words}
 use Rattle.work_laws.proofs.Sees.{among_lies, own_partials_are, own_sees, own_small, targets_small, within_map}

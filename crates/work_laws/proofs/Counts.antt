@@ -1,24 +1,20 @@
 -- What a sound core counts and judges is small, and words.
-use Rattle.std.proofs.Common.{◌≡◌, ◌<◌, ◌≤◌, ◌+◌, ◌-◌, ◌*◌, ◌==◌, ◌^◌, ℕ, zero, suc, ℤ, Bool, true, false, ◌&&◌, List, [], ◌∷◌, map, length, All, refl, sym, ap, subst, ◌∙◌, Option, None, Some, FitsSigned, w64, arith, inl, inr, ⊎_elim}
+use Rattle.std.proofs.Common.{◌≡◌, ◌<◌, ◌≤◌, ◌+◌, ◌-◌, ◌*◌, ◌==◌, ◌^◌, ℕ, zero, suc, ℤ, Bool, true, false, List, [], ◌∷◌, map, length, All, refl, sym, ap, subst, ◌∙◌, Some, FitsSigned, w64, arith, ⊎_elim}
 use Rattle.std.specs.Prelude.{filter, if◌then◌else◌, nat_le, slice_get, slice_index, sum}
 use Rattle.std.specs.List.{AllByRecursion, list_all, list_any, range_with_len}
 use Rattle.std.proofs.lemmas.Bool.{and_parts, cases_eq, eq-eqb, eqb-true, ne_eqb, true≢false}
 use Rattle.std.proofs.lemmas.List.{length-map}
-use Rattle.std.proofs.lemmas.List.Elements.{All-from_recursion, All-map, All-nil}
+use Rattle.std.proofs.lemmas.List.Elements.{All-from_recursion, All-map}
 use Rattle.std.proofs.lemmas.List.FromFn.{length-range_with_len}
 use Rattle.vert_base.specs.declared.graph.Edge.{Edge}
-use Rattle.vert_base.specs.declared.limits.TheConstants.{EDGES, VERTICES}
 use Rattle.vert_base.specs.declared.message.Name.{Name}
-use Rattle.vert_base.specs.declared.value.Combine.{Combine}
 use Rattle.vert_base.specs.declared.value.Row.{Row}
-use Rattle.vert_base.specs.declared.value.ValueType.{ValueType}
 use Rattle.vert_base.specs.declared.value.ValueType.TheVariants as value
 use Rattle.vert_base.specs.Neighbours.{source, target}
 use Rattle.vert_tree.specs.declared.program.TotalDecl.{TotalDecl}
 use Rattle.vert_tree.specs.Kinds.{Kinds, expr_has, field_kinds, kinds_of}
-use Rattle.slot_merge.specs.Combine.{combined_of, neutral, total_of}
-use Rattle.vert_eval.specs.SourceRun.{active_vertices}
-use Rattle.vert_eval.specs.Values.{value_of, word_at}
+use Rattle.slot_merge.specs.Combine.{neutral}
+use Rattle.vert_eval.specs.Values.{value_of}
 use Rattle.chunk_split.specs.Chunks.{vertices_of}
 use Rattle.chunk_split.proofs.ReachLaws.{sum_step}
 use Rattle.circulant_plan.specs.Names.{tally_name}
@@ -30,7 +26,6 @@ use Rattle.instrument.specs.declared.split.Split.{Split}
 use Rattle.body_shape.specs.Fit.{is_fit}
 use Rattle.body_shape.specs.Refresh.{IsWords}
 use Rattle.body_shape.specs.Tally.{Counted, SuitsTally, counted_read}
-use Rattle.body_shape.specs.declared.shape.BodyShape.TheVariants.{Tally}
 use Rattle.body_shape.proofs.MissingLaws.{tally_missing}
 use Rattle.body_shape.proofs.TallyLaws.{tally_suits}
 use Rattle.word_kinds.specs.Fits.{IsRow, expr_fits, totals_fit}
@@ -39,7 +34,6 @@ use Rattle.value_laws.proofs.Rows.{fold_fits, neutral_fits}
 use Rattle.value_laws.proofs.Values.{value_word}
 use Rattle.value_laws.proofs.Words.{combined_fits, zero_fits}
 use Rattle.symple_face.specs.declared.degree.Degree.{Degree}
-use Rattle.symple_face.specs.declared.report.Report.{Report}
 use Rattle.symple_face.specs.CoreJudge.{all_joined, chunk_total, counted, edges_ahead, joined, judge_go, report_after, sums_at, tally_of, totals_joined}
 use Rattle.symple_face.specs.CoreSight.{degree_among, degree_of, held_body, part_sight, program_of, row_in, targets_of, total_count}
 use Rattle.symple_face.specs.Lawful.{CanRun, IsSmall}
@@ -49,7 +43,7 @@ use Rattle.symple_face.specs.State.{State, p_of}
 use Rattle.symple_face.proofs.ChunkLaws.{chunk_within}
 use Rattle.symple_face.proofs.ListLaws.{filter_few}
 use Rattle.work_laws.specs.Sound.{AreWithin, HoldsFit, OfOwn, members_in}
-use Rattle.work_laws.proofs.Held.{FitsAs, MayRead, may_read, shape_parts}
+use Rattle.work_laws.proofs.Held.{FitsAs, may_read, shape_parts}
 use Rattle.work_laws.proofs.Partials.{over_range}
 use Rattle.work_laws.proofs.Sees.{among_lies, own_small}
 use Rattle.work_laws.proofs.Sights.{part_sees, seen_has}

@@ -1,8 +1,8 @@
 -- A core begins sound, before the first round and at the begin of a later one.
-use Rattle.std.proofs.Common.{◌≡◌, ◌≢◌, ◌<◌, ◌≤◌, ◌+◌, ◌-◌, ◌==◌, ◌^◌, inl, inr, ℕ, zero, suc, ℤ, Bool, true, false, ◌&&◌, not, List, [], ◌∷◌, map, length, All, refl, sym, ap, subst, ◌∙◌, Option, None, Some, FitsSigned, w64, arith}
+use Rattle.std.proofs.Common.{◌≡◌, ◌≢◌, ◌<◌, ◌≤◌, ◌+◌, ◌==◌, ◌^◌, inl, inr, ℕ, ℤ, Bool, true, false, ◌&&◌, not, List, [], ◌∷◌, map, length, refl, sym, ap, subst, ◌∙◌, None, Some, FitsSigned, w64, arith}
 use Rattle.std.specs.Prelude.{if◌then◌else◌, is_some, nat_le, slice_get}
 use Rattle.std.specs.List.{AllByRecursion}
-use Rattle.std.proofs.lemmas.Bool.{and_from, and_parts, true≢false}
+use Rattle.std.proofs.lemmas.Bool.{and_from, true≢false}
 use Rattle.std.proofs.lemmas.Bool.Decides.{nat_tests}
 use Rattle.std.proofs.lemmas.Option.{same_Some}
 use Rattle.std.proofs.lemmas.List.{length-map}
@@ -11,7 +11,6 @@ use Rattle.vert_base.specs.declared.message.Name.{Name}
 use Rattle.vert_base.specs.declared.message.NameKind.TheVariants as kind
 use Rattle.vert_base.specs.declared.value.Ruling.{Ruling}
 use Rattle.vert_base.specs.declared.value.Ruling.TheVariants.{Stop, Dense, Sparse}
-use Rattle.vert_base.specs.declared.value.ValueType.{ValueType}
 use Rattle.vert_base.specs.Letters.{Letter, found}
 use Rattle.vert_base.specs.Names.{same_name}
 use Rattle.vert_tree.specs.Kinds.{Kinds, field_kinds, kinds_of}
@@ -32,7 +31,7 @@ use Rattle.word_kinds.specs.Fits.{IsRow}
 use Rattle.value_laws.proofs.Rounds.{no_words, parts}
 use Rattle.value_laws.proofs.Rows.{decl_words}
 use Rattle.value_laws.proofs.Words.{zero_fits}
-use Rattle.symple_face.specs.CoreFirst.{ahead_at, body_at_start, core_ahead, core_first, core_restarted, first_row_of, held_at_start, judged_at_start, no_sums, rows_at_start}
+use Rattle.symple_face.specs.CoreFirst.{ahead_at, body_at_start, core_ahead, core_first, core_restarted, first_row_of, held_at_start, judged_at_start, no_sums}
 use Rattle.symple_face.specs.CoreScan.{fresh}
 use Rattle.symple_face.specs.CoreSight.{part_sight, program_of, targets_of}
 use Rattle.symple_face.specs.CoreTakes.{empty_partials}
@@ -43,11 +42,11 @@ use Rattle.symple_face.specs.Plans.{blocks_of, ring_of}
 use Rattle.symple_face.specs.Restarts.{BeginsAt, IsStart}
 use Rattle.symple_face.specs.Shapes.{form_of}
 use Rattle.symple_face.specs.Sight.{Sight, seen_env}
-use Rattle.symple_face.specs.State.{State, Sums, machine}
+use Rattle.symple_face.specs.State.{State, machine}
 use Rattle.symple_face.specs.Work.{PlainAhead, PlainStart}
 use Rattle.symple_face.proofs.ChunkLaws.{lies_within}
 use Rattle.symple_face.proofs.TableLaws.{plans_by_table}
-use Rattle.work_laws.specs.Sound.{AreSums, AreWithin, HoldsFit, IsHeld, IsLoopState, ArePartials, OfOwn, core_sound}
+use Rattle.work_laws.specs.Sound.{AreSums, AreWithin, HoldsFit, IsHeld, IsLoopState, ArePartials, core_sound}
 use Rattle.work_laws.proofs.Partials.{IsAmong, empty_are, made_own}
 use Rattle.work_laws.proofs.Scans.{fresh_fits}
 use Rattle.work_laws.proofs.Sees.{among_lies, own_small, targets_small, within_map}

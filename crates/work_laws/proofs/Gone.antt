@@ -1,6 +1,6 @@
 -- An action leaves a sound core sound.
-use Rattle.std.proofs.Common.{◌≡◌, ◌≢◌, ◌<◌, ◌≤◌, ◌+◌, ◌-◌, ◌*◌, ◌==◌, ◌^◌, ℕ, zero, suc, Bool, true, false, ◌&&◌, ◌||◌, not, List, [], ◌∷◌, map, length, refl, sym, ap, subst, ◌∙◌, Option, None, Some, arith}
-use Rattle.std.specs.Prelude.{⊤, if◌then◌else◌, is_some, nat_le, nat_lt}
+use Rattle.std.proofs.Common.{◌≡◌, ◌≢◌, ◌<◌, ◌≤◌, ◌+◌, ◌-◌, ◌*◌, ◌==◌, ◌^◌, ℕ, Bool, true, false, ◌||◌, List, [], ◌∷◌, refl, sym, ap, subst, ◌∙◌, None, Some, arith}
+use Rattle.std.specs.Prelude.{if◌then◌else◌, is_some, nat_le, nat_lt}
 use Rattle.std.specs.List.{AllByRecursion}
 use Rattle.std.proofs.lemmas.Bool.{and_from, and_parts, eqb-true, leb-true, ltb-true, true≢false}
 use Rattle.std.proofs.lemmas.Bool.Decides.{nat_tests}
@@ -11,7 +11,7 @@ use Rattle.vert_base.specs.declared.value.Ruling.{Ruling}
 use Rattle.vert_base.specs.declared.value.Ruling.TheVariants.{Stop, Dense, Sparse}
 use Rattle.vert_base.specs.Letters.{Letter, found}
 use Rattle.vert_tree.specs.Limits.{mode_stands}
-use Rattle.mode_switch.specs.Ruling.{mode_of, ruling_of}
+use Rattle.mode_switch.specs.Ruling.{mode_of}
 use Rattle.circulant_plan.specs.declared.spot.Spot.{Spot}
 use Rattle.circulant_plan.specs.declared.spot.Spot.TheVariants.{Tell, Judge, Begin, Scan, Close, Over}
 use Rattle.circulant_plan.specs.Names.{verdict_name}
@@ -21,7 +21,6 @@ use Rattle.circulant_plan.specs.Table.{after_begin, after_judge}
 use Rattle.instrument.specs.declared.split.Split.{Split}
 use Rattle.body_shape.specs.Tally.{Counted}
 use Rattle.value_laws.proofs.Rounds.{few_rounds}
-use Rattle.symple_face.specs.declared.action.Action.{Action}
 use Rattle.symple_face.specs.declared.action.Action.TheVariants as action
 use Rattle.symple_face.specs.CoreClose.{close_go}
 use Rattle.symple_face.specs.CoreDense.{scan_go, scan_kept, scan_read}

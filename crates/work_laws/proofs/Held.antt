@@ -1,27 +1,25 @@
 -- What a core reads of the bodies that it holds fits, whether they are there or not.
-use Rattle.std.proofs.Common.{◌≡◌, ◌≢◌, ◌⊎◌, ◌<◌, ◌≤◌, ◌+◌, ◌-◌, ◌*◌, ◌==◌, inl, inr, ⊎_elim, ℕ, zero, suc, ℤ, Bool, true, false, ◌&&◌, not, List, [], ◌∷◌, ◌++◌, map, length, take, drop, All, refl, sym, ap, subst, ◌∙◌, Option, None, Some, FitsSigned, w64, arith, get_or, length-append}
+use Rattle.std.proofs.Common.{◌≡◌, ◌⊎◌, ◌<◌, ◌≤◌, ◌+◌, ◌-◌, ◌==◌, inl, inr, ⊎_elim, ℕ, zero, suc, ℤ, Bool, true, false, not, List, [], ◌∷◌, ◌++◌, map, length, take, drop, All, refl, sym, ap, subst, ◌∙◌, Option, None, Some, FitsSigned, w64, arith, get_or, length-append}
 use Rattle.std.specs.Prelude.{if◌then◌else◌, is_none, nat_lt, slice_index_or}
 use Rattle.std.specs.List.{AllByRecursion, list_all}
 use Rattle.std.proofs.Math.Seq.{take-nil}
-use Rattle.std.proofs.lemmas.Bool.{and_parts, eq-eqb, eqb-true, ltb-true, ne_eqb, true≢false}
+use Rattle.std.proofs.lemmas.Bool.{and_parts, ltb-true}
 use Rattle.std.proofs.lemmas.Option.{same_Some}
 use Rattle.std.proofs.lemmas.List.{length-map}
 use Rattle.std.proofs.lemmas.List.Elements.{All-cons, All-from_recursion, All-head, All-nil, All-tail}
 use Rattle.vert_base.specs.declared.message.Name.{Name}
 use Rattle.vert_base.specs.declared.message.NameKind.TheVariants as kind
-use Rattle.vert_base.specs.declared.value.Row.{Row}
 use Rattle.vert_base.specs.declared.value.ValueType.{ValueType}
 use Rattle.vert_base.specs.declared.value.ValueType.TheVariants as value
 use Rattle.vert_base.specs.Letters.{Letter, found}
 use Rattle.vert_base.specs.Names.{same_name}
 use Rattle.vert_base.proofs.LetterLaws.{names_law}
-use Rattle.vert_tree.specs.declared.program.Decl.{Decl}
 use Rattle.vert_tree.specs.Kinds.{kinds_of}
-use Rattle.vert_eval.specs.Rounds.{empty_row, row_at}
+use Rattle.vert_eval.specs.Rounds.{empty_row}
 use Rattle.vert_eval.specs.Values.{word_at}
-use Rattle.dep_layout.specs.Judgement.{mark_len, pairs_in, refusal_of, refusal_of_parts, rows_in, started, words_in}
+use Rattle.dep_layout.specs.Judgement.{mark_len, pairs_in, refusal_of, words_in}
 use Rattle.dep_layout.specs.Reading.{read_of, states_in}
-use Rattle.dep_layout.specs.Spelling.{State as LoopState, IsState, are_typed}
+use Rattle.dep_layout.specs.Spelling.{IsState, are_typed}
 use Rattle.dep_layout.proofs.SpellingLaws.{sound_parts}
 use Rattle.dep_layout.proofs.StateLaws.{states-states_in}
 use Rattle.dep_layout.proofs.WordLaws.{fits-words_in}
@@ -30,11 +28,11 @@ use Rattle.circulant_plan.specs.Ring.{before_machine, chunk_of, order_of}
 use Rattle.circulant_plan.proofs.CircleLaws.{each_ring_turns}
 use Rattle.instrument.specs.declared.split.Split.{Split}
 use Rattle.body_shape.specs.declared.shape.BodyShape.{BodyShape}
-use Rattle.body_shape.specs.declared.shape.BodyShape.TheVariants.{Refresh, Dep, Update, Push, Tally, Verdict}
+use Rattle.body_shape.specs.declared.shape.BodyShape.TheVariants.{Refresh, Dep, Push}
 use Rattle.body_shape.specs.Fit.{is_fit}
 use Rattle.body_shape.specs.Places.{there}
 use Rattle.body_shape.specs.Push.{SuitsPush, sends_read}
-use Rattle.body_shape.specs.Refresh.{IsWords, PlainRow, SuitsRefresh, rows_read, row_words, word_of_bool, IsRow as IsPlainRow}
+use Rattle.body_shape.specs.Refresh.{IsWords, PlainRow, SuitsRefresh, rows_read, word_of_bool, IsRow as IsPlainRow}
 use Rattle.body_shape.specs.Shapes.{bool_bits}
 use Rattle.body_shape.specs.Verdict.{judged_read}
 use Rattle.body_shape.proofs.MissingLaws.{push_missing, refresh_missing}
@@ -42,8 +40,7 @@ use Rattle.body_shape.proofs.PushLaws.{push_suits}
 use Rattle.body_shape.proofs.RefreshLaws.{form_flagged, refresh_suits}
 use Rattle.word_kinds.specs.Fits.{AreWords}
 use Rattle.value_laws.proofs.Rounds.{no_words}
-use Rattle.value_laws.proofs.Words.{zero_fits}
-use Rattle.symple_face.specs.CoreSight.{beside, body_of, field_count, held_body, program_of, told_row}
+use Rattle.symple_face.specs.CoreSight.{beside, body_of, field_count, program_of, told_row}
 use Rattle.symple_face.specs.Parts.{PlainPart}
 use Rattle.symple_face.specs.Plans.{concerns, is_planned, loop_carry}
 use Rattle.symple_face.specs.Shapes.{carried_in, form_of, half_in, lets_in, pushed, refreshed, sends_in, shape_of, size_of, types_at, types_of}

@@ -1,22 +1,20 @@
 -- Where an action or a take of a core leads, and under which names it holds messages.
-use Rattle.std.proofs.Common.{◌≡◌, ◌≢◌, ℕ, Bool, true, false, cond, List, [], ◌∷◌, map, refl, ap, sym, ◌∙◌, Option, None, Some}
-use Rattle.std.specs.Prelude.{◌-◌, ◌&&◌, ◌||◌, not, if◌then◌else◌, is_some, nat_le, nat_lt}
+use Rattle.std.proofs.Common.{◌≡◌, ◌≢◌, ℕ, Bool, true, false, List, [], ◌∷◌, map, refl, ap, ◌∙◌, Option, Some}
+use Rattle.std.specs.Prelude.{◌-◌, ◌&&◌, ◌||◌, not, if◌then◌else◌, is_some, nat_lt}
 use Rattle.vert_base.specs.declared.message.Name.{Name}
 use Rattle.vert_base.specs.declared.message.NameKind.{NameKind}
 use Rattle.vert_base.specs.declared.message.NameKind.TheVariants as kind
-use Rattle.vert_base.specs.declared.value.Ruling.{Ruling}
 use Rattle.vert_base.specs.Letters.{Letter, found, placed}
 use Rattle.vert_base.specs.Names.{same_name}
 use Rattle.vert_base.proofs.LetterLaws.{placed_law}
 use Rattle.circulant_plan.specs.declared.spot.Spot.{Spot}
 use Rattle.circulant_plan.specs.declared.spot.Spot.TheVariants.{Tell, Judge, Begin, Scan, Close, Over}
 use Rattle.circulant_plan.specs.Skeleton.{acting_ruling, has_name, standing_taken}
-use Rattle.circulant_plan.specs.Standing.{Standing, next_standing}
 use Rattle.circulant_plan.specs.Table.{gives_of}
 use Rattle.symple_face.specs.CoreDense.{scan_go, scan_kept, scan_read}
-use Rattle.symple_face.specs.CoreJudge.{core_judge, judge_at}
+use Rattle.symple_face.specs.CoreJudge.{judge_at}
 use Rattle.symple_face.specs.CoreSight.{known}
-use Rattle.symple_face.specs.CoreTakes.{emptied, emptied_under, noted}
+use Rattle.symple_face.specs.CoreTakes.{emptied}
 use Rattle.symple_face.specs.CoreWork.{acted, core_acting, core_go, core_sent, core_take, held_at, sent_at, taken}
 use Rattle.symple_face.specs.Lawful.{is_begin}
 use Rattle.symple_face.specs.Plans.{ring_of}

@@ -9,7 +9,7 @@ use Rattle.std.proofs.lemmas.List.FromFn.{length-range_with_len}
 use Rattle.vert_base.specs.declared.value.Combine.{Combine}
 use Rattle.vert_base.specs.declared.value.Combine.TheVariants as combine
 use Rattle.slot_merge.specs.declared.partial.Partial.{Partial}
-use Rattle.slot_merge.specs.Combine.{Emission, combined_of}
+use Rattle.slot_merge.specs.Combine.{Emission}
 use Rattle.slot_merge.specs.Partials.{empty_partial, put_word, started, with_emission, with_emissions, with_second, with_word, with_word_from}
 use Rattle.vert_eval.specs.Rounds.{slot_ops}
 use Rattle.instrument.specs.declared.split.Split.{Split}

@@ -1,25 +1,22 @@
 -- A scan at a vertex leaves a state of its form, sends words, and reads no more than the members.
-use Rattle.std.proofs.Common.{◌≡◌, ◌<◌, ◌≤◌, ◌+◌, ◌^◌, ℕ, zero, suc, ℤ, pos, Bool, true, false, ◌&&◌, ◌||◌, not, List, [], ◌∷◌, map, length, replicate, All, refl, sym, ap, subst, ◌∙◌, Option, None, Some, option_map, FitsSigned, w64, arith}
-use Rattle.std.specs.Prelude.{if◌then◌else◌, filter, nat_lt, slice_get, slice_index_or}
+use Rattle.std.proofs.Common.{◌≡◌, ◌<◌, ◌≤◌, ◌^◌, ℕ, zero, suc, ℤ, pos, Bool, true, false, ◌||◌, not, List, [], ◌∷◌, length, replicate, All, refl, sym, ap, subst, ◌∙◌, Option, None, Some, option_map, FitsSigned, w64, arith}
+use Rattle.std.specs.Prelude.{if◌then◌else◌, nat_lt, slice_index_or}
 use Rattle.std.specs.Int.{bit_at}
 use Rattle.std.specs.List.{AllByRecursion}
-use Rattle.std.proofs.lemmas.Bool.{ltb-true}
 use Rattle.std.proofs.lemmas.Bool.Decides.{nat_tests}
 use Rattle.std.proofs.lemmas.Option.{same_Some}
 use Rattle.std.proofs.lemmas.List.{length-map, length-replicate}
 use Rattle.std.proofs.lemmas.List.Elements.{All-nil}
 use Rattle.vert_base.specs.declared.graph.Edge.{Edge}
-use Rattle.vert_base.specs.declared.value.Combine.{Combine}
 use Rattle.vert_base.specs.declared.value.ValueType.{ValueType}
 use Rattle.vert_base.specs.declared.value.ValueType.TheVariants as kind
-use Rattle.vert_tree.specs.declared.program.Decl.{Decl}
 use Rattle.vert_tree.specs.declared.program.Dense.{Dense}
 use Rattle.vert_tree.specs.declared.program.Program.{Program}
 use Rattle.vert_tree.specs.Kinds.{Kinds, field_kinds, kinds_of}
 use Rattle.carry_analysis.specs.declared.classes.Class.{Class}
 use Rattle.carry_analysis.specs.declared.classes.Class.TheVariants.{Constant, Reduced, Carried}
 use Rattle.carry_analysis.specs.Classes.{body_marks, carried_in, carry_in, is_carried, let_classes}
-use Rattle.slot_merge.specs.Combine.{Emission, combined, slot_values, words_for}
+use Rattle.slot_merge.specs.Combine.{slot_values}
 use Rattle.slot_merge.proofs.SlotLaws.{length-slot_values}
 use Rattle.vert_eval.specs.declared.environment.Env.{Env}
 use Rattle.vert_eval.specs.declared.environment.Flow.{Flow}
@@ -30,28 +27,27 @@ use Rattle.vert_eval.specs.Values.{value_of, word_at}
 use Rattle.vert_eval.specs.Words.{is_set}
 use Rattle.dep_layout.specs.declared.state.Mark.{Mark}
 use Rattle.dep_layout.specs.declared.state.Mark.TheVariants.{Fresh, Running, Broken}
-use Rattle.dep_layout.specs.Spelling.{State as LoopState, IsState, are_typed}
+use Rattle.dep_layout.specs.Spelling.{State as LoopState, are_typed}
 use Rattle.instrument.specs.declared.split.Split.{Split}
 use Rattle.instrument.specs.declared.split.SplitLoop.{SplitLoop}
 use Rattle.instrument.specs.Loops.{loop_split, places_where}
-use Rattle.instrument.specs.Segments.{begun, carried_words, given, only_lets, own_words, with_neutral, with_received, with_words}
+use Rattle.instrument.specs.Segments.{begun, carried_words, only_lets, own_words, with_neutral, with_received, with_words}
 use Rattle.instrument.proofs.SplitLaws.{length-own}
 use Rattle.instrument.proofs.TypedLaws.{length-let_classes}
 use Rattle.instrument.proofs.WordLaws.{length-carried_words}
 use Rattle.body_shape.specs.Shapes.{bool_bits}
 use Rattle.body_shape.specs.Update.{Sent}
-use Rattle.word_kinds.specs.Fits.{AreWords, HasKinds, IsEdge, IsFitting, body_fits}
+use Rattle.word_kinds.specs.Fits.{AreWords, HasKinds, IsEdge, IsFitting}
 use Rattle.value_laws.proofs.Rounds.{DenseParts, lets_keep, no_words, with_locals}
 use Rattle.value_laws.proofs.Rows.{SlotsFit, no_values_fit, slot_values_fit}
-use Rattle.value_laws.proofs.Runs.{WordFits}
 use Rattle.value_laws.proofs.Words.{zero_word}
 use Rattle.symple_face.specs.CoreScan.{Scanned, fresh, is_broken, mark_after, passed, scanned, scanned_by, segment_seen, told_words, words_by}
 use Rattle.symple_face.specs.CoreSight.{none, program_of}
 use Rattle.symple_face.specs.CoreTakes.{slot_count, unsent}
 use Rattle.symple_face.specs.Plans.{loop_carry}
 use Rattle.symple_face.specs.Ring.{operand, operand_at, operands}
-use Rattle.symple_face.specs.Shapes.{lets_in, reduced_in, types_at, types_of, words_in}
-use Rattle.symple_face.specs.Sight.{Sight, seen_env, seen_loop}
+use Rattle.symple_face.specs.Shapes.{reduced_in, types_at, types_of, words_in}
+use Rattle.symple_face.specs.Sight.{Sight, seen_env}
 use Rattle.work_laws.specs.Sound.{IsLoopState, IsStateIn}
 use Rattle.work_laws.proofs.Reduced.{AreInts, reduced_are_ints}
 use Rattle.work_laws.proofs.Sights.{Looped, SightFits, dense_of, fits_at, loop_looped, seen_has}

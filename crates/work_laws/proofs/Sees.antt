@@ -1,24 +1,19 @@
 -- What a sound core sees, and what its scan leaves.
-use Rattle.std.proofs.Common.{◌≡◌, inl, inr, ◌<◌, ◌≤◌, ◌+◌, ◌-◌, ◌==◌, ◌^◌, ℕ, zero, suc, ℤ, Bool, true, false, ◌&&◌, not, List, [], ◌∷◌, map, length, All, refl, sym, ap, subst, ◌∙◌, Option, None, Some, FitsSigned, w64, arith}
-use Rattle.std.specs.Prelude.{⊤, filter, if◌then◌else◌, nat_lt, slice_index, slice_index_or}
+use Rattle.std.proofs.Common.{◌≡◌, inl, ◌<◌, ◌≤◌, ◌-◌, ◌==◌, ◌^◌, ℕ, Bool, true, false, ◌&&◌, not, List, [], ◌∷◌, map, length, All, refl, sym, subst, Option, None, Some, FitsSigned, w64, arith}
+use Rattle.std.specs.Prelude.{if◌then◌else◌, nat_lt, slice_index}
 use Rattle.std.specs.List.{AllByRecursion, list_any, range_with_len}
 use Rattle.std.proofs.lemmas.Bool.{and_parts, eqb-true, ltb-true}
 use Rattle.std.proofs.lemmas.Bool.Decides.{nat_tests}
 use Rattle.std.proofs.lemmas.List.FromFn.{length-range_with_len}
 use Rattle.std.proofs.lemmas.List.Elements.{All-cons, All-filter, All-from_recursion, All-head, All-nil, All-tail}
-use Rattle.vert_base.specs.declared.graph.Edge.{Edge}
-use Rattle.vert_base.specs.declared.limits.TheConstants.{VERTICES}
 use Rattle.vert_base.specs.declared.message.Name.{Name}
-use Rattle.vert_base.specs.declared.value.Row.{Row}
 use Rattle.vert_base.specs.declared.value.ValueType.{ValueType}
 use Rattle.vert_base.specs.Letters.{Letter}
 use Rattle.vert_base.specs.Neighbours.{in_order, source, target}
 use Rattle.vert_base.proofs.Orders.{in_order_below}
 use Rattle.vert_tree.specs.declared.program.Dense.{Dense}
 use Rattle.vert_tree.specs.Kinds.{kinds_of}
-use Rattle.vert_eval.specs.Rounds.{row_at}
 use Rattle.vert_eval.specs.Values.{word_at}
-use Rattle.dep_layout.specs.Spelling.{State as LoopState}
 use Rattle.chunk_split.specs.Chunks.{vertices_of}
 use Rattle.circulant_plan.specs.Names.{dep_name, refresh_name, verdict_name}
 use Rattle.circulant_plan.specs.Ring.{before_machine, lies_in, start_of}
@@ -26,20 +21,20 @@ use Rattle.circulant_plan.specs.Skeleton.{has_name}
 use Rattle.circulant_plan.specs.Table.{name_if}
 use Rattle.instrument.specs.declared.split.Split.{Split}
 use Rattle.body_shape.specs.Verdict.{judged_read}
-use Rattle.word_kinds.specs.Fits.{AreWords, HaveWeights, IsEdge, IsRow}
+use Rattle.word_kinds.specs.Fits.{AreWords, IsEdge}
 use Rattle.value_laws.proofs.Rounds.{row_words}
-use Rattle.symple_face.specs.CoreDense.{needed_dep, partials_after, read_after, reading_at, received_at, ring_after, ring_at, scan_chunk, scan_go, scan_half, scan_kept, scan_read, scanned_at, scanned_in, states_told}
-use Rattle.symple_face.specs.CoreScan.{Scanned, fresh}
+use Rattle.symple_face.specs.CoreDense.{needed_dep, partials_after, read_after, reading_at, received_at, ring_after, ring_at, scan_chunk, scan_half, scan_kept, scan_read, scanned_at, scanned_in, states_told}
+use Rattle.symple_face.specs.CoreScan.{fresh}
 use Rattle.symple_face.specs.CoreSight.{beside, held_body, is_within, known_totals, members, mirror_row, own_row, own_sight, own_start, own_vertices, program_of, sight_at, targets, targets_of, total_count}
 use Rattle.symple_face.specs.CoreTakes.{emptied, emptied_under, own_partials, with_sent}
 use Rattle.symple_face.specs.Lawful.{CanRun}
-use Rattle.symple_face.specs.Parts.{PlainPart, chunk_vertices, ends_met}
+use Rattle.symple_face.specs.Parts.{PlainPart, chunk_vertices}
 use Rattle.symple_face.specs.Plans.{ring_of}
 use Rattle.symple_face.specs.Shapes.{size_of}
 use Rattle.symple_face.specs.State.{State, machine, p_of}
 use Rattle.symple_face.proofs.ChunkLaws.{lies_within}
 use Rattle.work_laws.specs.Sound.{ArePartials, AreWithin, HoldsFit, IsHeld, IsLoopState, members_in}
-use Rattle.work_laws.proofs.Held.{beside_is, get_or_is, may_read, mirror_words, states_told as states_told_fit, totals_told}
+use Rattle.work_laws.proofs.Held.{get_or_is, may_read, mirror_words, states_told as states_told_fit, totals_told}
 use Rattle.work_laws.proofs.Partials.{IsAmong, made_own, over_range, own_at, sent_more}
 use Rattle.work_laws.proofs.Scans.{ScanFits, fresh_fits, passed_fits, scanned_fits}
 use Rattle.work_laws.proofs.Sights.{SightFits, all_fit_at, part_sees}

@@ -1,15 +1,14 @@
 -- What a sound core sends fits its form.
-use Rattle.std.proofs.Common.{◌≡◌, ◌≢◌, ◌⊎◌, ◌<◌, ◌≤◌, ◌+◌, ◌-◌, ◌*◌, ◌==◌, ◌^◌, inl, inr, ⊎_elim, ℕ, zero, suc, ℤ, Bool, true, false, ◌&&◌, List, [], ◌∷◌, ◌++◌, map, length, All, refl, sym, ap, subst, ◌∙◌, Option, None, Some, option_map, FitsSigned, w64, arith, length-append}
-use Rattle.std.specs.Prelude.{filter, if◌then◌else◌, is_none, nat_le, nat_lt, slice_index_or, sum}
+use Rattle.std.proofs.Common.{◌≡◌, ◌≢◌, ◌<◌, ◌≤◌, ◌+◌, ◌-◌, ◌==◌, ◌^◌, inl, inr, ℕ, suc, ℤ, Bool, true, false, ◌&&◌, List, [], ◌∷◌, ◌++◌, map, length, All, refl, sym, ap, subst, ◌∙◌, Option, None, Some, option_map, FitsSigned, w64, arith, length-append}
+use Rattle.std.specs.Prelude.{if◌then◌else◌, is_none, nat_le, nat_lt, slice_index_or, sum}
 use Rattle.std.specs.List.{AllByRecursion, list_all, range_with_len}
-use Rattle.std.proofs.lemmas.Bool.{and_from, and_parts, eq-eqb, eqb-true, leb-true, ltb-true, true≢false}
+use Rattle.std.proofs.lemmas.Bool.{and_from, and_parts, eq-eqb, ltb-true}
 use Rattle.std.proofs.lemmas.Bool.Decides.{nat_tests}
 use Rattle.std.proofs.lemmas.Option.{same_Some}
 use Rattle.std.proofs.lemmas.List.{length-map}
 use Rattle.std.proofs.lemmas.List.Elements.{All-filter, All-head, All-tail}
 use Rattle.std.proofs.lemmas.List.FromFn.{length-range_with_len}
 use Rattle.vert_base.specs.declared.message.Name.{Name}
-use Rattle.vert_base.specs.declared.message.NameKind.{NameKind}
 use Rattle.vert_base.specs.declared.message.NameKind.TheVariants as kind
 use Rattle.vert_base.specs.declared.value.Row.{Row}
 use Rattle.vert_base.specs.declared.value.Ruling.{Ruling}
@@ -18,7 +17,7 @@ use Rattle.vert_base.specs.declared.value.ValueType.{ValueType}
 use Rattle.vert_base.specs.declared.value.ValueType.TheVariants as value
 use Rattle.vert_base.specs.Letters.{Letter}
 use Rattle.vert_tree.specs.declared.program.Sparse.{Sparse as SparseBlock}
-use Rattle.vert_tree.specs.Kinds.{field_kinds, kinds_of}
+use Rattle.vert_tree.specs.Kinds.{kinds_of}
 use Rattle.vert_tree.specs.declared.program.Dense.{Dense as DenseBlock}
 use Rattle.carry_analysis.specs.declared.classes.Class.{Class}
 use Rattle.carry_analysis.specs.Classes.{body_marks}
@@ -35,18 +34,16 @@ use Rattle.circulant_plan.specs.Skeleton.{acting_ruling, may_rule}
 use Rattle.circulant_plan.specs.Table.{begin_gives, gives_of, name_if, others_of, tally_gives}
 use Rattle.circulant_plan.proofs.CircleLaws.{chunk_other}
 use Rattle.circulant_plan.proofs.Members.{Has, contains_from_has, has_map, has_others_cases}
-use Rattle.instrument.specs.declared.split.Split.{Split}
 use Rattle.instrument.specs.Loops.{is_reduced, loop_split, places_where}
 use Rattle.instrument.proofs.TypedLaws.{few_lets, length-let_classes}
 use Rattle.body_shape.specs.declared.shape.BodyShape.{BodyShape}
-use Rattle.body_shape.specs.declared.shape.BodyShape.TheVariants.{Refresh, Dep, Update, Push, Tally, Verdict}
+use Rattle.body_shape.specs.declared.shape.BodyShape.TheVariants.{Refresh, Update, Push, Tally}
 use Rattle.body_shape.specs.Fit.{is_fit}
 use Rattle.body_shape.specs.Places.{there}
-use Rattle.body_shape.specs.Push.{push_body}
-use Rattle.body_shape.specs.Refresh.{IsWords, PlainRow, plain_row, refresh_body, row_words, word_of_bool, IsRow as IsPlainRow}
+use Rattle.body_shape.specs.Refresh.{IsWords, PlainRow, plain_row, word_of_bool, IsRow as IsPlainRow}
 use Rattle.body_shape.specs.Shapes.{bool_bits}
 use Rattle.body_shape.specs.Tally.{tally_body}
-use Rattle.body_shape.specs.Update.{AreValues, IsSent, Sent, update_body}
+use Rattle.body_shape.specs.Update.{AreValues, IsSent, Sent}
 use Rattle.body_shape.specs.Verdict.{Judged, may_be, verdict_body}
 use Rattle.body_shape.proofs.ByteLaws.{few_places}
 use Rattle.body_shape.proofs.PushLaws.{push_fits}
@@ -65,13 +62,13 @@ use Rattle.circulant_plan.specs.Standing.{round_of}
 use Rattle.symple_face.specs.Sight.{seen_env}
 use Rattle.symple_face.specs.declared.action.Action.TheVariants as action
 use Rattle.symple_face.specs.CoreClose.{closed_rows}
-use Rattle.symple_face.specs.CoreDense.{scan_chunk, scan_dep, scan_half, scan_update, scanned_at}
+use Rattle.symple_face.specs.CoreDense.{scan_dep, scan_update, scanned_at}
 use Rattle.symple_face.specs.CoreJudge.{counted, judge_at, ruling_by, sums_at}
-use Rattle.symple_face.specs.CoreSight.{is_within, mirrors, none, own_row, own_sight, own_start, program_of, those_within, total_count}
+use Rattle.symple_face.specs.CoreSight.{is_within, none, own_row, own_sight, own_start, program_of, those_within, total_count}
 use Rattle.symple_face.specs.CoreSparse.{own_sends, sends_at}
 use Rattle.symple_face.specs.CoreTakes.{slot_count}
 use Rattle.symple_face.specs.CoreWork.{core_sent, push_sent, refresh_sent, sent_at}
-use Rattle.symple_face.specs.Lawful.{CanRun, HasForm}
+use Rattle.symple_face.specs.Lawful.{HasForm}
 use Rattle.symple_face.specs.Planned.{HasMessage, has_block}
 use Rattle.symple_face.specs.Plans.{blocks_of, is_in_range, loop_carry, ring_of}
 use Rattle.symple_face.specs.Shapes.{carried_in, count_within, form_of, half_in, lets_in, reduced_in, refreshed, sends_in, shape_of, size_of, types_at, types_of}
@@ -79,11 +76,11 @@ use Rattle.symple_face.specs.Shapes as shapes
 use Rattle.symple_face.specs.State.{State, action_of, machine, p_of}
 use Rattle.symple_face.proofs.LimitLaws.{few_slots}
 use Rattle.symple_face.proofs.TableLaws.{plans_by_table, some_block}
-use Rattle.work_laws.specs.Sound.{FitsSpot, HoldsFit, IsLoopState, IsRuled, TakesPlace, core_sound}
+use Rattle.work_laws.specs.Sound.{FitsSpot, IsRuled, TakesPlace, core_sound}
 use Rattle.work_laws.proofs.Closes.{closed_rows_fit}
-use Rattle.work_laws.proofs.Counts.{counted_suits, own_counted, reads_few, sums_fit}
+use Rattle.work_laws.proofs.Counts.{counted_suits, reads_few, sums_fit}
 use Rattle.work_laws.proofs.Gone.{begin_ruled, judged_may, ready_knows, small, small_within}
-use Rattle.work_laws.proofs.Held.{SendFits, send_kinds}
+use Rattle.work_laws.proofs.Held.{send_kinds}
 use Rattle.work_laws.proofs.Lists.{chunk_low, half_small, mirrors_small, push_to_own, refresh_to_own}
 use Rattle.work_laws.proofs.Scans.{SentFits}
 use Rattle.work_laws.proofs.Sees.{own_small, scan_fits}

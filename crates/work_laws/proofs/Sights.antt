@@ -1,7 +1,7 @@
 -- What a machine sees fits its types, and so does what a loop over its edges leaves.
-use Rattle.std.proofs.Common.{◌≡◌, ◌<◌, ◌≤◌, ◌+◌, ◌==◌, ◌^◌, ℕ, zero, suc, ℤ, Bool, true, false, List, [], ◌∷◌, ◌++◌, map, length, All, refl, sym, ap, subst, ◌∙◌, Option, None, Some, FitsSigned, w64, arith, length-append}
+use Rattle.std.proofs.Common.{◌≡◌, ◌<◌, ◌≤◌, ◌==◌, ◌^◌, ℕ, zero, suc, ℤ, Bool, true, false, List, [], ◌∷◌, length, All, refl, ap, subst, ◌∙◌, Option, Some, FitsSigned, w64, arith, length-append}
 use Rattle.std.specs.Prelude.{if◌then◌else◌}
-use Rattle.std.proofs.lemmas.List.Elements.{All-head, All-nil, All-tail}
+use Rattle.std.proofs.lemmas.List.Elements.{All-head, All-tail}
 use Rattle.vert_base.specs.declared.graph.Edge.{Edge}
 use Rattle.vert_base.specs.declared.limits.TheConstants.{VERTICES}
 use Rattle.vert_base.specs.declared.value.Row.{Row}
@@ -10,12 +10,12 @@ use Rattle.vert_base.specs.Neighbours.{source}
 use Rattle.vert_tree.specs.declared.program.Dense.{Dense}
 use Rattle.vert_tree.specs.declared.program.Program.{Program}
 use Rattle.vert_tree.specs.declared.statement.Stmt.{Stmt}
-use Rattle.vert_tree.specs.Kinds.{Kinds, body_typed, dense_typed, field_kinds, kinds_of}
+use Rattle.vert_tree.specs.Kinds.{Kinds, body_typed, dense_typed, field_kinds}
 use Rattle.vert_tree.specs.Places.{option_all}
 use Rattle.vert_eval.specs.declared.environment.Env.{Env}
 use Rattle.vert_eval.specs.declared.environment.Flow.{Flow}
 use Rattle.vert_eval.specs.declared.environment.Flow.TheVariants.{Going, Broke}
-use Rattle.vert_eval.specs.Runs.{Ran, after, by_flow, run}
+use Rattle.vert_eval.specs.Runs.{Ran, after, by_flow}
 use Rattle.vert_eval.specs.Values.{word_at}
 use Rattle.vert_eval.proofs.FrameLaws.{run_keeps as run_frame, run_reads}
 use Rattle.instrument.specs.declared.split.Split.{Split}
@@ -26,7 +26,7 @@ use Rattle.value_laws.proofs.Runs.{keeps_after, keeps_nothing, run_keeps}
 use Rattle.value_laws.proofs.Words.{fits_wider, zero_fits}
 use Rattle.chunk_split.specs.Chunks.{vertices_of}
 use Rattle.symple_face.specs.declared.degree.Degree.{Degree}
-use Rattle.symple_face.specs.CoreSight.{degree_among, degree_of, part_sight}
+use Rattle.symple_face.specs.CoreSight.{degree_among, part_sight}
 use Rattle.symple_face.specs.Lawful.{AreCounts, CanRun}
 use Rattle.symple_face.specs.Parts.{PlainPart}
 use Rattle.symple_face.specs.Sight.{Sight, seen_act, seen_at, seen_env, seen_loop}

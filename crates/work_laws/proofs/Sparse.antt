@@ -1,5 +1,5 @@
 -- The work of sends leaves partials of words.
-use Rattle.std.proofs.Common.{◌≡◌, ◌<◌, ◌≤◌, ◌+◌, ◌-◌, ◌==◌, ◌^◌, ℕ, zero, suc, ℤ, Bool, true, false, ◌&&◌, List, [], ◌∷◌, ◌++◌, map, length, All, refl, sym, ap, subst, ◌∙◌, Option, None, Some, FitsSigned, w64, arith}
+use Rattle.std.proofs.Common.{◌≡◌, ◌<◌, ◌-◌, ◌^◌, ℕ, ℤ, Bool, true, false, ◌&&◌, List, [], ◌∷◌, ◌++◌, map, length, All, refl, subst, Option, None, Some, arith}
 use Rattle.std.specs.Prelude.{if◌then◌else◌, slice_index, slice_index_or}
 use Rattle.std.specs.List.{AllByRecursion}
 use Rattle.std.proofs.lemmas.Option.{same_Some}
@@ -11,8 +11,6 @@ use Rattle.vert_base.specs.declared.message.NameKind.TheVariants as kind
 use Rattle.vert_base.specs.declared.value.Ruling.{Ruling}
 use Rattle.vert_base.specs.declared.value.Ruling.TheVariants.{Stop, Dense, Sparse}
 use Rattle.vert_base.specs.declared.value.ValueType.{ValueType}
-use Rattle.vert_base.specs.Letters.{Letter, placed}
-use Rattle.vert_base.specs.Names.{is_before}
 use Rattle.vert_base.specs.Neighbours.{source, target}
 use Rattle.vert_tree.specs.declared.program.Program.{Program}
 use Rattle.vert_tree.specs.declared.program.Sparse.{Sparse as SparseBlock}
@@ -22,7 +20,6 @@ use Rattle.slot_merge.specs.declared.partial.Partial.{Partial}
 use Rattle.slot_merge.specs.Partials.{with_emissions}
 use Rattle.vert_eval.specs.declared.environment.Env.{Env}
 use Rattle.vert_eval.specs.Rounds.{sent_by, slot_ops}
-use Rattle.vert_eval.specs.Runs.{run}
 use Rattle.vert_eval.specs.Values.{value_of}
 use Rattle.vert_eval.specs.Words.{is_set}
 use Rattle.chunk_split.specs.Chunks.{vertices_of}
@@ -36,14 +33,14 @@ use Rattle.value_laws.proofs.Rows.{decl_words, no_values_fit}
 use Rattle.value_laws.proofs.Runs.{WordFits, run_keeps}
 use Rattle.value_laws.proofs.Words.{fits_wider}
 use Rattle.symple_face.specs.CoreSight.{held_body, none, own_sight, own_start, program_of}
-use Rattle.symple_face.specs.CoreSparse.{all_worked, at_receiver, begin_go, edge_worked, key_of, kept_sends, own_first, own_sends, pushed_to, pushes, sends_at, sends_from, told_sends, with_emitted, worked}
+use Rattle.symple_face.specs.CoreSparse.{all_worked, at_receiver, begin_go, edge_worked, key_of, kept_sends, own_first, own_sends, pushed_to, pushes, sends_at, sends_from, told_sends, worked}
 use Rattle.symple_face.specs.Lawful.{CanRun}
 use Rattle.symple_face.specs.Parts.{PlainPart, chunk_vertices}
 use Rattle.symple_face.specs.Shapes.{sends_in}
 use Rattle.symple_face.specs.Sight.{Sight, seen_env}
 use Rattle.symple_face.specs.State.{State, machine, p_of}
 use Rattle.symple_face.proofs.ChunkLaws.{lies_high, lies_low}
-use Rattle.work_laws.specs.Sound.{ArePartials, HoldsFit, IsHeld, OfOwn}
+use Rattle.work_laws.specs.Sound.{ArePartials, HoldsFit, OfOwn}
 use Rattle.work_laws.proofs.Held.{MayRead, SendFits, may_read, send_kinds, told_send_fits}
 use Rattle.work_laws.proofs.Partials.{IsAmong, emissions_more, own_at, set_own}
 use Rattle.work_laws.proofs.Sees.{all_two, emptied_all, own_sees, own_small, push_edges}

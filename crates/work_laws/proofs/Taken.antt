@@ -1,6 +1,6 @@
 -- A take leaves a sound core sound.
-use Rattle.std.proofs.Common.{◌≡◌, ◌≢◌, ◌<◌, ◌≤◌, ◌+◌, ◌==◌, ◌^◌, inl, inr, ℕ, zero, suc, ℤ, Bool, true, false, ◌&&◌, ◌||◌, List, [], ◌∷◌, map, length, All, refl, sym, ap, subst, ◌∙◌, Option, None, Some, FitsSigned, w64, arith}
-use Rattle.std.specs.Prelude.{if◌then◌else◌, is_some, nat_le, slice_index_or}
+use Rattle.std.proofs.Common.{◌≡◌, ◌≢◌, ◌≤◌, ◌==◌, inl, inr, ℕ, zero, suc, ℤ, Bool, true, false, ◌&&◌, ◌||◌, List, [], ◌∷◌, length, All, refl, sym, ap, subst, ◌∙◌, FitsSigned, w64}
+use Rattle.std.specs.Prelude.{if◌then◌else◌, is_some, nat_le}
 use Rattle.std.specs.List.{AllByRecursion}
 use Rattle.std.proofs.lemmas.Bool.{and_parts, leb-true}
 use Rattle.std.proofs.lemmas.Option.{same_Some}
@@ -24,25 +24,23 @@ use Rattle.circulant_plan.specs.Standing.{round_of, ruled_standing}
 use Rattle.instrument.specs.declared.split.Split.{Split}
 use Rattle.body_shape.specs.Fit.{is_fit}
 use Rattle.body_shape.specs.Places.{flags_of, placed as filled, set_count}
-use Rattle.body_shape.specs.Update.{Sent, behind_sent, behind_values, sent_at, sent_with, sents_read, values_in}
+use Rattle.body_shape.specs.Update.{behind_sent, behind_values, sent_at, sent_with, sents_read, values_in}
 use Rattle.body_shape.specs.Verdict.{judged_read, may_be}
 use Rattle.body_shape.specs.declared.shape.BodyShape.TheVariants.{Verdict}
 use Rattle.body_shape.proofs.PlaceLaws.{length-flags_of, length-placed}
 use Rattle.body_shape.proofs.VerdictLaws.{verdict_suits}
-use Rattle.symple_face.specs.CoreSight.{beside, known, own_start, own_vertices, program_of, total_count}
+use Rattle.symple_face.specs.CoreSight.{known, own_vertices, program_of, total_count}
 use Rattle.symple_face.specs.CoreSparse.{take_push, told_sends, worked}
 use Rattle.symple_face.specs.CoreTakes.{noted, own_partials, slot_count, unsent, update_list, update_of, with_sent, with_update}
 use Rattle.symple_face.specs.CoreWork.{core_take, kept, take_update, take_verdict, taken}
-use Rattle.symple_face.specs.Lawful.{CanRun}
-use Rattle.symple_face.specs.Parts.{PlainPart}
 use Rattle.symple_face.specs.Plans.{blocks_of, concerns, goes_by_plan, is_in_range, is_planned, ring_of, serves}
-use Rattle.symple_face.specs.Shapes.{form_of, reduced_in, shape_of}
+use Rattle.symple_face.specs.Shapes.{form_of, reduced_in}
 use Rattle.symple_face.specs.State.{IsTakeable, State, machine, p_of, ruling_read}
 use Rattle.work_laws.specs.Sound.{ArePartials, FitsForm, FitsSpot, HoldsFit, IsHeld, IsRuled, core_sound}
 use Rattle.work_laws.proofs.Gone.{dense_not, small_within, sparse_not}
 use Rattle.work_laws.proofs.Held.{beside_is, shape_parts}
 use Rattle.work_laws.proofs.Moves.{placed_held}
-use Rattle.work_laws.proofs.Partials.{IsAmong, made_own, sent_more}
+use Rattle.work_laws.proofs.Partials.{made_own, sent_more}
 use Rattle.work_laws.proofs.Scans.{SentFits, unsent_fits}
 use Rattle.work_laws.proofs.Sees.{own_partials_are}
 use Rattle.work_laws.proofs.Sparse.{push_worked, told_fit}

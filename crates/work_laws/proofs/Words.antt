@@ -1,17 +1,16 @@
 -- Words that fit the types of declared names, as bodies and loop states tell them.
-use Rattle.std.proofs.Common.{◌≡◌, ◌<◌, ◌≤◌, ◌+◌, ◌*◌, ◌/◌, ◌%◌, ◌==◌, inl, inr, ℕ, zero, suc, ℤ, pos, negsuc, Bool, true, false, ◌&&◌, ◌||◌, List, [], ◌∷◌, ◌++◌, map, length, All, refl, sym, ap, subst, ◌∙◌, Option, None, Some, FitsSigned, w64, arith, append-nil}
-use Rattle.std.specs.Prelude.{if◌then◌else◌, nat_lt, slice_get, slice_index_or}
+use Rattle.std.proofs.Common.{◌≡◌, ◌+◌, ◌*◌, ◌/◌, ◌%◌, ◌==◌, inl, inr, ℕ, zero, suc, ℤ, pos, negsuc, Bool, true, false, ◌||◌, List, [], ◌∷◌, ◌++◌, length, refl, sym, ap, subst, ◌∙◌, Option, None, Some, FitsSigned, w64, arith, append-nil}
+use Rattle.std.specs.Prelude.{slice_index_or}
 use Rattle.std.specs.List.{AllByRecursion}
-use Rattle.std.proofs.lemmas.Bool.{and_from, and_parts, eq-eqb, eqb-true, ltb-true, or_left, or_right, true≢false}
+use Rattle.std.proofs.lemmas.Bool.{and_from, and_parts, eq-eqb, eqb-true, ltb-true, or_left, or_right}
 use Rattle.std.proofs.lemmas.Option.{same_Some}
-use Rattle.std.proofs.lemmas.List.Elements.{All-cons, All-head, All-nil, All-tail}
 use Rattle.vert_base.specs.declared.value.Combine.{Combine}
 use Rattle.vert_base.specs.declared.value.ValueType.{ValueType}
 use Rattle.vert_base.specs.declared.value.ValueType.TheVariants as kind
 use Rattle.carry_analysis.specs.declared.classes.Class.{Class}
 use Rattle.carry_analysis.specs.declared.classes.Class.TheVariants.{Constant, Reduced, Carried}
 use Rattle.carry_analysis.specs.Classes.{is_carried}
-use Rattle.slot_merge.specs.Combine.{combined_of, neutral}
+use Rattle.slot_merge.specs.Combine.{neutral}
 use Rattle.dep_layout.specs.Spelling.{are_typed, is_bool, suits}
 use Rattle.instrument.specs.Loops.{places_where}
 use Rattle.instrument.specs.Segments.{carried_words, left_after, received_over, with_neutral, with_received}
@@ -19,7 +18,7 @@ use Rattle.body_shape.specs.Shapes.{bool_bits}
 use Rattle.word_kinds.specs.Fits.{AreWords, IsTruth, IsWord}
 use Rattle.value_laws.proofs.Rounds.{no_words}
 use Rattle.value_laws.proofs.Rows.{neutral_fits}
-use Rattle.value_laws.proofs.Words.{combined_fits, int_word, zero_word}
+use Rattle.value_laws.proofs.Words.{combined_fits, int_word}
 use Rattle.symple_face.specs.Ring.{closing, with_operand}
 use Rattle.symple_face.specs.Shapes.{types_at}
 use Rattle.work_laws.proofs.Reduced.{AreInts}

@@ -1,5 +1,5 @@
 -- What a core keeps of its own state, whatever bodies it takes.
-use Rattle.std.specs.Prelude.{◌≡◌, ◌≢◌, ◌≤◌, ◌<◌, ◌+◌, ◌^◌, ◌++◌, ◌⊎◌, ◌==◌, ⊤, ℕ, ℤ, Bool, true, false, List, [], ◌∷◌, Option, None, Some, filter, length, map}
+use Rattle.std.specs.Prelude.{◌≡◌, ◌≢◌, ◌≤◌, ◌<◌, ◌+◌, ◌^◌, ◌++◌, ◌⊎◌, ◌==◌, ⊤, ℕ, ℤ, true, false, List, [], ◌∷◌, Option, Some, filter, length, map}
 use Rattle.std.specs.Int.{w64}
 use Rattle.std.specs.Int.RustNames.{FitsSigned}
 use Rattle.std.specs.List.{All, AllByRecursion}
