@@ -49,13 +49,15 @@ or_cases false b e = inr e
 same_self : (a : ℕ) → (a == a) ≡ true
 same_self a = eq-eqb a a refl
 
--- a typed program has a block
+-- a typed program has the blocks of its mode, and so one at least
 block_by_mode : (m : Mode) (dense sparse : Bool) → mode_stands m dense sparse ≡ true → (dense ≡ true) ⊎ (sparse ≡ true)
 block_by_mode mode.Auto dense sparse h = inl (and_parts dense sparse h).0
 block_by_mode mode.Dense dense sparse h = inl h
 block_by_mode mode.Sparse dense sparse h = inr h
 
-pub mode_block : (split : Split) → mode_stands split.program.program.mode (is_some split.program.program.dense) (is_some split.program.program.sparse) ≡ true
+pub mode_block : (split : Split) →
+    mode_stands split.program.program.mode (is_some split.program.program.dense) (is_some split.program.program.sparse)
+    ≡ true
 mode_block split =
     let p : Program = split.program.program in
     let second : (a b : Bool) → (a && b) ≡ true → b ≡ true = λ a b h. (and_parts a b h).1 in
@@ -65,7 +67,8 @@ mode_block split =
 pub some_block : (split : Split) → (ruling : Ruling) × (has_block (blocks_of split) ruling ≡ true)
 some_block split =
     let p : Program = split.program.program in
-    ⊎_elim (λ (d : is_some p.dense ≡ true). (Dense, d)) (λ (s : is_some p.sparse ≡ true). (Sparse, s)) (block_by_mode p.mode (is_some p.dense) (is_some p.sparse) (mode_block split))
+    ⊎_elim (λ (d : is_some p.dense ≡ true). (Dense, d)) (λ (s : is_some p.sparse ≡ true). (Sparse, s))
+    (block_by_mode p.mode (is_some p.dense) (is_some p.sparse) (mode_block split))
 
 -- what a plan says of one name
 record Goes (ring : Ring) (blocks : Blocks) (x : Name) : Type 0 where
