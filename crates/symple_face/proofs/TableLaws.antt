@@ -35,7 +35,7 @@ use Rattle.symple_face.specs.Plans.{blocks_of, concerns, goes_by_plan, is_half, 
 same_self : (a : ℕ) → (a == a) ≡ true
 same_self a = eq-eqb a a refl
 
--- a typed program has the blocks of its mode, and so one at least
+-- a typed program has a block
 block_by_mode : (m : Mode) (dense sparse : Bool) → mode_stands m dense sparse ≡ true → (dense ≡ true) ⊎ (sparse ≡ true)
 block_by_mode mode.Auto dense sparse h = inl (and_parts dense sparse h).0
 block_by_mode mode.Dense dense sparse h = inl h
