@@ -26,13 +26,19 @@
 -- DenseClose: the tail runs in the environment that the loop leaves, so the close makes the source's row.
 -- SparseClose: keys rise along N_t(v), so the buckets in turn are what its members emit.
 -- MachineScans: a scan of a half, from the parts, the rows told and the states taken. Tallies, Judging: sums and rulings.
--- FoldTakes, FoldUpdates, FoldVerdicts, FoldTells, FoldCloses, IdealClose, IdealSparse: one event of one machine. Held,
--- Lowered: what they need of messages held and of bounds above keys.
+-- FoldTakes, FoldUpdates, FoldVerdicts, FoldTells, FoldScan, FoldCloses, IdealClose, IdealSparse: one event of one
+-- machine. Held, Lowered: what they need of messages held and of bounds above keys. FoldScanReady: what a machine that is
+-- ready scans. FoldScanPlaces: the spot behind a scan. FoldScanHalves: halves and owners. FoldScanHeld: dropped bodies.
 -- Readable: what the blocks of a typed program may read.
 pub mod Chunks
 pub mod DenseClose
 pub mod DenseRound
 pub mod FoldCloses
+pub mod FoldScan
+pub mod FoldScanHalves
+pub mod FoldScanHeld
+pub mod FoldScanPlaces
+pub mod FoldScanReady
 pub mod FoldTakes
 pub mod FoldTells
 pub mod FoldUpdates

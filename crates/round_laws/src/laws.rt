@@ -1,6 +1,7 @@
 ghost use Rattle.round_laws.specs.DenseClose.{ClosesDense};
 ghost use Rattle.round_laws.specs.DenseRound.{RoundByMachines};
 ghost use Rattle.round_laws.specs.FoldCloses.{ClosesAndGoesOn, ClosesToJudge, DenseReadsAreIdeal, SparseReadsAreIdeal};
+ghost use Rattle.round_laws.specs.FoldScan.{ScansAndGoesOn};
 ghost use Rattle.round_laws.specs.FoldTakes.{TakesWhatIsKept};
 ghost use Rattle.round_laws.specs.FoldTells.{TellsAndGoesOn};
 ghost use Rattle.round_laws.specs.FoldUpdates.{TakesUpdates};
@@ -114,4 +115,9 @@ pub fn closes_go_on()
 /// The law that a machine that has told its first rows still holds what the source's run says. It does nothing.
 pub fn tells_go_on()
     ensures { TellsAndGoesOn }
+{}
+
+/// The law that a machine that scans a half of a chunk still holds what the source's run says. It does nothing.
+pub fn scans_go_on()
+    ensures { ScansAndGoesOn }
 {}
