@@ -49,8 +49,8 @@ use Rattle.round_laws.specs.FoldScan.{IsDenseRound, ScansAndGoesOn}
 use Rattle.round_laws.specs.IsIdeal.{HoldsBody, IsIdeal, came_words, dense_words, half_at, is_dense, is_past, keys_below, reads_held, ring_held, step_came, words_by}
 use Rattle.round_laws.specs.Partials.{partial_ops, sent_words}
 use Rattle.round_laws.proofs.FoldScanHalves.{half_within, in_half, owner_holds}
-use Rattle.round_laws.proofs.FoldScanHeld.{still_there, still_whole}
-use Rattle.round_laws.proofs.FoldScanPlaces.{IsBehindScan, behind, is_behind, last_step, not_past}
+use Rattle.round_laws.proofs.FoldScanHeld.{still_ahead, still_there, still_whole}
+use Rattle.round_laws.proofs.FoldScanPlaces.{IsBehindScan, behind, is_behind, last_step}
 use Rattle.round_laws.proofs.FoldScanReady.{own_last, scans_at}
 use Rattle.round_laws.proofs.IdealClose.{half_low}
 use Rattle.round_laws.proofs.IdealSparse.{owner_low}
@@ -177,8 +177,7 @@ module _ (src : Source) (d : Dense) (most m round step h : ℕ) (state : State)
 
   held_on : (k : NameKind) (l : Letter) → HoldsBody k src scanning l → HoldsBody k src after_scan l
   held_on kind.Refresh l holds = holds
-  held_on kind.Dep l holds =
-      λ late. holds (not_past p round step few early h x (l.name.step + 1) l.name.half next late)
+  held_on kind.Dep l holds = λ late. holds (still_ahead scanning after_scan l.name next.later late)
   held_on kind.Update l holds = holds
   held_on kind.Push l (inl empty) = inl empty
   held_on kind.Push l (inr both) = let wrong : true ≡ false = sym both.1 in absurd (clash wrong)

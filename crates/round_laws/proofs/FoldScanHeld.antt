@@ -1,17 +1,21 @@
 -- Of messages held: what is found of them, and what stays where some bodies are dropped.
-use Rattle.std.proofs.Common.{◌≡◌, Bool, true, false, List, [], ◌∷◌, refl, ap, subst, ◌∙◌, Option, None, Some}
-use Rattle.std.specs.Prelude.{◌++◌, if◌then◌else◌, is_some, option_map}
+use Rattle.std.proofs.Common.{◌≡◌, ◌≤◌, ◌+◌, ℕ, Bool, true, false, arith, List, [], ◌∷◌, refl, ap, subst, ◌∙◌, Option, None, Some}
+use Rattle.std.specs.Prelude.{◌++◌, if◌then◌else◌, is_some, nat_lt, option_map}
 use Rattle.std.specs.List.{AllByRecursion}
+use Rattle.std.proofs.lemmas.Bool.Decides.{nat_tests}
 use Rattle.vert_base.specs.declared.message.Name.{Name}
 use Rattle.vert_base.specs.Letters.{Letter, found}
 use Rattle.vert_base.specs.Names.{same_name}
 use Rattle.vert_base.proofs.LetterLaws.{found_name, names_law}
+use Rattle.circulant_plan.specs.declared.spot.Spot.TheVariants.{Scan}
 use Rattle.circulant_plan.specs.Skeleton.{has_name}
+use Rattle.circulant_plan.specs.Standing.{Standing, place_of}
 use Rattle.circulant_plan.specs.Table.{name_if}
 use Rattle.symple_face.specs.declared.action.Action.TheVariants.{Ready}
 use Rattle.symple_face.specs.CoreSight.{body_of}
 use Rattle.symple_face.specs.CoreTakes.{emptied, emptied_under}
 use Rattle.symple_face.specs.State.{first_missing, waiting_for}
+use Rattle.round_laws.specs.IsIdeal.{is_used}
 
 -- of a message that was taken, what holds of all that are held holds
 pub found_holds : (P : Letter → Type 0) (x : Name) (held : List Letter) → AllByRecursion P held →
@@ -94,3 +98,12 @@ still_whole xs x held other = found_emptied xs x held ∙ by (found x held) refl
     by (Some l) is =
         ap (λ b. Some (if b then record l { body = [] } else l))
         (ap (λ n. has_name n xs) (found_name x held l is) ∙ other)
+
+-- a loop state that isn't used at a standing isn't used at an earlier one
+pub still_ahead : (a b : Standing) (x : Name) → place_of a ≤ place_of b → is_used b x ≡ false → is_used a x ≡ false
+still_ahead a b x le late =
+    not_before (place_of (record { spot = Scan x.round (x.step + 1) x.half; round = x.round })) (place_of b) (place_of a)
+    le late
+  where
+    not_before : (n high low : ℕ) → low ≤ high → nat_lt n high ≡ false → nat_lt n low ≡ false
+    not_before n high low le is = grind (arith, nat_tests)

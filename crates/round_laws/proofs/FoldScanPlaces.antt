@@ -92,14 +92,3 @@ module _ (p round step : ℕ) (few : p ≤ 64) (early : step < p) where
       by true is = to_next
       by false is = to_close (last_step step p early is)
   is_behind (suc (suc h)) le = absurd (omega arith)
-
-  -- what is past of a spot behind isn't so before
-  pub not_past : (h : ℕ) (x : Spot) (k g : ℕ) → IsBehindScan p round step h x →
-      is_past (record { spot = x; round = round }) k g ≡ false →
-      is_past (record { spot = Scan round step h; round = round }) k g ≡ false
-  not_past h x k g is late =
-      not_before (256 * round + (1 + 2 * k + g)) (place_of (record { spot = x; round = round }))
-      (place_of (record { spot = Scan round step h; round = round })) is.later late
-    where
-      not_before : (a b c : ℕ) → c ≤ b → nat_lt a b ≡ false → nat_lt a c ≡ false
-      not_before a b c le is = grind (arith, nat_tests)

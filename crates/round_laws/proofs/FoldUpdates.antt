@@ -81,7 +81,7 @@ beside_none d (u ∷ us) v (x ∷ xs) none = by (u == v) none (beside_none d us 
     by true h rest = cc
     by false h rest = rest h
 
-no_members : (ms : List Edge) → are_some ms ≡ false → ms ≡ []
+pub no_members : (ms : List Edge) → are_some ms ≡ false → ms ≡ []
 no_members [] none = refl
 no_members (e ∷ es) none = cc
 

@@ -26,14 +26,15 @@
 -- DenseClose: the tail runs in the environment that the loop leaves, so the close makes the source's row.
 -- SparseClose: keys rise along N_t(v), so the buckets in turn are what its members emit.
 -- MachineScans: a scan of a half, from the parts, the rows told and the states taken. Tallies, Judging: sums and rulings.
--- FoldTakes, FoldUpdates, FoldVerdicts, FoldTells, FoldScan, FoldCloses, IdealClose, IdealSparse: one event of one
--- machine. Held, Lowered: what they need of messages held and of bounds above keys. FoldScanReady: what a machine that is
+-- FoldTakes, FoldUpdates, FoldVerdicts, FoldTells, FoldScan, FoldJudge, FoldCloses, IdealClose, IdealSparse: one event of
+-- one machine. ReadsTargets: a machine reads of its targets alone. Held, Lowered: what they need of messages held and of bounds above keys. FoldScanReady: what a machine that is
 -- ready scans. FoldScanPlaces: the spot behind a scan. FoldScanHalves: halves and owners. FoldScanHeld: dropped bodies.
 -- Readable: what the blocks of a typed program may read.
 pub mod Chunks
 pub mod DenseClose
 pub mod DenseRound
 pub mod FoldCloses
+pub mod FoldJudge
 pub mod FoldScan
 pub mod FoldScanHalves
 pub mod FoldScanHeld
@@ -58,6 +59,7 @@ pub mod Partials
 pub mod Planned
 pub mod Ranges
 pub mod Readable
+pub mod ReadsTargets
 pub mod Scans
 pub mod Seen
 pub mod Sights

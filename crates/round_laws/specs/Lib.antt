@@ -2,6 +2,7 @@ pub mod Chunks
 pub mod DenseClose
 pub mod DenseRound
 pub mod FoldCloses
+pub mod FoldJudge
 pub mod FoldScan
 pub mod FoldTakes
 pub mod FoldTells

@@ -1,6 +1,7 @@
 ghost use Rattle.round_laws.specs.DenseClose.{ClosesDense};
 ghost use Rattle.round_laws.specs.DenseRound.{RoundByMachines};
 ghost use Rattle.round_laws.specs.FoldCloses.{ClosesAndGoesOn, ClosesToJudge, DenseReadsAreIdeal, SparseReadsAreIdeal};
+ghost use Rattle.round_laws.specs.FoldJudge.{JudgesAndGoesOn};
 ghost use Rattle.round_laws.specs.FoldScan.{ScansAndGoesOn};
 ghost use Rattle.round_laws.specs.FoldTakes.{TakesWhatIsKept};
 ghost use Rattle.round_laws.specs.FoldTells.{TellsAndGoesOn};
@@ -120,4 +121,9 @@ pub fn tells_go_on()
 /// The law that a machine that scans a half of a chunk still holds what the source's run says. It does nothing.
 pub fn scans_go_on()
     ensures { ScansAndGoesOn }
+{}
+
+/// The law that machine 0, when it judges a round, still holds what the source's run says. It does nothing.
+pub fn judge_goes_on()
+    ensures { JudgesAndGoesOn }
 {}
