@@ -1,7 +1,7 @@
 -- Machine 0 that judges a round goes on as the source's run says.
-use Rattle.std.proofs.Common.{◌≡◌, inl, inr, ◌<◌, ◌≤◌, ◌+◌, ◌-◌, ◌*◌, ℕ, Bool, true, false, List, [], ◌∷◌, length, map, sum, refl, sym, ap, subst, ◌∙◌, arith}
+use Rattle.std.proofs.Common.{◌≡◌, inl, inr, ◌<◌, ◌≤◌, ◌+◌, ◌-◌, ℕ, true, false, List, [], ◌∷◌, length, map, sum, refl, sym, ap, subst, ◌∙◌, arith}
 use Rattle.std.specs.Prelude.{◌^◌, if◌then◌else◌, is_some, nat_le}
-use Rattle.std.specs.List.{AllByRecursion, range_with_len}
+use Rattle.std.specs.List.{AllByRecursion}
 use Rattle.std.proofs.lemmas.Bool.Decides.{nat_tests}
 use Rattle.vert_base.specs.declared.graph.Edge.{Edge}
 use Rattle.vert_base.specs.declared.message.Name.{Name}
@@ -11,10 +11,9 @@ use Rattle.vert_base.specs.declared.value.Row.{Row}
 use Rattle.vert_base.specs.declared.value.Ruling.{Ruling}
 use Rattle.vert_base.specs.declared.value.Ruling.TheVariants as ruling
 use Rattle.vert_base.specs.Letters.{Letter, found}
-use Rattle.vert_eval.specs.Rounds.{row_at}
 use Rattle.vert_eval.specs.SourceRun.{Job, active_edges, ruling_after, standing_after}
 use Rattle.slot_merge.specs.Filled.{AreFilled}
-use Rattle.circulant_plan.specs.declared.spot.Spot.TheVariants.{Begin, Judge, Over}
+use Rattle.circulant_plan.specs.declared.spot.Spot.TheVariants.{Judge, Over}
 use Rattle.circulant_plan.specs.Names.{tally_name}
 use Rattle.circulant_plan.specs.Standing.{Standing, standing_at}
 use Rattle.circulant_plan.specs.Table.{after_judge, others_of}
@@ -27,7 +26,7 @@ use Rattle.symple_face.specs.CoreJudge.{all_joined, counted, judge_go, report_af
 use Rattle.symple_face.specs.CoreSight.{program_of, targets_of, total_count}
 use Rattle.symple_face.specs.CoreTakes.{own_partials}
 use Rattle.symple_face.specs.CoreWork.{core_go, moved}
-use Rattle.symple_face.specs.Ideal.{ideal_count, ideal_reads, machines_of}
+use Rattle.symple_face.specs.Ideal.{ideal_count, machines_of}
 use Rattle.symple_face.specs.Parts.{PlainPart, chunk_vertices}
 use Rattle.symple_face.specs.PartsOf.{part_of}
 use Rattle.symple_face.specs.Source.{Source, job_of, stand}
@@ -81,7 +80,7 @@ module _ (src : Source) (most round : ℕ) (state : State) (fits : IsCountedRoun
   abbrev own : List ℕ
   own = chunk_vertices ends 0
 
-  job_is : src.job ≡ job_of src.split ends src.job.draws edges
+  pub job_is : src.job ≡ job_of src.split ends src.job.draws edges
   job_is = λ i. record {
     program = sym fits.program i;
     graph = record { vertices = fits.sized i; ends = ends; edges = edges };
@@ -125,7 +124,7 @@ module _ (src : Source) (most round : ℕ) (state : State) (fits : IsCountedRoun
         ∙ tallies_summed src most round fits.typed fits.ends fits.sized fits.rows
 
     -- ---- the ruling
-    rules : ruling_by s round (sums_at s round) ≡ (stand src (round + 1)).ruling
+    pub rules : ruling_by s round (sums_at s round) ≡ (stand src (round + 1)).ruling
     rules =
         ap (ruling_by s round) sums_are
         ∙ judges_as_source s ends src.job.draws 0 round edges rows (source_count src round) refl refl
@@ -143,7 +142,7 @@ module _ (src : Source) (most round : ℕ) (state : State) (fits : IsCountedRoun
       totals = (stand src (round + 1)).totals;
     }
 
-    judged_is : sums_of (sums_at s round) ≡ stood
+    pub judged_is : sums_of (sums_at s round) ≡ stood
     judged_is =
         ap sums_of sums_are
         ∙ sym (ap (λ x. record { active = x.active; edges = x.edges; totals = x.totals }) fits.after)

@@ -20,6 +20,7 @@ pub mod Partials
 pub mod Planned
 pub mod Scans
 pub mod Seen
+pub mod Sent
 pub mod Sights
 pub mod SparseClose
 pub mod Steps

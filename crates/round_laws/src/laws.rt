@@ -15,6 +15,7 @@ ghost use Rattle.round_laws.specs.MachineScans.{MachineScansAreIdeal};
 ghost use Rattle.round_laws.specs.Partials.{FillsSent};
 ghost use Rattle.round_laws.specs.Scans.{ScansAfresh, ScansTheRing};
 ghost use Rattle.round_laws.specs.Seen.{EnvironmentsAreSeen, LoopsAreSeen};
+ghost use Rattle.round_laws.specs.Sent.{BeginSendsIdeal, CloseSendsIdeal, JudgeSendsIdeal, ScanSendsIdeal, TellSendsIdeal};
 ghost use Rattle.round_laws.specs.Sights.{OwnAreSeen, OwnScansAreSeen, ToldScansAreSeen};
 ghost use Rattle.round_laws.specs.SparseClose.{ClosesSparse};
 ghost use Rattle.round_laws.specs.Steps.{BeginsAfresh, ComesByMachines, GrowsByMachines};
@@ -126,4 +127,13 @@ pub fn scans_go_on()
 /// The law that machine 0, when it judges a round, still holds what the source's run says. It does nothing.
 pub fn judge_goes_on()
     ensures { JudgesAndGoesOn }
+{}
+
+/// The law that the messages that a machine sends have the bodies that the source's run says. It does nothing.
+pub fn sends_are_ideal()
+    ensures tell { TellSendsIdeal }
+    ensures judge { JudgeSendsIdeal }
+    ensures begin { BeginSendsIdeal }
+    ensures scan { ScanSendsIdeal }
+    ensures close { CloseSendsIdeal }
 {}
