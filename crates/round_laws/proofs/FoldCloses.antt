@@ -257,7 +257,7 @@ closes_to_judge src round dense state is at_close rows reads =
     (λ v. ap (λ a. reads_held src 0 a v) (sym at_close) ∙ reads v))
 
 -- ---- reads at the close
-at_most : (a b : ℕ) → a ≤ b → nat_le a b ≡ true
+pub at_most : (a b : ℕ) → a ≤ b → nat_le a b ≡ true
 at_most a b le = grind (arith, nat_tests)
 
 read_in : (src : Source) (m round v : ℕ) (q : Ruling) → src.base ≤ round → (stand src round).ruling ≡ q →

@@ -2,7 +2,6 @@
 use Rattle.std.proofs.Common.{◌≡◌, inl, inr, ◌<◌, ◌≤◌, ◌+◌, ◌-◌, ℕ, true, false, List, [], ◌∷◌, length, map, sum, refl, sym, ap, subst, ◌∙◌, arith}
 use Rattle.std.specs.Prelude.{◌^◌, if◌then◌else◌, is_some, nat_le}
 use Rattle.std.specs.List.{AllByRecursion}
-use Rattle.std.proofs.lemmas.Bool.Decides.{nat_tests}
 use Rattle.vert_base.specs.declared.graph.Edge.{Edge}
 use Rattle.vert_base.specs.declared.message.Name.{Name}
 use Rattle.vert_base.specs.declared.message.NameKind.{NameKind}
@@ -35,7 +34,7 @@ use Rattle.round_laws.specs.FoldJudge.{IsCountedRound, JudgesAndGoesOn}
 use Rattle.round_laws.specs.IsIdeal.{HoldsBody, IsIdeal, keys_below, reads_held, ring_held}
 use Rattle.round_laws.specs.Partials.{partial_ops}
 use Rattle.round_laws.specs.Tallies.{source_count}
-use Rattle.round_laws.proofs.FoldCloses.{begin, no_reads, no_ring, no_words}
+use Rattle.round_laws.proofs.FoldCloses.{at_most, begin, no_reads, no_ring, no_words}
 use Rattle.round_laws.proofs.FoldScanHeld.{found_holds, ready_one, ready_rest, still_ahead}
 use Rattle.round_laws.proofs.IdealClose.{stand_next}
 use Rattle.round_laws.proofs.Judging.{counts_ideal, judges_as_source}
@@ -54,9 +53,6 @@ pub stands_after : (src : Source) (round : ℕ) → src.base ≤ round →
     stand src (round + 1) ≡ standing_after src.job round (stand src (round + 1)).rows
 stands_after src round le =
     let next = stand_next src round le in next ∙ ap (standing_after src.job round) (sym (ap (λ x. x.rows) next))
-
-at_least : (a b : ℕ) → a ≤ b → nat_le a b ≡ true
-at_least a b le = grind (arith, nat_tests)
 
 module _ (src : Source) (most round : ℕ) (state : State) (fits : IsCountedRound src most round) where
   abbrev ends : List ℕ
@@ -161,7 +157,7 @@ module _ (src : Source) (most round : ℕ) (state : State) (fits : IsCountedRoun
     report_is le =
         let base = fits.base in
         let some : 1 ≤ round = omega (arith, base, le) in
-        let knows : nat_le 1 round ≡ true = at_least 1 round some in
+        let knows : nat_le 1 round ≡ true = at_most 1 round some in
         ap (λ b. if b then record {
           round = round;
           ruling = state.ruling;

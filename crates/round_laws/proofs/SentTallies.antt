@@ -32,7 +32,7 @@ use Rattle.round_laws.specs.Sent.{CloseSendsIdeal, JudgeSendsIdeal, SendsIdeal, 
 use Rattle.round_laws.proofs.FoldJudge.{job_is, judged_is, rules}
 use Rattle.round_laws.proofs.Judging.{counts_ideal}
 use Rattle.round_laws.proofs.ReadsTargets.{targets_read}
-use Rattle.round_laws.proofs.Tallies.{sum-more}
+use Rattle.round_laws.proofs.Sums.{sum_none}
 
 -- a letter of a name, with what is sent under it
 abbrev lettered : State → Name → Letter
@@ -43,13 +43,6 @@ all_sent : (src : Source) (s : State) (xs : List Name) →
     AllByRecursion (λ x. sent_at s s.at.spot x ≡ ideal_body src x) xs →
     AllByRecursion (λ l. l.body ≡ ideal_body src l.name) (map (lettered s) xs)
 all_sent src s xs all = all_map (λ l. l.body ≡ ideal_body src l.name) (lettered s) xs all
-
-sum_none : {X : Type 0} (f : X → ℕ) (xs : List X) → ((x : X) → f x ≡ 0) → sum (map f xs) ≡ 0
-sum_none f [] none = refl
-sum_none f (x ∷ xs) none = none_more (f x) (map f xs) (none x) (sum_none f xs none)
-  where
-    none_more : (n : ℕ) (ns : List ℕ) → n ≡ 0 → sum ns ≡ 0 → sum (n ∷ ns) ≡ 0
-    none_more n ns first rest = sum-more n ns ∙ (let all : n + sum ns ≡ 0 = omega (arith, first, rest) in all)
 
 not_least : (a : ℕ) → 1 ≤ a → nat_le a 0 ≡ false
 not_least a some = grind (arith, nat_tests)
@@ -132,9 +125,10 @@ tell_sends_ideal src most m state fits machine is at =
   where
     nothing : sum (map (λ v. length (ideal_reads src 0 m v)) (meaning.vertices_of src.job.graph)) ≡ 0
     nothing =
-        sum_none (λ v. length (ideal_reads src 0 m v)) (meaning.vertices_of src.job.graph)
-        (λ v. ap (λ b. length (if b then reads_by src (stand src 0).ruling 0 m v else []))
-        (not_least src.base fits.base))
+        ap sum (map_same (λ v. length (ideal_reads src 0 m v)) (λ v. 0) (meaning.vertices_of src.job.graph)
+        (all_true _ (λ v. ap (λ b. length (if b then reads_by src (stand src 0).ruling 0 m v else []))
+        (not_least src.base fits.base)) (meaning.vertices_of src.job.graph)))
+        ∙ sum_none (meaning.vertices_of src.job.graph)
 
 -- ---- the judge
 pub judge_sends_ideal : JudgeSendsIdeal

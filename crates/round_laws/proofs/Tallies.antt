@@ -31,7 +31,7 @@ use Rattle.round_laws.specs.Sums.{each}
 use Rattle.round_laws.specs.Tallies.{TalliesAreSummed, source_count}
 use Rattle.round_laws.proofs.Sums.{counts_by_chunks, sums_by_chunks, total_alone, totals_by_chunks}
 
-pub sum-more : (x : ℕ) (xs : List ℕ) → sum (x ∷ xs) ≡ x + sum xs
+sum-more : (x : ℕ) (xs : List ℕ) → sum (x ∷ xs) ≡ x + sum xs
 sum-more x xs = sum_by-cons (λ y. y) x xs
 
 -- ---- counts joined, field by field

@@ -18,6 +18,7 @@ pub mod MachineScans
 pub mod Members
 pub mod Partials
 pub mod Planned
+pub mod ReadsCounted
 pub mod Scans
 pub mod Seen
 pub mod Sent

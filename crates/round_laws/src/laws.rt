@@ -13,6 +13,7 @@ ghost use Rattle.round_laws.specs.Judging.{CountsAreIdeal, JudgesAsTheSource};
 ghost use Rattle.round_laws.specs.Lets.{LetsByMachines};
 ghost use Rattle.round_laws.specs.MachineScans.{MachineScansAreIdeal};
 ghost use Rattle.round_laws.specs.Partials.{FillsSent};
+ghost use Rattle.round_laws.specs.ReadsCounted.{ReadsAreCounted};
 ghost use Rattle.round_laws.specs.Scans.{ScansAfresh, ScansTheRing};
 ghost use Rattle.round_laws.specs.Seen.{EnvironmentsAreSeen, LoopsAreSeen};
 ghost use Rattle.round_laws.specs.Sent.{BeginSendsIdeal, CloseSendsIdeal, JudgeSendsIdeal, ScanSendsIdeal, TellSendsIdeal};
@@ -136,4 +137,9 @@ pub fn sends_are_ideal()
     ensures begin { BeginSendsIdeal }
     ensures scan { ScanSendsIdeal }
     ensures close { CloseSendsIdeal }
+{}
+
+/// The law that what all machines read in a round is what the source's run reads in it. It does nothing.
+pub fn reads_are_counted()
+    ensures { ReadsAreCounted }
 {}
