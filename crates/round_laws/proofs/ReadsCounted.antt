@@ -1,6 +1,6 @@
 -- What all machines read in a round is what the source's run reads in it.
-use Rattle.std.proofs.Common.{◌≡◌, ◌<◌, ◌≤◌, ◌+◌, ◌-◌, ℕ, Bool, true, false, List, [], ◌++◌, length, map, sum, refl, sym, ap, subst, ◌∙◌, Option, None, Some, append-nil, arith}
-use Rattle.std.specs.Prelude.{if◌then◌else◌, slice_index}
+use Rattle.std.proofs.Common.{◌≡◌, ◌<◌, ◌≤◌, ℕ, Bool, true, false, List, [], ◌++◌, length, map, sum, refl, sym, ap, subst, ◌∙◌, Option, None, Some, append-nil, arith}
+use Rattle.std.specs.Prelude.{if◌then◌else◌}
 use Rattle.std.specs.List.{flat_map, range_with_len}
 use Rattle.vert_base.specs.declared.graph.Edge.{Edge}
 use Rattle.vert_base.specs.declared.value.Ruling.{Ruling}
@@ -10,7 +10,7 @@ use Rattle.vert_tree.specs.declared.program.Sparse.{Sparse}
 use Rattle.vert_eval.specs.declared.environment.Env.{Env}
 use Rattle.vert_eval.specs.Rounds.{Scene, dense_block, dense_part, gathered, members_of, slot_ops, sparse_part}
 use Rattle.vert_eval.specs.Rounds as meaning
-use Rattle.vert_eval.specs.Runs.{Ran, leaves, run}
+use Rattle.vert_eval.specs.Runs.{Ran, leaves}
 use Rattle.vert_eval.specs.Values.{value_of}
 use Rattle.vert_eval.specs.Words.{is_set}
 use Rattle.vert_eval.proofs.FrameLaws.{run_reads}
