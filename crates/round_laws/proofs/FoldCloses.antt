@@ -42,6 +42,7 @@ use Rattle.symple_face.proofs.ChunkLaws.{lies_high, lies_low}
 use Rattle.round_laws.specs.FoldCloses.{ClosesAndGoesOn, ClosesToJudge, DenseReadsAreIdeal, SparseReadsAreIdeal}
 use Rattle.round_laws.specs.IsIdeal.{HoldsBody, IsIdeal, came_words, half_at, is_dense, is_past, keys_below, reads_held, ring_held, sends_came, sparse_words, step_came, words_by}
 use Rattle.round_laws.specs.Partials.{partial_ops, sent_words}
+use Rattle.round_laws.proofs.FoldScanHeld.{still_ahead}
 use Rattle.round_laws.proofs.IdealClose.{half_low}
 
 -- partials to which nothing came
@@ -204,19 +205,9 @@ module _ (src : Source) (round : ℕ) (dense : Bool) (state : State) where
   abbrev judge_next : State
   judge_next = moved judging (close_go zero_state round dense)
 
-  -- what isn't past at the judge wasn't at the close
-  pub earlier : (step h : ℕ) → is_past judging step h ≡ false → is_past closing step h ≡ false
-  earlier step h late =
-      let place : ℕ = 256 * round + (1 + 2 * step + h) in
-      let behind : 256 * round + 255 ≤ place = not_less place (256 * round + 255) late in
-      not_below place (256 * round + 254) (omega (arith, behind))
-    where
-      not_less : (a b : ℕ) → nat_lt a b ≡ false → b ≤ a
-      not_less a b is = grind (arith, nat_tests)
-
   held_on : (k : NameKind) (l : Letter) → HoldsBody k src closing l → HoldsBody k src judging l
   held_on kind.Refresh l h = h
-  held_on kind.Dep l h = λ late. h (earlier (l.name.step + 1) l.name.half late)
+  held_on kind.Dep l h = λ late. h (still_ahead closing judging l.name (omega arith) late)
   held_on kind.Update l h = h
   held_on kind.Push l h = h
   held_on kind.Tally l h = h
@@ -267,7 +258,7 @@ closes_to_judge src round dense state is at_close rows reads =
     (λ v. ap (λ a. reads_held src 0 a v) (sym at_close) ∙ reads v))
 
 -- ---- reads at the close
-at_most : (a b : ℕ) → a ≤ b → nat_le a b ≡ true
+pub at_most : (a b : ℕ) → a ≤ b → nat_le a b ≡ true
 at_most a b le = grind (arith, nat_tests)
 
 read_in : (src : Source) (m round v : ℕ) (q : Ruling) → src.base ≤ round → (stand src round).ruling ≡ q →

@@ -1,5 +1,5 @@
 -- A machine that has told its first rows goes on as the source's run says.
-use Rattle.std.proofs.Common.{◌≡◌, ◌+◌, ℕ, Bool, true, false, List, refl, sym, ap, subst, ◌∙◌, ⊎_elim}
+use Rattle.std.proofs.Common.{◌≡◌, ℕ, Bool, true, false, List, refl, sym, ap, subst, ◌∙◌, arith, ⊎_elim}
 use Rattle.std.specs.Prelude.{◌==◌, if◌then◌else◌, nat_le}
 use Rattle.std.proofs.lemmas.Bool.{cases_Bool, eq-eqb}
 use Rattle.vert_base.specs.declared.message.NameKind.{NameKind}
@@ -19,7 +19,8 @@ use Rattle.symple_face.specs.State.{State}
 use Rattle.round_laws.specs.FoldTells.{TellsAndGoesOn}
 use Rattle.round_laws.specs.IsIdeal.{HoldsBody, IsIdeal, keys_below, reads_held, ring_held}
 use Rattle.round_laws.specs.Partials.{partial_ops}
-use Rattle.round_laws.proofs.FoldCloses.{begin, earlier, no_reads, no_ring, no_words}
+use Rattle.round_laws.proofs.FoldCloses.{begin, no_reads, no_ring, no_words}
+use Rattle.round_laws.proofs.FoldScanHeld.{still_ahead}
 
 module _ (src : Source) (m : ℕ) (state : State) where
   abbrev s : State
@@ -68,7 +69,7 @@ module _ (src : Source) (m : ℕ) (state : State) where
 
   held_on : (k : NameKind) (l : Letter) → HoldsBody k src first_standing l → HoldsBody k src judging l
   held_on kind.Refresh l h = h
-  held_on kind.Dep l h = λ late. h (earlier src 0 false state (l.name.step + 1) l.name.half late)
+  held_on kind.Dep l h = λ late. h (still_ahead first_standing judging l.name (omega arith) late)
   held_on kind.Update l h = h
   held_on kind.Push l h = h
   held_on kind.Tally l h = h

@@ -2,7 +2,7 @@
 use Rattle.std.proofs.Common.{◌≡◌, ◌<◌, ◌≤◌, ◌+◌, ◌-◌, ℕ, zero, suc, ℤ, Bool, true, false, List, [], ◌∷◌, ◌++◌, length, map, refl, sym, ap, subst, ◌∙◌, Option, None, Some, append-nil, arith, ⊎_elim}
 use Rattle.std.specs.Prelude.{◌==◌, ◌&&◌, ◌||◌, if◌then◌else◌, is_some, nat_lt, option_to_list, replicate, slice_index, slice_index_or}
 use Rattle.std.specs.List.{filter, list_any}
-use Rattle.std.proofs.lemmas.Bool.{cases_Bool, cases_lt, eq-eqb, eqb-true, ne_eqb}
+use Rattle.std.proofs.lemmas.Bool.{cases_Bool, eq-eqb, eqb-true, ne_eqb}
 use Rattle.std.proofs.lemmas.List.{length-map}
 use Rattle.std.proofs.lemmas.List.FromFn.{get_or-map-range_with_len}
 use Rattle.vert_base.specs.declared.graph.Edge.{Edge}
@@ -16,8 +16,7 @@ use Rattle.slot_merge.specs.declared.partial.Partial.{Partial}
 use Rattle.slot_merge.specs.Filled.{AreFilled, with_more}
 use Rattle.chunk_split.specs.Chunks.{AreEnds, vertices_of}
 use Rattle.circulant_plan.specs.Names.{update_name}
-use Rattle.circulant_plan.specs.Ring.{cut_of, lies_in, members_with, order_of}
-use Rattle.vert_base.specs.Ends.{start_of}
+use Rattle.circulant_plan.specs.Ring.{lies_in, members_with, order_of, start_of}
 use Rattle.circulant_plan.proofs.NameLists.{same_as_self}
 use Rattle.circulant_plan.proofs.ReadingLaws.{order_within}
 use Rattle.circulant_plan.proofs.SpanLaws.{is_below}
@@ -34,7 +33,7 @@ use Rattle.symple_face.specs.PartsOf.{part_of}
 use Rattle.symple_face.specs.Shapes.{half_in, reduced_in}
 use Rattle.symple_face.specs.Source.{Source, scene, stand}
 use Rattle.symple_face.specs.State.{State}
-use Rattle.symple_face.proofs.ChunkLaws.{lies_high, lies_is, lies_low}
+use Rattle.symple_face.proofs.ChunkLaws.{lies_high, lies_low}
 use Rattle.symple_face.proofs.ListLaws.{other_list}
 use Rattle.round_laws.specs.FoldUpdates.{IsUpdate, TakesUpdates, updated_list}
 use Rattle.round_laws.specs.IdealScans.{RunsDense, step_members}
@@ -42,13 +41,14 @@ use Rattle.round_laws.specs.IsIdeal.{HoldsBody, IsIdeal, came_words, dense_words
 use Rattle.round_laws.specs.Partials.{partial_ops, sent_words}
 use Rattle.round_laws.specs.Scans.{Sees}
 use Rattle.round_laws.specs.Vertices.{are_some, members_at}
+use Rattle.round_laws.proofs.FoldScanHalves.{in_half}
 use Rattle.round_laws.proofs.FoldTakes.{known_stays, totals_stay}
 use Rattle.round_laws.proofs.Held.{all_placed, apart_names, still_found}
 use Rattle.round_laws.proofs.IdealScans.{scans_ideal}
 use Rattle.round_laws.proofs.Lists.{any-filter, any_and, any_range, any_same}
 use Rattle.round_laws.proofs.Partials.{fills_sent}
 use Rattle.round_laws.proofs.Sights.{beside_is}
-use Rattle.round_laws.proofs.Vertices.{not_above, not_below, refreshed_law}
+use Rattle.round_laws.proofs.Vertices.{refreshed_law}
 
 -- ---- lists
 -- a number is among those that pass a test where it passes and is among them all
@@ -81,7 +81,7 @@ beside_none d (u ∷ us) v (x ∷ xs) none = by (u == v) none (beside_none d us 
     by true h rest = cc
     by false h rest = rest h
 
-no_members : (ms : List Edge) → are_some ms ≡ false → ms ≡ []
+pub no_members : (ms : List Edge) → are_some ms ≡ false → ms ≡ []
 no_members [] none = refl
 no_members (e ∷ es) none = cc
 
@@ -94,11 +94,6 @@ none_at zero (suc b) zero = refl
 none_at zero (suc b) (suc place) = none_at zero b place
 none_at (suc a) b zero = refl
 none_at (suc a) b (suc place) = none_at a b place
-
--- ---- halves
-half_zero : (w : Bool) → w ≡ ((if w then 0 else 1) == 0)
-half_zero true = refl
-half_zero false = refl
 
 module _ (src : Source) (d : Dense) (most m : ℕ) (state : State) (given : Letter) (runs : RunsDense src d)
     (are : AreEnds most src.job.graph.ends) (sized : src.job.graph.vertices ≡ vertices_of src.job.graph.ends)
@@ -211,25 +206,7 @@ module _ (src : Source) (d : Dense) (most m : ℕ) (state : State) (given : Lett
 
     -- ---- halves
     half_is : is_within (half_in ends m u.half) v ≡ (half_at src m v == u.half)
-    half_is = by u.half u.halves
-      where
-        upper : (w : Bool) → is_within (half_in ends m 0) v ≡ w → is_within (half_in ends m 1) v ≡
-            ((if w then 0 else 1) == 1)
-        upper w is =
-            let cut : ℕ = cut_of (start_of ends m) (slice_index ends m) in
-            ⊎_elim
-            (λ (below : v < cut).
-            not_below cut (slice_index ends m) v below
-            ∙ ap (λ b. (if b then 0 else 1) == 1) (sym (lies_is (start_of ends m) cut v low below) ∙ is))
-            (λ (above : cut ≤ v).
-            lies_is cut (slice_index ends m) v above high
-            ∙ ap (λ b. (if b then 0 else 1) == 1) (sym (not_above (start_of ends m) cut v above) ∙ is))
-            (cases_lt v cut)
-
-        by : (h : ℕ) → h ≤ 1 → is_within (half_in ends m h) v ≡ (half_at src m v == h)
-        by zero le = half_zero (is_within (half_in ends m 0) v)
-        by (suc zero) le = upper (is_within (half_in ends m 0) v) refl
-        by (suc (suc h)) le = absurd (omega arith)
+    half_is = in_half src m v lies u.half u.halves
 
     -- ---- the words that came
     open_words : (letters : List Letter) (place key : ℕ) →

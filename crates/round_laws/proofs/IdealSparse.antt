@@ -46,7 +46,7 @@ use Rattle.round_laws.proofs.Sights.{own_are_seen}
 use Rattle.round_laws.proofs.SparseClose.{closes_sparse, members_below}
 
 -- the owner of a vertex is a machine
-owner_low : (ends : List ℕ) (u : ℕ) → 1 ≤ length ends → u < vertices_of ends → owner_of ends u < length ends
+pub owner_low : (ends : List ℕ) (u : ℕ) → 1 ≤ length ends → u < vertices_of ends → owner_of ends u < length ends
 owner_low [] u some lt = absurd (omega arith)
 owner_low (end ∷ ends) u some lt =
     ⊎_elim

@@ -25,15 +25,23 @@
 -- Partials: what is sent goes to the ends of buckets, and the values of partials by their buckets.
 -- DenseClose: the tail runs in the environment that the loop leaves, so the close makes the source's row.
 -- SparseClose: keys rise along N_t(v), so the buckets in turn are what its members emit.
--- MachineScans: a scan of a half, from the parts, the rows told and the states taken. Tallies, Judging: sums and
--- rulings.
--- FoldTakes, FoldUpdates, FoldVerdicts, FoldTells, FoldCloses, IdealClose, IdealSparse: one event of one machine. Held,
--- Lowered: what they need of messages held and of bounds above keys.
+-- MachineScans: a scan of a half, from the parts, the rows told and the states taken. Tallies, Judging: sums and rulings.
+-- FoldTakes, FoldUpdates, FoldVerdicts, FoldTells, FoldScan, FoldJudge, FoldCloses, IdealClose, IdealSparse: one event of
+-- one machine. Held, Lowered: what they need of messages held and of bounds above keys. FoldScanReady: what a machine that
+-- is ready scans. FoldScanPlaces: the spot behind a scan. FoldScanHalves: halves and owners. FoldScanHeld: dropped bodies.
+-- SentScan, SentTallies, SentBegin: the bodies of what is sent. ReadsTargets, ReadsCounted: a machine reads of its
+-- targets alone, and all machines read what the source's run reads.
 -- Readable: what the blocks of a typed program may read.
 pub mod Chunks
 pub mod DenseClose
 pub mod DenseRound
 pub mod FoldCloses
+pub mod FoldJudge
+pub mod FoldScan
+pub mod FoldScanHalves
+pub mod FoldScanHeld
+pub mod FoldScanPlaces
+pub mod FoldScanReady
 pub mod FoldTakes
 pub mod FoldTells
 pub mod FoldUpdates
@@ -53,8 +61,13 @@ pub mod Partials
 pub mod Planned
 pub mod Ranges
 pub mod Readable
+pub mod ReadsCounted
+pub mod ReadsTargets
 pub mod Scans
 pub mod Seen
+pub mod SentBegin
+pub mod SentScan
+pub mod SentTallies
 pub mod Sights
 pub mod SparseClose
 pub mod Steps

@@ -32,7 +32,7 @@ sum-flat_map f (x ∷ xs) =
     ∙ ap (λ k. sum (f x) + k) (sum-flat_map f xs)
     ∙ sym (sum-cons (sum (f x)) (map (λ x. sum (f x)) xs))
 
-length-each : {X Y : Type 0} (f : X → List Y) (xs : List X) → length (flat_map f xs) ≡ sum (map (λ x. length (f x)) xs)
+pub length-each : {X Y : Type 0} (f : X → List Y) (xs : List X) → length (flat_map f xs) ≡ sum (map (λ x. length (f x)) xs)
 length-each f xs = length-flat_map f xs ∙ sym (sum-map (λ x. length (f x)) xs)
 
 sum_both : {X : Type 0} (f g : X → ℕ) (xs : List X) → sum (map (λ x. f x + g x) xs) ≡ sum (map f xs) + sum (map g xs)
@@ -47,7 +47,7 @@ sum_both f g (x ∷ xs) =
           (g x) (map g xs),
     )
 
-sum_none : {X : Type 0} (xs : List X) → sum (map (λ x. 0) xs) ≡ 0
+pub sum_none : {X : Type 0} (xs : List X) → sum (map (λ x. 0) xs) ≡ 0
 sum_none [] = refl
 sum_none (x ∷ xs) = omega (arith, sum_none xs, sum-cons 0 (map (λ x. 0) xs))
 
@@ -55,7 +55,7 @@ map_alike : {X Y : Type 0} (f g : X → Y) (xs : List X) → ((x : X) → f x �
 map_alike f g xs h = map_same f g xs (all_true (λ x. f x ≡ g x) h xs)
 
 -- sums in either order
-sum_swap :
+pub sum_swap :
     {X Y : Type 0} (f : X → Y → ℕ) (xs : List X) (ys : List Y) →
     sum (map (λ x. sum (map (f x) ys)) xs) ≡ sum (map (λ y. sum (map (λ x. f x y) xs)) ys)
 sum_swap f [] ys = sym (sum_none ys)

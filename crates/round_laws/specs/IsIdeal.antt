@@ -1,6 +1,7 @@
 -- A machine holds what the source's run says, by its spot and by the messages that it has taken.
 use Rattle.std.specs.Prelude.{◌≡◌, ◌⊎◌, ◌≤◌, ◌==◌, ◌+◌, ◌&&◌, not, nat_lt, ℕ, ℤ, Bool, true, false, List, [], Option, None, Some, if◌then◌else◌, is_some, length, map}
 use Rattle.std.specs.List.{AllByRecursion}
+use Rattle.vert_base.specs.declared.message.Name.{Name}
 use Rattle.vert_base.specs.declared.message.NameKind.{NameKind}
 use Rattle.vert_base.specs.declared.message.NameKind.TheVariants as kind
 use Rattle.vert_base.specs.declared.value.Ruling.{Ruling}
@@ -64,6 +65,11 @@ rows_before at = rows_round at.round at.spot
 abbrev pub is_past : Standing → ℕ → ℕ → Bool
 is_past at step h = nat_lt (place_of (record { spot = Scan at.round step h; round = at.round })) (place_of at)
 
+-- whether the scan that needs a loop state is past
+abbrev pub is_used : Standing → Name → Bool
+is_used at x =
+    nat_lt (place_of (record { spot = Scan x.round (x.step + 1) x.half; round = x.round })) (place_of at)
+
 -- the half of chunk c in which a vertex lies
 abbrev pub half_at : Source → ℕ → ℕ → ℕ
 half_at src c v = if is_within (half_in src.job.graph.ends c 0) v then 0 else 1
@@ -117,7 +123,7 @@ keys_below src = machines_of src + src.job.graph.vertices + 1
 -- what is held of a message: its ideal body, but for those that were merged or dropped
 abbrev pub HoldsBody : NameKind → Source → Standing → Letter → Type 0
 HoldsBody kind.Refresh src at l = l.body ≡ ideal_body src l.name
-HoldsBody kind.Dep src at l = is_past at (l.name.step + 1) l.name.half ≡ false → l.body ≡ ideal_body src l.name
+HoldsBody kind.Dep src at l = is_used at l.name ≡ false → l.body ≡ ideal_body src l.name
 HoldsBody kind.Update src at l = l.body ≡ []
 HoldsBody kind.Push src at l = (l.body ≡ []) ⊎ ((l.body ≡ ideal_body src l.name) × (awaits_begin at.spot ≡ true))
 HoldsBody kind.Tally src at l = l.body ≡ ideal_body src l.name

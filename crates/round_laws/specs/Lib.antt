@@ -2,6 +2,8 @@ pub mod Chunks
 pub mod DenseClose
 pub mod DenseRound
 pub mod FoldCloses
+pub mod FoldJudge
+pub mod FoldScan
 pub mod FoldTakes
 pub mod FoldTells
 pub mod FoldUpdates
@@ -16,8 +18,10 @@ pub mod MachineScans
 pub mod Members
 pub mod Partials
 pub mod Planned
+pub mod ReadsCounted
 pub mod Scans
 pub mod Seen
+pub mod Sent
 pub mod Sights
 pub mod SparseClose
 pub mod Steps

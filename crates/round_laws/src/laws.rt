@@ -1,6 +1,8 @@
 ghost use Rattle.round_laws.specs.DenseClose.{ClosesDense};
 ghost use Rattle.round_laws.specs.DenseRound.{RoundByMachines};
 ghost use Rattle.round_laws.specs.FoldCloses.{ClosesAndGoesOn, ClosesToJudge, DenseReadsAreIdeal, SparseReadsAreIdeal};
+ghost use Rattle.round_laws.specs.FoldJudge.{JudgesAndGoesOn};
+ghost use Rattle.round_laws.specs.FoldScan.{ScansAndGoesOn};
 ghost use Rattle.round_laws.specs.FoldTakes.{TakesWhatIsKept};
 ghost use Rattle.round_laws.specs.FoldTells.{TellsAndGoesOn};
 ghost use Rattle.round_laws.specs.FoldUpdates.{TakesUpdates};
@@ -11,8 +13,10 @@ ghost use Rattle.round_laws.specs.Judging.{CountsAreIdeal, JudgesAsTheSource};
 ghost use Rattle.round_laws.specs.Lets.{LetsByMachines};
 ghost use Rattle.round_laws.specs.MachineScans.{MachineScansAreIdeal};
 ghost use Rattle.round_laws.specs.Partials.{FillsSent};
+ghost use Rattle.round_laws.specs.ReadsCounted.{ReadsAreCounted};
 ghost use Rattle.round_laws.specs.Scans.{ScansAfresh, ScansTheRing};
 ghost use Rattle.round_laws.specs.Seen.{EnvironmentsAreSeen, LoopsAreSeen};
+ghost use Rattle.round_laws.specs.Sent.{BeginSendsIdeal, CloseSendsIdeal, JudgeSendsIdeal, ScanSendsIdeal, TellSendsIdeal};
 ghost use Rattle.round_laws.specs.Sights.{OwnAreSeen, OwnScansAreSeen, ToldScansAreSeen};
 ghost use Rattle.round_laws.specs.SparseClose.{ClosesSparse};
 ghost use Rattle.round_laws.specs.Steps.{BeginsAfresh, ComesByMachines, GrowsByMachines};
@@ -114,4 +118,28 @@ pub fn closes_go_on()
 /// The law that a machine that has told its first rows still holds what the source's run says. It does nothing.
 pub fn tells_go_on()
     ensures { TellsAndGoesOn }
+{}
+
+/// The law that a machine that scans a half of a chunk still holds what the source's run says. It does nothing.
+pub fn scans_go_on()
+    ensures { ScansAndGoesOn }
+{}
+
+/// The law that machine 0, when it judges a round, still holds what the source's run says. It does nothing.
+pub fn judge_goes_on()
+    ensures { JudgesAndGoesOn }
+{}
+
+/// The law that the messages that a machine sends have the bodies that the source's run says. It does nothing.
+pub fn sends_are_ideal()
+    ensures tell { TellSendsIdeal }
+    ensures judge { JudgeSendsIdeal }
+    ensures begin { BeginSendsIdeal }
+    ensures scan { ScanSendsIdeal }
+    ensures close { CloseSendsIdeal }
+{}
+
+/// The law that what all machines read in a round is what the source's run reads in it. It does nothing.
+pub fn reads_are_counted()
+    ensures { ReadsAreCounted }
 {}
