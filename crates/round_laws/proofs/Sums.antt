@@ -9,8 +9,7 @@ use Rattle.vert_base.specs.declared.value.Combine.TheVariants.{First}
 use Rattle.slot_merge.specs.Combine.{combined_of, neutral, total_of}
 use Rattle.slot_merge.proofs.CombineLaws.{combined_of-comm, total_of-append}
 use Rattle.chunk_split.specs.Chunks.{AreEnds, vertices_of}
-use Rattle.circulant_plan.specs.Ring.{order_of}
-use Rattle.vert_base.specs.Ends.{start_of}
+use Rattle.circulant_plan.specs.Ring.{order_of, start_of}
 use Rattle.circulant_plan.proofs.CircleLaws.{order_high, order_low}
 use Rattle.circulant_plan.proofs.SpanLaws.{range_split}
 use Rattle.graph_table.proofs.FilterLaws.{all_range, all_true, filter-flat_map, map-append, map-flat_map, map_same}
