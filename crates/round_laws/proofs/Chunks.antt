@@ -2,7 +2,8 @@
 use Rattle.std.proofs.Common.{◌≡◌, ℕ, zero, suc, ◌-◌, ◌<◌, ◌≤◌, true, List, length, refl, subst, arith, ⊎_elim}
 use Rattle.std.specs.Prelude.{slice_index}
 use Rattle.std.proofs.lemmas.Bool.{cases_lt}
-use Rattle.circulant_plan.specs.Ring.{lies_in, start_of}
+use Rattle.circulant_plan.specs.Ring.{lies_in}
+use Rattle.vert_base.specs.Ends.{start_of}
 use Rattle.symple_face.proofs.ChunkLaws.{lies_is, one_chunk}
 use Rattle.round_laws.specs.Chunks.{EachHasAChunk, EndsReach, NoneHasTwo}
 

@@ -22,7 +22,8 @@ use Rattle.slot_merge.proofs.FillLaws.{begins_empty}
 use Rattle.vert_eval.specs.Rounds.{emitted_over, env_at, members_of, row_at, slot_ops}
 use Rattle.graph_table.proofs.FilterLaws.{all_true, all_weaker, filter_none, map_same}
 use Rattle.circulant_plan.specs.declared.spot.Spot.TheVariants.{Begin, Close, Judge}
-use Rattle.circulant_plan.specs.Ring.{chunk_of, lies_in, start_of}
+use Rattle.circulant_plan.specs.Ring.{chunk_of, lies_in}
+use Rattle.vert_base.specs.Ends.{start_of}
 use Rattle.circulant_plan.specs.Standing.{Standing, standing_at}
 use Rattle.circulant_plan.proofs.ReadingLaws.{not_below}
 use Rattle.circulant_plan.proofs.SpanLaws.{is_below}

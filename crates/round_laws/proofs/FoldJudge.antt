@@ -195,7 +195,8 @@ module _ (src : Source) (most round : ℕ) (state : State) (fits : IsCountedRoun
     abbrev ruled : Ruling → State
     ruled q = record (judge_go s round) { ruling = q }
 
-    begins : (q : Ruling) → q ≡ (stand src (round + 1)).ruling → IsIdeal src 0 (moved (begin src 0 (round + 1)) (ruled q))
+    begins : (q : Ruling) → q ≡ (stand src (round + 1)).ruling →
+        IsIdeal src 0 (moved (begin src 0 (round + 1)) (ruled q))
     begins q told = record {
       part = refl;
       split = refl;

@@ -22,7 +22,8 @@ use Rattle.chunk_split.specs.Chunks.{vertices_of}
 use Rattle.circulant_plan.specs.declared.spot.Spot.{Spot}
 use Rattle.circulant_plan.specs.declared.spot.Spot.TheVariants.{Scan}
 use Rattle.circulant_plan.specs.Names.{dep_name, update_name, verdict_name}
-use Rattle.circulant_plan.specs.Ring.{before_machine, chunk_of, lies_in, order_of, start_of}
+use Rattle.circulant_plan.specs.Ring.{before_machine, chunk_of, lies_in, order_of}
+use Rattle.vert_base.specs.Ends.{start_of}
 use Rattle.circulant_plan.specs.Skeleton.{has_name}
 use Rattle.circulant_plan.specs.Standing.{Standing, standing_at}
 use Rattle.circulant_plan.specs.Table.{name_if}
@@ -285,7 +286,8 @@ module _ (src : Source) (d : Dense) (most m round step h : ℕ) (state : State)
       (if is_past after_scan (owner_step v) (half_at src (owner v) v)
       then (ideal_ran src round v (owner v) (owner_step v)).reads else [])
   reads_after_is v =
-      ap (λ b. if b && (is_dense (stand src round).ruling && is_past after_scan (owner_step v) (half_at src (owner v) v))
+      ap (λ b. if b && (is_dense (stand src round).ruling
+      && is_past after_scan (owner_step v) (half_at src (owner v) v))
       then (ideal_ran src round v (owner v) (owner_step v)).reads else []) next.going
       ∙ ap (λ q. if is_dense q && is_past after_scan (owner_step v) (half_at src (owner v) v)
       then (ideal_ran src round v (owner v) (owner_step v)).reads else []) fits.dense
@@ -328,7 +330,8 @@ module _ (src : Source) (d : Dense) (most m round step h : ℕ) (state : State)
       read_outside outside =
           reads_before_is v
           ∙ ap (λ b. if b then (ideal_ran src round v (owner v) (owner_step v)).reads else [])
-          (sym (past_same (owner_step v) (half_at src (owner v) v) (mod-lt (m + p - 1 - owner v) (omega (arith, machine)))
+          (sym (past_same (owner_step v) (half_at src (owner v) v)
+          (mod-lt (m + p - 1 - owner v) (omega (arith, machine)))
           (half_low src (owner v) v) other))
           ∙ sym (reads_after_is v)
         where
@@ -411,8 +414,10 @@ module _ (src : Source) (d : Dense) (most m round step h : ℕ) (state : State)
 
           came_before : step_came src m scanning state.held v step ≡ false
           came_before =
-              ap (λ b. if b then is_some (found (update_name round step (half_at src m v) (order_of m step p) m) state.held)
-              else step + 1 == p && is_past scanning step (half_at src m v)) (not_below (step + 1) p (omega (arith, last)))
+              ap (λ b. if b then is_some (found (update_name round step (half_at src m v) (order_of m step p) m)
+              state.held)
+              else step + 1 == p && is_past scanning step (half_at src m v))
+              (not_below (step + 1) p (omega (arith, last)))
               ∙ ap (λ b. b && is_past scanning step (half_at src m v)) (eq-eqb (step + 1) p last)
               ∙ not_below (256 * round + (1 + 2 * step + half_at src m v)) (256 * round + (1 + 2 * step + h))
               (omega (arith, here))
@@ -459,7 +464,8 @@ module _ (src : Source) (d : Dense) (most m round step h : ℕ) (state : State)
         filled_by : (b : Bool) → is_within half v ≡ b →
             Fills v (if b then with_sent step got (own_partials s v) else own_partials s v)
         filled_by true inside =
-            subst (λ ws. AreFilled 0 (partial_ops src.split) ws (keys_below src) (with_sent step got (own_partials s v)))
+            subst (λ ws. AreFilled 0 (partial_ops src.split) ws (keys_below src)
+            (with_sent step got (own_partials s v)))
             (more_words inside)
             (fills_sent (partial_ops src.split) (came_words src m scanning state.held v) (keys_below src) step got
             (own_partials s v) (omega (arith, early)) (is.partials v lies))
@@ -494,7 +500,8 @@ module _ (src : Source) (d : Dense) (most m round step h : ℕ) (state : State)
             let low = lies_low ends m v lies in
             let high = lies_high ends m v lies in
             ap (λ l. slice_index_or l (v - a) (fresh src.split)) (is.ring some)
-            ∙ get_or-map-range_with_len (ring_held src m scanning) a (slice_index ends m - a) (v - a) v (fresh src.split)
+            ∙ get_or-map-range_with_len (ring_held src m scanning) a (slice_index ends m - a) (v - a) v
+            (fresh src.split)
             (omega (arith, low, high)) (omega (arith, low))
             ∙ ring_same v (λ e f. clash (sym (inside_is ∙ eq-eqb (half_at src m v) h f) ∙ outside))
 
@@ -506,7 +513,8 @@ module _ (src : Source) (d : Dense) (most m round step h : ℕ) (state : State)
           (λ some. map_same (ring_after s round step h) (ring_held src m after_scan) own
           (all_range (λ v. ring_after s round step h v ≡ ring_held src m after_scan v) (start_of ends m)
           (slice_index ends m - start_of ends m)
-          (λ v low high. ring_is v (lies_is (start_of ends m) (slice_index ends m) v low (omega (arith, low, high))) some
+          (λ v low high. ring_is v (lies_is (start_of ends m) (slice_index ends m) v low (omega (arith, low, high)))
+          some
           (is_within half v) refl)))
 
     -- ---- both

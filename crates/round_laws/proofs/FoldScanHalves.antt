@@ -3,7 +3,8 @@ use Rattle.std.proofs.Common.{◌≡◌, ◌<◌, ◌≤◌, ◌+◌, ◌-◌, �
 use Rattle.std.specs.Prelude.{◌==◌, if◌then◌else◌, nat_le, nat_lt, slice_index}
 use Rattle.std.proofs.lemmas.Bool.{and_parts, cases_lt, leb-true, ltb-true}
 use Rattle.chunk_split.specs.Chunks.{AreEnds, vertices_of}
-use Rattle.circulant_plan.specs.Ring.{cut_of, lies_in, start_of}
+use Rattle.circulant_plan.specs.Ring.{cut_of, lies_in}
+use Rattle.vert_base.specs.Ends.{start_of}
 use Rattle.circulant_plan.proofs.ReadingLaws.{not_below as not_less}
 use Rattle.circulant_plan.proofs.SpanLaws.{is_below}
 use Rattle.symple_face.specs.CoreSight.{is_within}

@@ -31,7 +31,8 @@ found_holds P x (y ∷ ys) all some = by (same_name y.name x) refl some (found_h
 
 -- ---- readiness
 -- where nothing of one or two names is missing, both are there
-pub ready_one : (x : Name) (more : List Name) (held : List Letter) → waiting_for (first_missing (x ∷ more) held) ≡ Ready →
+pub ready_one : (x : Name) (more : List Name) (held : List Letter) → waiting_for (first_missing (x ∷ more) held)
+    ≡ Ready →
     is_some (found x held) ≡ true
 ready_one x more held ready = by (is_some (found x held)) refl ready
   where
@@ -102,7 +103,8 @@ still_whole xs x held other = found_emptied xs x held ∙ by (found x held) refl
 -- a loop state that isn't used at a standing isn't used at an earlier one
 pub still_ahead : (a b : Standing) (x : Name) → place_of a ≤ place_of b → is_used b x ≡ false → is_used a x ≡ false
 still_ahead a b x le late =
-    not_before (place_of (record { spot = Scan x.round (x.step + 1) x.half; round = x.round })) (place_of b) (place_of a)
+    not_before (place_of (record { spot = Scan x.round (x.step + 1) x.half; round = x.round })) (place_of b)
+    (place_of a)
     le late
   where
     not_before : (n high low : ℕ) → low ≤ high → nat_lt n high ≡ false → nat_lt n low ≡ false

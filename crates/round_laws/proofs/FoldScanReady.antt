@@ -82,7 +82,8 @@ module _ (src : Source) (d : Dense) (most m round step h : ℕ) (state : State)
   before_last : c ≢ m → step < p - 1
   before_last other =
       ⊎_elim (λ (less : step < p - 1). less)
-      (λ (late : p - 1 ≤ step). absurd (other (own_last (let last : step + 1 ≡ p = omega (arith, late, early) in last))))
+      (λ (late : p - 1 ≤ step). absurd (other
+      (own_last (let last : step + 1 ≡ p = omega (arith, late, early) in last))))
       (cases_lt step (p - 1))
 
   module _ (is : IsIdeal src m at_scan) (knows : known at_scan ≡ true) (ready : action_of at_scan ≡ Ready) where
@@ -138,7 +139,8 @@ module _ (src : Source) (d : Dense) (most m round step h : ℕ) (state : State)
       told = told;
       dep = λ carries later. dep_told carries (is_below 0 step later) later;
       bools = fits.bools;
-      words = all_map (IsState (width_of src.split) fits.bools) (λ v. state_at src round v c step) (vertices_within half)
+      words = all_map (IsState (width_of src.split) fits.bools) (λ v. state_at src round v c step)
+          (vertices_within half)
           (all_range (λ v. IsState (width_of src.split) fits.bools (state_at src round v c step)) half.0 (size_of half)
           (λ v low high. fits.states v c step (in_chunk v (within v low high))));
     }

@@ -16,7 +16,8 @@ use Rattle.slot_merge.specs.declared.partial.Partial.{Partial}
 use Rattle.slot_merge.specs.Filled.{AreFilled, with_more}
 use Rattle.chunk_split.specs.Chunks.{AreEnds, vertices_of}
 use Rattle.circulant_plan.specs.Names.{update_name}
-use Rattle.circulant_plan.specs.Ring.{lies_in, members_with, order_of, start_of}
+use Rattle.circulant_plan.specs.Ring.{lies_in, members_with, order_of}
+use Rattle.vert_base.specs.Ends.{start_of}
 use Rattle.circulant_plan.proofs.NameLists.{same_as_self}
 use Rattle.circulant_plan.proofs.ReadingLaws.{order_within}
 use Rattle.circulant_plan.proofs.SpanLaws.{is_below}

@@ -19,7 +19,8 @@ use Rattle.vert_eval.specs.SourceRun.{next_standing}
 use Rattle.chunk_split.specs.Chunks.{AreEnds, vertices_of}
 use Rattle.circulant_plan.specs.declared.spot.Spot.TheVariants.{Close}
 use Rattle.circulant_plan.specs.Names.{update_name}
-use Rattle.circulant_plan.specs.Ring.{AreEndsUpTo, chunk_of, lies_in, order_of, start_of}
+use Rattle.circulant_plan.specs.Ring.{AreEndsUpTo, chunk_of, lies_in, order_of}
+use Rattle.vert_base.specs.Ends.{start_of}
 use Rattle.circulant_plan.specs.Standing.{Standing}
 use Rattle.circulant_plan.proofs.ReadingLaws.{not_below, reads_in_turn}
 use Rattle.circulant_plan.proofs.SpanLaws.{is_below}

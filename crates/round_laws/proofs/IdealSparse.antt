@@ -17,7 +17,8 @@ use Rattle.vert_eval.specs.Rounds.{Scene, emitted_over, env_at, members_of, row_
 use Rattle.chunk_split.specs.Chunks.{AreEnds, vertices_of}
 use Rattle.circulant_plan.specs.declared.spot.Spot.TheVariants.{Close}
 use Rattle.circulant_plan.specs.Names.{push_name}
-use Rattle.circulant_plan.specs.Ring.{AreEndsUpTo, lies_in, start_of}
+use Rattle.circulant_plan.specs.Ring.{AreEndsUpTo, lies_in}
+use Rattle.vert_base.specs.Ends.{start_of}
 use Rattle.circulant_plan.specs.Standing.{Standing}
 use Rattle.circulant_plan.proofs.ReadingLaws.{not_below, turns_at_its_end}
 use Rattle.circulant_plan.proofs.SpanLaws.{is_below}

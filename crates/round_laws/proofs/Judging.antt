@@ -20,7 +20,8 @@ use Rattle.vert_eval.specs.SourceRun.{Job, active_vertices, scene_of, stops}
 use Rattle.vert_eval.specs.Values.{value_of}
 use Rattle.vert_eval.specs.Words.{is_set}
 use Rattle.chunk_split.specs.Chunks.{AreEnds}
-use Rattle.circulant_plan.specs.Ring.{lies_in, start_of}
+use Rattle.circulant_plan.specs.Ring.{lies_in}
+use Rattle.vert_base.specs.Ends.{start_of}
 use Rattle.graph_table.proofs.FilterLaws.{all_range, filter-map, map_same}
 use Rattle.instrument.specs.declared.split.Split.{Split}
 use Rattle.value_laws.specs.Blind.{SameButVertex}

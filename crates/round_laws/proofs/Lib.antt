@@ -25,10 +25,14 @@
 -- Partials: what is sent goes to the ends of buckets, and the values of partials by their buckets.
 -- DenseClose: the tail runs in the environment that the loop leaves, so the close makes the source's row.
 -- SparseClose: keys rise along N_t(v), so the buckets in turn are what its members emit.
--- MachineScans: a scan of a half, from the parts, the rows told and the states taken. Tallies, Judging: sums and rulings.
--- FoldTakes, FoldUpdates, FoldVerdicts, FoldTells, FoldScan, FoldJudge, FoldCloses, IdealClose, IdealSparse: one event of
--- one machine. Held, Lowered: what they need of messages held and of bounds above keys. FoldScanReady: what a machine that
--- is ready scans. FoldScanPlaces: the spot behind a scan. FoldScanHalves: halves and owners. FoldScanHeld: dropped bodies.
+-- MachineScans: a scan of a half, from the parts, the rows told and the states taken. Tallies, Judging: sums and
+-- rulings.
+-- FoldTakes, FoldUpdates, FoldVerdicts, FoldTells, FoldScan, FoldJudge, FoldCloses, IdealClose, IdealSparse: one
+-- event of
+-- one machine. Held, Lowered: what they need of messages held and of bounds above keys. FoldScanReady: what a machine
+-- that
+-- is ready scans. FoldScanPlaces: the spot behind a scan. FoldScanHalves: halves and owners. FoldScanHeld: dropped
+-- bodies.
 -- SentScan, SentTallies, SentBegin: the bodies of what is sent. ReadsTargets, ReadsCounted: a machine reads of its
 -- targets alone, and all machines read what the source's run reads.
 -- Readable: what the blocks of a typed program may read.

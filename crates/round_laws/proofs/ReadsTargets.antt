@@ -96,7 +96,8 @@ module _ (src : Source) (most m round : ℕ) (are : AreEnds most src.job.graph.e
   reads v = length (ideal_reads src round m v)
 
   -- its reads of the targets are all that it reads
-  pub targets_read : sum (map length (map (ideal_reads src round m) (targets_of (part_of ends src.job.draws edges m)))) ≡
+  pub targets_read : sum (map length (map (ideal_reads src round m)
+      (targets_of (part_of ends src.job.draws edges m)))) ≡
       sum (map reads (meaning.vertices_of src.job.graph))
   targets_read =
       ap sum (map-map length (ideal_reads src round m) (targets_of (part_of ends src.job.draws edges m)))

@@ -14,9 +14,11 @@ use Rattle.vert_eval.specs.declared.environment.Env.{Env}
 use Rattle.vert_eval.specs.Rounds.{env_at, no_values, row_at, slot_ops}
 use Rattle.circulant_plan.specs.declared.spot.Spot.TheVariants.{Begin}
 use Rattle.circulant_plan.specs.Names.{push_name, refresh_name}
-use Rattle.circulant_plan.specs.Ring.{lies_in, start_of}
+use Rattle.circulant_plan.specs.Ring.{lies_in}
+use Rattle.vert_base.specs.Ends.{start_of}
 use Rattle.circulant_plan.specs.Table.{begin_gives, others_of}
-use Rattle.graph_table.proofs.FilterLaws.{all_append, all_filter, all_map, all_range, map_same}
+use Rattle.graph_table.proofs.FilterLaws.{all_filter, all_map, all_range, map_same}
+use Rattle.vert_base.proofs.Orders.{all_append}
 use Rattle.body_shape.specs.Push.{push_body}
 use Rattle.body_shape.specs.Refresh.{plain_row, refresh_body}
 use Rattle.symple_face.specs.CoreSight.{known, none, own_row, own_sight, program_of}
@@ -78,7 +80,8 @@ module _ (src : Source) (most m round : ℕ) (state : State) (fits : IsCountedRo
     -- ---- rows
     row_is : (v : ℕ) → lies_in ends m v ≡ true → plain_row (own_row s v) ≡ plain_row (row_at (stand src round).rows v)
     row_is v lies =
-        ap plain_row (ap (λ l. row_at l (v - start_of ends m)) is.rows ∙ row_of_own (stand src round).rows ends m v lies)
+        ap plain_row (ap (λ l. row_at l (v - start_of ends m)) is.rows
+        ∙ row_of_own (stand src round).rows ends m v lies)
 
     refresh_is : (k : ℕ) → k < p → k ≢ m → refresh_sent s k ≡ ideal_body src (refresh_name round m k)
     refresh_is k low other =

@@ -67,7 +67,8 @@ module _ (src : Source) (most m round : ℕ) (state : State) (fits : IsCountedRo
       tally_body (counted part src.split rows reads round) ≡ ideal_body src (tally_name round m)
   tally_is reads read =
       ap tally_body
-      (counts_ideal src most m round src.split ends src.job.draws edges reads (job_is src most round state fits) fits.ends
+      (counts_ideal src most m round src.split ends src.job.draws edges reads (job_is src most round state fits)
+      fits.ends
       machine read)
 
   tally_alone : (s : State) → (sent_at s s.at.spot (tally_name round m) ≡ ideal_body src (tally_name round m)) →

@@ -11,7 +11,8 @@ use Rattle.vert_base.specs.Neighbours.{ins_of, source}
 use Rattle.vert_eval.specs.Rounds.{Scene, empty_row, row_at}
 use Rattle.chunk_split.specs.Chunks.{AreEnds}
 use Rattle.circulant_plan.specs.Names.{refresh_name}
-use Rattle.circulant_plan.specs.Ring.{lies_in, members_with, start_of}
+use Rattle.circulant_plan.specs.Ring.{lies_in, members_with}
+use Rattle.vert_base.specs.Ends.{start_of}
 use Rattle.graph_table.proofs.FilterLaws.{all_map, all_passes, all_weaker, map-map}
 use Rattle.body_shape.specs.Refresh.{HasFields, PlainRow, plain_row, rows_read}
 use Rattle.body_shape.proofs.RefreshLaws.{refresh_back}

@@ -8,8 +8,8 @@ use Rattle.vert_base.specs.declared.graph.Edge.{Edge}
 use Rattle.vert_base.specs.declared.value.Combine.{Combine}
 use Rattle.vert_base.specs.declared.value.Ruling.TheVariants as ruling
 use Rattle.vert_base.specs.Neighbours.{bucket, ins_of, source, target, turn_of, turned}
-use Rattle.vert_base.proofs.Orders.{in_order_below}
-use Rattle.graph_table.proofs.FilterLaws.{all_append, all_filter, all_true, all_weaker, filter_same, flat_map_same}
+use Rattle.vert_base.proofs.Orders.{in_order_below, all_append}
+use Rattle.graph_table.proofs.FilterLaws.{all_filter, all_true, all_weaker, filter_same, flat_map_same}
 use Rattle.slot_merge.specs.Combine.{Emission, combined, slot_values, words_for}
 use Rattle.vert_eval.specs.declared.environment.Env.{Env}
 use Rattle.vert_eval.specs.Rounds.{emitted_over, env_at, gathered, members_of, slot_ops, sparse_part, updated}

@@ -9,7 +9,8 @@ use Rattle.vert_base.specs.declared.value.Combine.TheVariants.{First}
 use Rattle.slot_merge.specs.Combine.{combined_of, neutral, total_of}
 use Rattle.slot_merge.proofs.CombineLaws.{combined_of-comm, total_of-append}
 use Rattle.chunk_split.specs.Chunks.{AreEnds, vertices_of}
-use Rattle.circulant_plan.specs.Ring.{order_of, start_of}
+use Rattle.circulant_plan.specs.Ring.{order_of}
+use Rattle.vert_base.specs.Ends.{start_of}
 use Rattle.circulant_plan.proofs.CircleLaws.{order_high, order_low}
 use Rattle.circulant_plan.proofs.SpanLaws.{range_split}
 use Rattle.graph_table.proofs.FilterLaws.{all_range, all_true, filter-flat_map, map-append, map-flat_map, map_same}
@@ -31,7 +32,8 @@ sum-flat_map f (x ∷ xs) =
     ∙ ap (λ k. sum (f x) + k) (sum-flat_map f xs)
     ∙ sym (sum-cons (sum (f x)) (map (λ x. sum (f x)) xs))
 
-pub length-each : {X Y : Type 0} (f : X → List Y) (xs : List X) → length (flat_map f xs) ≡ sum (map (λ x. length (f x)) xs)
+pub length-each : {X Y : Type 0} (f : X → List Y) (xs : List X) →
+    length (flat_map f xs) ≡ sum (map (λ x. length (f x)) xs)
 length-each f xs = length-flat_map f xs ∙ sym (sum-map (λ x. length (f x)) xs)
 
 sum_both : {X : Type 0} (f g : X → ℕ) (xs : List X) → sum (map (λ x. f x + g x) xs) ≡ sum (map f xs) + sum (map g xs)

@@ -10,7 +10,8 @@ use Rattle.vert_base.specs.declared.graph.Edge.{Edge}
 use Rattle.vert_base.specs.Neighbours.{bucket, source, target}
 use Rattle.vert_base.proofs.Orders.{filter-in_order, part-two_orders}
 use Rattle.chunk_split.specs.Chunks.{AreEnds, vertices_of}
-use Rattle.circulant_plan.specs.Ring.{lies_in, start_of}
+use Rattle.circulant_plan.specs.Ring.{lies_in}
+use Rattle.vert_base.specs.Ends.{start_of}
 use Rattle.circulant_plan.proofs.SpanLaws.{range_split}
 use Rattle.graph_table.proofs.FilterLaws.{all_filter, all_passes, all_range, all_weaker, filter_all, filter_filter, filter_none, filter_same}
 use Rattle.symple_face.specs.Parts.{chunk_vertices, edges_between, push_list, refresh_list}

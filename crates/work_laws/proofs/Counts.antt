@@ -18,7 +18,8 @@ use Rattle.vert_eval.specs.Values.{value_of}
 use Rattle.chunk_split.specs.Chunks.{vertices_of}
 use Rattle.chunk_split.proofs.ReachLaws.{sum_step}
 use Rattle.circulant_plan.specs.Names.{tally_name}
-use Rattle.circulant_plan.specs.Ring.{lies_in, start_of}
+use Rattle.circulant_plan.specs.Ring.{lies_in}
+use Rattle.vert_base.specs.Ends.{start_of}
 use Rattle.circulant_plan.specs.Table.{others_of}
 use Rattle.circulant_plan.proofs.CountLaws.{length-map_others}
 use Rattle.circulant_plan.proofs.Members.{Has, has_range}

@@ -20,7 +20,7 @@ use Rattle.vert_eval.specs.Values.{value_of}
 use Rattle.circulant_plan.specs.declared.spot.Spot.{Spot}
 use Rattle.circulant_plan.specs.declared.spot.Spot.TheVariants.{Tell, Judge, Begin, Scan, Close, Over}
 use Rattle.circulant_plan.specs.Names.{verdict_name}
-use Rattle.circulant_plan.specs.Ring.{start_of}
+use Rattle.vert_base.specs.Ends.{start_of}
 use Rattle.circulant_plan.specs.Skeleton.{may_rule}
 use Rattle.circulant_plan.specs.Table.{needs_of}
 use Rattle.circulant_plan.proofs.Members.{Has, contains_from_has}

@@ -32,7 +32,8 @@ use Rattle.body_shape.specs.declared.shape.BodyShape.TheVariants.{Refresh, Dep, 
 use Rattle.body_shape.specs.Fit.{is_fit}
 use Rattle.body_shape.specs.Places.{there}
 use Rattle.body_shape.specs.Push.{SuitsPush, sends_read}
-use Rattle.body_shape.specs.Refresh.{IsWords, PlainRow, SuitsRefresh, rows_read, word_of_bool, IsRow as IsPlainRow}
+use Rattle.body_shape.specs.Refresh.{IsWords, PlainRow, SuitsRefresh, rows_read, IsRow as IsPlainRow}
+use Rattle.vert_base.specs.Truth.{word_of_bool}
 use Rattle.body_shape.specs.Shapes.{bool_bits}
 use Rattle.body_shape.specs.Verdict.{judged_read}
 use Rattle.body_shape.proofs.MissingLaws.{push_missing, refresh_missing}
@@ -43,7 +44,8 @@ use Rattle.value_laws.proofs.Rounds.{no_words}
 use Rattle.symple_face.specs.CoreSight.{beside, body_of, field_count, program_of, told_row}
 use Rattle.symple_face.specs.Parts.{PlainPart}
 use Rattle.symple_face.specs.Plans.{concerns, is_planned, loop_carry}
-use Rattle.symple_face.specs.Shapes.{carried_in, form_of, half_in, lets_in, pushed, refreshed, sends_in, shape_of, size_of, types_at, types_of}
+use Rattle.symple_face.specs.Shapes.{carried_in, form_of, half_in, pushed, refreshed, shape_of, size_of, types_at, types_of}
+use Rattle.vert_tree.specs.Places.{lets_in, sends_in}
 use Rattle.symple_face.specs.Shapes as shapes
 use Rattle.work_laws.specs.Sound.{IsHeld, IsLoopState}
 use Rattle.work_laws.proofs.Sights.{all_fit_at}

@@ -7,7 +7,8 @@ use Rattle.std.proofs.lemmas.List.Elements.{All-cons, All-filter, All-head, All-
 use Rattle.vert_base.specs.declared.graph.Edge.{Edge}
 use Rattle.vert_base.specs.Neighbours.{source, target}
 use Rattle.chunk_split.specs.Chunks.{vertices_of}
-use Rattle.circulant_plan.specs.Ring.{chunk_of, cut_of, half_of, lies_in, start_of}
+use Rattle.circulant_plan.specs.Ring.{chunk_of, cut_of, half_of, lies_in}
+use Rattle.vert_base.specs.Ends.{start_of}
 use Rattle.instrument.specs.declared.split.Split.{Split}
 use Rattle.symple_face.specs.Lawful.{CanRun}
 use Rattle.symple_face.specs.Parts.{PlainPart, edges_between, ends_met, push_list, refresh_list}

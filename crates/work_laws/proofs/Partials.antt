@@ -19,7 +19,7 @@ use Rattle.value_laws.proofs.Words.{combined_fits}
 use Rattle.symple_face.specs.CoreSight.{program_of}
 use Rattle.symple_face.specs.CoreTakes.{classes_of, empty_partials, reduced_ops, with_sent, with_values}
 use Rattle.symple_face.specs.Parts.{PlainPart, chunk_vertices}
-use Rattle.circulant_plan.specs.Ring.{start_of}
+use Rattle.vert_base.specs.Ends.{start_of}
 use Rattle.work_laws.specs.Sound.{ArePartials, HasWord, OfOwn}
 use Rattle.work_laws.proofs.Scans.{SentFits}
 use Rattle.work_laws.proofs.Words.{MayFit}

@@ -16,7 +16,8 @@ use Rattle.vert_tree.specs.Kinds.{kinds_of}
 use Rattle.vert_eval.specs.Values.{word_at}
 use Rattle.chunk_split.specs.Chunks.{vertices_of}
 use Rattle.circulant_plan.specs.Names.{dep_name, refresh_name, verdict_name}
-use Rattle.circulant_plan.specs.Ring.{before_machine, lies_in, start_of}
+use Rattle.circulant_plan.specs.Ring.{before_machine, lies_in}
+use Rattle.vert_base.specs.Ends.{start_of}
 use Rattle.circulant_plan.specs.Skeleton.{has_name}
 use Rattle.circulant_plan.specs.Table.{name_if}
 use Rattle.instrument.specs.declared.split.Split.{Split}

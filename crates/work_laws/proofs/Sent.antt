@@ -40,7 +40,8 @@ use Rattle.body_shape.specs.declared.shape.BodyShape.{BodyShape}
 use Rattle.body_shape.specs.declared.shape.BodyShape.TheVariants.{Refresh, Update, Push, Tally}
 use Rattle.body_shape.specs.Fit.{is_fit}
 use Rattle.body_shape.specs.Places.{there}
-use Rattle.body_shape.specs.Refresh.{IsWords, PlainRow, plain_row, word_of_bool, IsRow as IsPlainRow}
+use Rattle.body_shape.specs.Refresh.{IsWords, PlainRow, plain_row, IsRow as IsPlainRow}
+use Rattle.vert_base.specs.Truth.{word_of_bool}
 use Rattle.body_shape.specs.Shapes.{bool_bits}
 use Rattle.body_shape.specs.Tally.{tally_body}
 use Rattle.body_shape.specs.Update.{AreValues, IsSent, Sent}
@@ -71,7 +72,8 @@ use Rattle.symple_face.specs.CoreWork.{core_sent, push_sent, refresh_sent, sent_
 use Rattle.symple_face.specs.Lawful.{HasForm}
 use Rattle.symple_face.specs.Planned.{HasMessage, has_block}
 use Rattle.symple_face.specs.Plans.{blocks_of, is_in_range, loop_carry, ring_of}
-use Rattle.symple_face.specs.Shapes.{carried_in, count_within, form_of, half_in, lets_in, reduced_in, refreshed, sends_in, shape_of, size_of, types_at, types_of}
+use Rattle.symple_face.specs.Shapes.{carried_in, count_within, form_of, half_in, reduced_in, refreshed, shape_of, size_of, types_at, types_of}
+use Rattle.vert_tree.specs.Places.{lets_in, sends_in}
 use Rattle.symple_face.specs.Shapes as shapes
 use Rattle.symple_face.specs.State.{State, action_of, machine, p_of}
 use Rattle.symple_face.proofs.LimitLaws.{few_slots}

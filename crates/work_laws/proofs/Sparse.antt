@@ -15,7 +15,7 @@ use Rattle.vert_base.specs.Neighbours.{source, target}
 use Rattle.vert_tree.specs.declared.program.Program.{Program}
 use Rattle.vert_tree.specs.declared.program.Sparse.{Sparse as SparseBlock}
 use Rattle.vert_tree.specs.Kinds.{Kinds, field_kinds, kinds_of, sparse_typed}
-use Rattle.vert_tree.specs.Places.{option_all}
+use Rattle.vert_tree.specs.Places.{option_all, sends_in}
 use Rattle.slot_merge.specs.declared.partial.Partial.{Partial}
 use Rattle.slot_merge.specs.Partials.{with_emissions}
 use Rattle.vert_eval.specs.declared.environment.Env.{Env}
@@ -24,7 +24,8 @@ use Rattle.vert_eval.specs.Values.{value_of}
 use Rattle.vert_eval.specs.Words.{is_set}
 use Rattle.chunk_split.specs.Chunks.{vertices_of}
 use Rattle.circulant_plan.specs.Names.{push_name}
-use Rattle.circulant_plan.specs.Ring.{lies_in, start_of}
+use Rattle.circulant_plan.specs.Ring.{lies_in}
+use Rattle.vert_base.specs.Ends.{start_of}
 use Rattle.circulant_plan.specs.Table.{others_of}
 use Rattle.instrument.specs.declared.split.Split.{Split}
 use Rattle.word_kinds.specs.Fits.{AreWords, HasKinds, IsEdge, IsFitting, sparse_fits}
@@ -36,7 +37,6 @@ use Rattle.symple_face.specs.CoreSight.{held_body, none, own_sight, own_start, p
 use Rattle.symple_face.specs.CoreSparse.{all_worked, at_receiver, begin_go, edge_worked, key_of, kept_sends, own_first, own_sends, pushed_to, pushes, sends_at, sends_from, told_sends, worked}
 use Rattle.symple_face.specs.Lawful.{CanRun}
 use Rattle.symple_face.specs.Parts.{PlainPart, chunk_vertices}
-use Rattle.symple_face.specs.Shapes.{sends_in}
 use Rattle.symple_face.specs.Sight.{Sight, seen_env}
 use Rattle.symple_face.specs.State.{State, machine, p_of}
 use Rattle.symple_face.proofs.ChunkLaws.{lies_high, lies_low}

@@ -27,7 +27,8 @@ use Rattle.symple_face.specs.CoreTakes.{classes_of, reduced_ops}
 use Rattle.symple_face.specs.Lawful.{CanRun, IsSmall}
 use Rattle.symple_face.specs.Parts.{PlainPart, chunk_vertices}
 use Rattle.symple_face.specs.Plans.{blocks_of, loop_carry}
-use Rattle.symple_face.specs.Shapes.{carried_in, lets_in, shape_of, types_at, types_of, words_in}
+use Rattle.symple_face.specs.Shapes.{carried_in, shape_of, types_at, types_of, words_in}
+use Rattle.vert_tree.specs.Places.{lets_in}
 use Rattle.symple_face.specs.State.{State, Sums, machine, p_of}
 
 -- ---- what is kept of each vertex
