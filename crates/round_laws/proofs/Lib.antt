@@ -33,6 +33,8 @@ pub mod Chunks
 pub mod DenseClose
 pub mod DenseRound
 pub mod FoldCloses
+pub mod FoldPushEdges
+pub mod FoldPushWalk
 pub mod FoldTakes
 pub mod FoldTells
 pub mod FoldUpdates

@@ -2,6 +2,7 @@ pub mod Chunks
 pub mod DenseClose
 pub mod DenseRound
 pub mod FoldCloses
+pub mod FoldPushes
 pub mod FoldTakes
 pub mod FoldTells
 pub mod FoldUpdates
