@@ -28,13 +28,18 @@
 -- MachineScans: a scan of a half, from the parts, the rows told and the states taken. Tallies, Judging: sums and rulings.
 -- FoldTakes, FoldUpdates, FoldVerdicts, FoldTells, FoldCloses, IdealClose, IdealSparse: one event of one machine. Held,
 -- Lowered: what they need of messages held and of bounds above keys.
+-- FoldPushEdges: edges in turn, each under its key; all members of a key have one source, so their sends come at once.
+-- FoldPushWalk: the edges that a machine works fill the buckets of each own vertex. FoldPushLists: what a push tells of
+-- the sources of these edges. FoldPushes: a push that is worked when it is taken, and one that is kept.
 -- Readable: what the blocks of a typed program may read.
 pub mod Chunks
 pub mod DenseClose
 pub mod DenseRound
 pub mod FoldCloses
 pub mod FoldPushEdges
+pub mod FoldPushLists
 pub mod FoldPushWalk
+pub mod FoldPushes
 pub mod FoldTakes
 pub mod FoldTells
 pub mod FoldUpdates

@@ -1,6 +1,7 @@
 ghost use Rattle.round_laws.specs.DenseClose.{ClosesDense};
 ghost use Rattle.round_laws.specs.DenseRound.{RoundByMachines};
 ghost use Rattle.round_laws.specs.FoldCloses.{ClosesAndGoesOn, ClosesToJudge, DenseReadsAreIdeal, SparseReadsAreIdeal};
+ghost use Rattle.round_laws.specs.FoldPushes.{TakesPushesAtOnce, TakesPushesEarly};
 ghost use Rattle.round_laws.specs.FoldTakes.{TakesWhatIsKept};
 ghost use Rattle.round_laws.specs.FoldTells.{TellsAndGoesOn};
 ghost use Rattle.round_laws.specs.FoldUpdates.{TakesUpdates};
@@ -83,6 +84,8 @@ pub fn takes_are_ideal()
     ensures kept { TakesWhatIsKept }
     ensures updates { TakesUpdates }
     ensures verdicts { TakesVerdicts }
+    ensures pushes { TakesPushesAtOnce }
+    ensures early { TakesPushesEarly }
 {}
 
 /// The law that the rows that a close makes of what the source's run says are the source's. It does nothing.
