@@ -116,10 +116,12 @@ turned_one : (t u : ℕ) (xs : List Edge) → AllByRecursion (λ e. source e ≡
 turned_one t u xs of_u =
     ⊎_elim
     (λ (below : u < t).
-    ap (λ ys. ys ++ filter (λ e. nat_lt (source e) t) xs) (filter_none (λ e. nat_le t (source e)) xs (low below xs of_u))
+    ap (λ ys. ys ++ filter (λ e. nat_lt (source e) t) xs)
+    (filter_none (λ e. nat_le t (source e)) xs (low below xs of_u))
     ∙ filter_all (λ e. nat_lt (source e) t) xs (lower below xs of_u))
     (λ (above : t ≤ u).
-    ap (λ ys. ys ++ filter (λ e. nat_lt (source e) t) xs) (filter_all (λ e. nat_le t (source e)) xs (high above xs of_u))
+    ap (λ ys. ys ++ filter (λ e. nat_lt (source e) t) xs)
+    (filter_all (λ e. nat_le t (source e)) xs (high above xs of_u))
     ∙ ap (λ ys. xs ++ ys) (filter_none (λ e. nat_lt (source e) t) xs (higher above xs of_u))
     ∙ append-nil xs)
     (cases_lt u t)

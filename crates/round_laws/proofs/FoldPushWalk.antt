@@ -163,7 +163,7 @@ module _ (src : Source) (sparse : Sparse) (most m : ℕ) (state : State) (runs :
   abbrev sender : ℕ → Env
   sender u = sender_at sc (slot_ops (program_of src.split)) u
 
-  sends_are : (u : ℕ) → ideal_send src r u ≡ sends_at (Some sparse) (sender u)
+  pub sends_are : (u : ℕ) → ideal_send src r u ≡ sends_at (Some sparse) (sender u)
   sends_are u =
       ap (send_with src r u) runs.block
       ∙ ap (λ p. sends_at (Some sparse) (sender_at sc (slot_ops p) u)) (sym runs.program)
@@ -269,7 +269,8 @@ module _ (src : Source) (sparse : Sparse) (most m : ℕ) (state : State) (runs :
     worked_filled sends came new both all starts told apart union lt filled =
         subst (AreFilled 0 (partial_ops src.split) (push_buckets src.split sparse sc v both) (keys_below src))
         (sym partials_are)
-        (subst (λ ws. AreFilled 0 (partial_ops src.split) ws (keys_below src) (emitted_in_turn key (brought new) ins (before all)))
+        (subst
+        (λ ws. AreFilled 0 (partial_ops src.split) ws (keys_below src) (emitted_in_turn key (brought new) ins (before all)))
         (λ i place k. buckets_grow n turn v edges turn_low emits came new both apart union place k i)
         (fills_in_turn (partial_ops src.split) (keys_below src) key (brought new) ins low_keys_all
         (push_buckets src.split sparse sc v came) (before all) filled))

@@ -168,7 +168,8 @@ module _ (src : Source) (sparse : Sparse) (most m : ℕ) (state : State) (given 
   not_before : (w : ℕ) → (owner_of ends w == k) ≡ true → came state.held w ≡ false
   not_before w its =
       let owner : owner_of ends w ≡ k = eqb-true (owner_of ends w) k its in
-      ap (λ j. if j == m then not (awaits_begin state.at.spot) else is_worked (found (push_name r j m) state.held)) owner
+      ap (λ j. if j == m then not (awaits_begin state.at.spot) else is_worked (found (push_name r j m) state.held))
+      owner
       ∙ ap (λ b. if b then not (awaits_begin state.at.spot) else is_worked (found name state.held)) (ne_eqb k m u.other)
       ∙ ap is_worked (ap (λ x. found x state.held) (sym u.name) ∙ u.new)
 

@@ -1,6 +1,7 @@
 pub mod Chunks
 pub mod DenseClose
 pub mod DenseRound
+pub mod FoldBegins
 pub mod FoldCloses
 pub mod FoldPushes
 pub mod FoldTakes

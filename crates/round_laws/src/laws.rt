@@ -1,5 +1,6 @@
 ghost use Rattle.round_laws.specs.DenseClose.{ClosesDense};
 ghost use Rattle.round_laws.specs.DenseRound.{RoundByMachines};
+ghost use Rattle.round_laws.specs.FoldBegins.{BeginsDense, SendsPushes};
 ghost use Rattle.round_laws.specs.FoldCloses.{ClosesAndGoesOn, ClosesToJudge, DenseReadsAreIdeal, SparseReadsAreIdeal};
 ghost use Rattle.round_laws.specs.FoldPushes.{TakesPushesAtOnce, TakesPushesEarly};
 ghost use Rattle.round_laws.specs.FoldTakes.{TakesWhatIsKept};
@@ -117,4 +118,11 @@ pub fn closes_go_on()
 /// The law that a machine that has told its first rows still holds what the source's run says. It does nothing.
 pub fn tells_go_on()
     ensures { TellsAndGoesOn }
+{}
+
+/// The law that a machine that begins a dense round still holds what the source's run says, and that the pushes which
+/// it sends at the begin of a sparse one are ideal. It does nothing.
+pub fn begins_go_on()
+    ensures dense { BeginsDense }
+    ensures pushes { SendsPushes }
 {}

@@ -6,10 +6,10 @@ mod laws;
 mod parts;
 
 pub use laws::{
-    closes_are_ideal, closes_go_on, dense_closes, dense_rounds, judges_rule_as_the_source,
-    lets_at_the_end, machines_scan_ideally, machines_see_the_source, partials_by_steps,
-    ring_comes_round, scans_by_the_source, sights_agree, sparse_closes, takes_are_ideal,
-    tallies_are_summed, tells_go_on,
+    begins_go_on, closes_are_ideal, closes_go_on, dense_closes, dense_rounds,
+    judges_rule_as_the_source, lets_at_the_end, machines_scan_ideally, machines_see_the_source,
+    partials_by_steps, ring_comes_round, scans_by_the_source, sights_agree, sparse_closes,
+    takes_are_ideal, tallies_are_summed, tells_go_on,
 };
 pub use parts::{
     chunk_sums, known_degrees, member_edges, met_vertices, one_chunk, planned_can_take, sparse_keys,
