@@ -15,7 +15,7 @@ use Rattle.vert_base.proofs.LetterLaws.{names_law}
 use Rattle.vert_tree.specs.declared.program.Sparse.{Sparse}
 use Rattle.slot_merge.specs.declared.partial.Partial.{Partial}
 use Rattle.slot_merge.specs.Filled.{AreFilled}
-use Rattle.vert_eval.specs.Rounds.{Scene, env_at, row_at, sender_at, slot_ops}
+use Rattle.vert_eval.specs.Rounds.{Scene, env_at}
 use Rattle.graph_table.proofs.FilterLaws.{all_filter, all_range, all_true, map_same}
 use Rattle.circulant_plan.specs.declared.spot.Spot.TheVariants.{Begin, Scan}
 use Rattle.circulant_plan.specs.Names.{push_name, update_name}
@@ -24,25 +24,24 @@ use Rattle.circulant_plan.specs.Skeleton.{has_name}
 use Rattle.circulant_plan.specs.Standing.{Standing, standing_at}
 use Rattle.circulant_plan.specs.Table.{after_begin, others_of}
 use Rattle.circulant_plan.proofs.ReadingLaws.{not_below}
-use Rattle.body_shape.specs.Push.{push_body, sends_read}
+use Rattle.body_shape.specs.Push.{push_body}
 use Rattle.body_shape.proofs.MissingLaws.{push_missing}
 use Rattle.symple_face.specs.CoreScan.{fresh}
 use Rattle.symple_face.specs.CoreSight.{beside, body_of, known, none, own_sight, program_of, targets_of}
-use Rattle.symple_face.specs.CoreSparse.{all_worked, begin_go, edge_worked, kept_sends, own_first, own_sends, pushes, sends_at, sends_from, told_sends, worked}
-use Rattle.symple_face.specs.CoreTakes.{emptied, emptied_under, own_partials}
+use Rattle.symple_face.specs.CoreSparse.{all_worked, edge_worked, kept_sends, own_first, own_sends, pushes, sends_at, sends_from, told_sends, worked}
+use Rattle.symple_face.specs.CoreTakes.{emptied, own_partials}
 use Rattle.symple_face.specs.CoreWork.{core_go, moved, sent_at}
-use Rattle.symple_face.specs.Ideal.{ideal_body, ideal_ran, ideal_send, ideal_sent, machines_of, owner_of, send_with, state_at}
+use Rattle.symple_face.specs.Ideal.{ideal_body, ideal_ran, ideal_send, ideal_sent, machines_of, owner_of, state_at}
 use Rattle.symple_face.specs.Parts.{chunk_vertices, push_list}
 use Rattle.symple_face.specs.PartsOf.{part_of, push_of}
 use Rattle.symple_face.specs.Shapes.{sends_in}
-use Rattle.symple_face.specs.Sight.{Sight, seen_env}
 use Rattle.symple_face.specs.Source.{Source, scene, stand}
-use Rattle.symple_face.specs.State.{State, machine, p_of}
+use Rattle.symple_face.specs.State.{State, machine}
 use Rattle.symple_face.proofs.ChunkLaws.{lies_is}
 use Rattle.symple_face.proofs.ListLaws.{other_list}
-use Rattle.round_laws.specs.FoldBegins.{BeginsDense, BeginsRound, SendsPushes}
+use Rattle.round_laws.specs.FoldBegins.{BeginsDense, SendsPushes}
 use Rattle.round_laws.specs.FoldPushes.{RunsSparse}
-use Rattle.round_laws.specs.IsIdeal.{HoldsBody, IsIdeal, came_words, dense_words, half_at, is_dense, is_past, keys_below, reads_held, ring_held, step_came, words_by}
+use Rattle.round_laws.specs.IsIdeal.{HoldsBody, IsIdeal, came_words, half_at, is_dense, is_past, keys_below, reads_held, ring_held, words_by}
 use Rattle.round_laws.specs.Partials.{partial_ops, sent_words}
 use Rattle.round_laws.specs.Sights.{StandsIn}
 use Rattle.round_laws.specs.Vertices.{are_some}

@@ -8,9 +8,9 @@ use Rattle.std.proofs.lemmas.List.{append_assoc}
 use Rattle.std.proofs.lemmas.List.Elements.{filter-append}
 use Rattle.vert_base.specs.declared.graph.Edge.{Edge}
 use Rattle.vert_base.specs.declared.value.Combine.{Combine}
-use Rattle.vert_base.specs.Neighbours.{bucket, in_order, ins_of, source, target, turned}
+use Rattle.vert_base.specs.Neighbours.{bucket, ins_of, source, target, turned}
 use Rattle.vert_base.proofs.Orders.{bucket_keys, filter_comm, in_order_below}
-use Rattle.graph_table.proofs.FilterLaws.{all_filter, filter_all, filter_filter, filter_none, flat_map_none, flat_map_same}
+use Rattle.graph_table.proofs.FilterLaws.{all_filter, filter_all, filter_filter, filter_none, flat_map_same}
 use Rattle.slot_merge.specs.declared.partial.Partial.{Partial}
 use Rattle.slot_merge.specs.Combine.{Emission, words_for}
 use Rattle.slot_merge.specs.Filled.{AreFilled, with_more}

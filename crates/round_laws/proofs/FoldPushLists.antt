@@ -1,13 +1,11 @@
 -- The vertices of which a push speaks, and what it tells of the sources of the edges that are worked.
-use Rattle.std.proofs.Common.{◌≡◌, ◌≢◌, ◌<◌, ◌≤◌, ◌+◌, ◌-◌, ℕ, zero, suc, ℤ, Bool, true, false, List, [], ◌∷◌, ◌++◌, length, map, refl, sym, ap, subst, ◌∙◌, Option, None, Some, arith, ⊎_elim}
-use Rattle.std.specs.Prelude.{◌==◌, ◌&&◌, ◌||◌, if◌then◌else◌, slice_index, slice_index_or}
-use Rattle.std.specs.List.{AllByRecursion, filter, list_any, range_with_len}
-use Rattle.std.proofs.lemmas.Bool.{cases_Bool, cases_lt, eq-eqb, eqb-true, ne_eqb}
+use Rattle.std.proofs.Common.{◌≡◌, ◌≢◌, ◌<◌, ◌≤◌, ◌+◌, ◌-◌, ℕ, zero, suc, ℤ, Bool, true, false, List, [], ◌∷◌, ◌++◌, length, map, refl, sym, ap, subst, ◌∙◌, Option, None, arith, ⊎_elim}
+use Rattle.std.specs.Prelude.{◌==◌, ◌&&◌, ◌||◌, if◌then◌else◌, slice_index}
+use Rattle.std.specs.List.{AllByRecursion, list_any}
+use Rattle.std.proofs.lemmas.Bool.{cases_Bool, cases_lt, eq-eqb, ne_eqb}
 use Rattle.std.proofs.lemmas.List.{length-append, length-map}
 use Rattle.vert_base.specs.declared.graph.Edge.{Edge}
-use Rattle.vert_base.specs.Names.{same_name}
-use Rattle.vert_base.specs.Neighbours.{bucket, source, target}
-use Rattle.vert_base.proofs.Orders.{in_order_below}
+use Rattle.vert_base.specs.Neighbours.{bucket, source}
 use Rattle.graph_table.proofs.FilterLaws.{all_range, all_weaker}
 use Rattle.chunk_split.specs.Chunks.{AreEnds, vertices_of}
 use Rattle.circulant_plan.specs.Names.{push_name}

@@ -1,16 +1,16 @@
 -- A machine works the edges of its part in turn: each own vertex gets what the edges into it make it emit.
 use Rattle.std.proofs.Common.{◌≡◌, ◌<◌, ◌≤◌, ◌+◌, ◌-◌, ℕ, ℤ, Bool, true, false, List, [], ◌∷◌, ◌++◌, length, refl, sym, ap, subst, ◌∙◌, Option, None, Some, cond, arith}
 use Rattle.std.specs.Prelude.{◌==◌, ◌&&◌, ◌||◌, if◌then◌else◌, slice_index, slice_index_or, slice_set}
-use Rattle.std.specs.List.{AllByRecursion, filter, flat_map}
+use Rattle.std.specs.List.{AllByRecursion, filter}
 use Rattle.std.proofs.lemmas.Bool.{eq-eqb, eqb-true}
 use Rattle.std.proofs.lemmas.List.{get_or-set_other, get_or-set_same, length-set}
 use Rattle.vert_base.specs.declared.graph.Edge.{Edge}
 use Rattle.vert_base.specs.Neighbours.{bucket, ins_of, source, target, turn_of}
 use Rattle.vert_base.proofs.Orders.{bucket_keys, in_order_below}
 use Rattle.vert_tree.specs.declared.program.Sparse.{Sparse}
-use Rattle.graph_table.proofs.FilterLaws.{all_filter, all_passes, all_weaker}
+use Rattle.graph_table.proofs.FilterLaws.{all_filter, all_weaker}
 use Rattle.slot_merge.specs.declared.partial.Partial.{Partial}
-use Rattle.slot_merge.specs.Combine.{Emission, words_for}
+use Rattle.slot_merge.specs.Combine.{Emission}
 use Rattle.slot_merge.specs.Filled.{AreFilled}
 use Rattle.slot_merge.specs.Partials.{with_emissions}
 use Rattle.value_laws.specs.Blind.{SameWeight}
@@ -270,7 +270,8 @@ module _ (src : Source) (sparse : Sparse) (most m : ℕ) (state : State) (runs :
         subst (AreFilled 0 (partial_ops src.split) (push_buckets src.split sparse sc v both) (keys_below src))
         (sym partials_are)
         (subst
-        (λ ws. AreFilled 0 (partial_ops src.split) ws (keys_below src) (emitted_in_turn key (brought new) ins (before all)))
+        (λ ws. AreFilled 0 (partial_ops src.split) ws (keys_below src)
+        (emitted_in_turn key (brought new) ins (before all)))
         (λ i place k. buckets_grow n turn v edges turn_low emits came new both apart union place k i)
         (fills_in_turn (partial_ops src.split) (keys_below src) key (brought new) ins low_keys_all
         (push_buckets src.split sparse sc v came) (before all) filled))

@@ -1,6 +1,6 @@
 -- A take of an ideal push leaves a machine as the source's run says.
-use Rattle.std.proofs.Common.{◌≡◌, ◌≢◌, inl, inr, ◌<◌, ◌≤◌, ◌+◌, ◌-◌, ℕ, zero, suc, ℤ, Bool, true, false, List, [], ◌∷◌, ◌++◌, length, map, refl, sym, ap, subst, ◌∙◌, Option, None, Some, arith, ⊎_elim}
-use Rattle.std.specs.Prelude.{◌==◌, ◌&&◌, ◌||◌, if◌then◌else◌, nat_le, nat_lt, not, slice_index, slice_index_or}
+use Rattle.std.proofs.Common.{◌≡◌, ◌≢◌, inl, inr, ◌<◌, ◌≤◌, ◌+◌, ◌-◌, ℕ, zero, suc, Bool, true, false, List, [], ◌∷◌, ◌++◌, length, map, refl, sym, ap, subst, ◌∙◌, Some, arith, ⊎_elim}
+use Rattle.std.specs.Prelude.{◌==◌, ◌&&◌, ◌||◌, if◌then◌else◌, nat_le, nat_lt, not, slice_index}
 use Rattle.std.specs.List.{AllByRecursion, filter, flat_map, list_any}
 use Rattle.std.proofs.lemmas.Bool.{cases_Bool, eq-eqb, eqb-true, ne_eqb}
 use Rattle.std.proofs.lemmas.List.{length-map}
@@ -13,24 +13,23 @@ use Rattle.vert_base.specs.Letters.{Letter, found, placed}
 use Rattle.vert_base.specs.Names.{same_name}
 use Rattle.vert_base.specs.Neighbours.{bucket, in_order, ins_of, source, target, turn_of, turned}
 use Rattle.vert_base.proofs.LetterLaws.{placed_law}
-use Rattle.vert_base.proofs.Orders.{All-in_order, in_order_below}
+use Rattle.vert_base.proofs.Orders.{in_order_below}
 use Rattle.vert_tree.specs.declared.program.Sparse.{Sparse}
-use Rattle.slot_merge.specs.declared.partial.Partial.{Partial}
 use Rattle.slot_merge.specs.Combine.{words_for}
 use Rattle.slot_merge.specs.Filled.{AreFilled}
 use Rattle.vert_eval.specs.Rounds.{Scene, emitted_over, env_at, row_at, slot_ops}
 use Rattle.graph_table.proofs.FilterLaws.{all_append, all_filter, all_passes, all_weaker, filter_same}
-use Rattle.chunk_split.specs.Chunks.{AreEnds, vertices_of}
+use Rattle.chunk_split.specs.Chunks.{vertices_of}
 use Rattle.circulant_plan.specs.declared.spot.Spot.{Spot}
 use Rattle.circulant_plan.specs.declared.spot.Spot.TheVariants.{Tell, Judge, Begin, Scan, Close, Over}
 use Rattle.circulant_plan.specs.Names.{push_name}
 use Rattle.circulant_plan.specs.Ring.{lies_in, start_of}
 use Rattle.circulant_plan.proofs.NameLists.{same_as_self}
-use Rattle.symple_face.specs.CoreSight.{known, known_totals, none, program_of}
-use Rattle.symple_face.specs.CoreSparse.{key_of, take_push, told_sends, worked}
+use Rattle.symple_face.specs.CoreSight.{known, none, program_of}
+use Rattle.symple_face.specs.CoreSparse.{key_of, told_sends, worked}
 use Rattle.symple_face.specs.CoreTakes.{own_partials}
 use Rattle.symple_face.specs.CoreWork.{core_take, kept}
-use Rattle.symple_face.specs.Ideal.{ideal_body, ideal_send, machines_of, owner_of}
+use Rattle.symple_face.specs.Ideal.{ideal_body, ideal_send, owner_of}
 use Rattle.symple_face.specs.Parts.{chunk_vertices, push_list}
 use Rattle.symple_face.specs.PartsOf.{part_of, push_of}
 use Rattle.symple_face.specs.Source.{Source, scene, stand}
