@@ -53,7 +53,7 @@ use Rattle.round_laws.proofs.Vertices.{refreshed_law}
 
 -- ---- lists
 -- a number is among those that pass a test where it passes and is among them all
-among_kept : (test : ℕ → Bool) (v : ℕ) (xs : List ℕ) (b : Bool) → test v ≡ b →
+pub among_kept : (test : ℕ → Bool) (v : ℕ) (xs : List ℕ) (b : Bool) → test v ≡ b →
     list_any (λ u. u == v) (filter test xs) ≡ (b && list_any (λ u. u == v) xs)
 among_kept test v xs b is =
     any-filter (λ u. u == v) test xs
@@ -70,7 +70,7 @@ among_kept test v xs b is =
     none false = refl
 
 -- what stands beside a vertex that isn't of a list
-beside_none : {X : Type 0} (d : X) (us : List ℕ) (v : ℕ) (xs : List X) → list_any (λ u. u == v) us ≡ false →
+pub beside_none : {X : Type 0} (d : X) (us : List ℕ) (v : ℕ) (xs : List X) → list_any (λ u. u == v) us ≡ false →
     beside d v us xs ≡ d
 beside_none d [] v xs none = refl
 beside_none d (u ∷ us) v [] none = refl

@@ -58,10 +58,10 @@ rises_joined key k (x ∷ xs) ys up down low high =
         later (w ∷ ws) b = ((let l = low.0 in let h = b.0 in let e : key x ≤ key w = omega arith in e), later ws b.1)
     behind (z ∷ zs) a = (a.0, behind zs a.1)
 
-key_above : (n t u : ℕ) → t ≤ u → u < n → key_of n t u ≡ u - t
+pub key_above : (n t u : ℕ) → t ≤ u → u < n → key_of n t u ≡ u - t
 key_above n t u le lt = mod_high (u + n - t) n (u - t) (omega arith) (omega arith)
 
-key_below : (n t u : ℕ) → u < t → t ≤ n → key_of n t u ≡ u + n - t
+pub key_below : (n t u : ℕ) → u < t → t ≤ n → key_of n t u ≡ u + n - t
 key_below n t u lt le = mod_low (u + n - t) n (omega arith)
 
 is_above : (t u : ℕ) → leb t u ≡ true → t ≤ u

@@ -35,10 +35,15 @@
 -- bodies.
 -- SentScan, SentTallies, SentBegin: the bodies of what is sent. ReadsTargets, ReadsCounted: a machine reads of its
 -- targets alone, and all machines read what the source's run reads.
+-- FoldPushEdges: edges in turn, each under its key; all members of a key have one source, so their sends come at once.
+-- FoldPushWalk: the edges that a machine works fill the buckets of each own vertex. FoldPushLists: what a push tells of
+-- the sources of these edges. FoldPushes: a push that is worked when it is taken, and one that is kept. FoldBegins: the
+-- begin of a dense round, and the pushes sent at that of a sparse one.
 -- Readable: what the blocks of a typed program may read.
 pub mod Chunks
 pub mod DenseClose
 pub mod DenseRound
+pub mod FoldBegins
 pub mod FoldCloses
 pub mod FoldJudge
 pub mod FoldScan
@@ -46,6 +51,10 @@ pub mod FoldScanHalves
 pub mod FoldScanHeld
 pub mod FoldScanPlaces
 pub mod FoldScanReady
+pub mod FoldPushEdges
+pub mod FoldPushLists
+pub mod FoldPushWalk
+pub mod FoldPushes
 pub mod FoldTakes
 pub mod FoldTells
 pub mod FoldUpdates

@@ -1,9 +1,11 @@
 pub mod Chunks
 pub mod DenseClose
 pub mod DenseRound
+pub mod FoldBegins
 pub mod FoldCloses
 pub mod FoldJudge
 pub mod FoldScan
+pub mod FoldPushes
 pub mod FoldTakes
 pub mod FoldTells
 pub mod FoldUpdates

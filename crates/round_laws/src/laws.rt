@@ -1,8 +1,10 @@
 ghost use Rattle.round_laws.specs.DenseClose.{ClosesDense};
 ghost use Rattle.round_laws.specs.DenseRound.{RoundByMachines};
+ghost use Rattle.round_laws.specs.FoldBegins.{BeginsDense, SendsPushes};
 ghost use Rattle.round_laws.specs.FoldCloses.{ClosesAndGoesOn, ClosesToJudge, DenseReadsAreIdeal, SparseReadsAreIdeal};
 ghost use Rattle.round_laws.specs.FoldJudge.{JudgesAndGoesOn};
 ghost use Rattle.round_laws.specs.FoldScan.{ScansAndGoesOn};
+ghost use Rattle.round_laws.specs.FoldPushes.{TakesPushesAtOnce, TakesPushesEarly};
 ghost use Rattle.round_laws.specs.FoldTakes.{TakesWhatIsKept};
 ghost use Rattle.round_laws.specs.FoldTells.{TellsAndGoesOn};
 ghost use Rattle.round_laws.specs.FoldUpdates.{TakesUpdates};
@@ -87,6 +89,8 @@ pub fn takes_are_ideal()
     ensures kept { TakesWhatIsKept }
     ensures updates { TakesUpdates }
     ensures verdicts { TakesVerdicts }
+    ensures pushes { TakesPushesAtOnce }
+    ensures early { TakesPushesEarly }
 {}
 
 /// The law that the rows that a close makes of what the source's run says are the source's. It does nothing.
@@ -142,4 +146,11 @@ pub fn sends_are_ideal()
 /// The law that what all machines read in a round is what the source's run reads in it. It does nothing.
 pub fn reads_are_counted()
     ensures { ReadsAreCounted }
+{}
+
+/// The law that a machine that begins a dense round still holds what the source's run says, and that the pushes which
+/// it sends at the begin of a sparse one are ideal. It does nothing.
+pub fn begins_go_on()
+    ensures dense { BeginsDense }
+    ensures pushes { SendsPushes }
 {}

@@ -6,7 +6,7 @@ mod laws;
 mod parts;
 
 pub use laws::{
-    closes_are_ideal, closes_go_on, dense_closes, dense_rounds, judge_goes_on,
+    begins_go_on, closes_are_ideal, closes_go_on, dense_closes, dense_rounds, judge_goes_on,
     judges_rule_as_the_source, lets_at_the_end, machines_scan_ideally, machines_see_the_source,
     partials_by_steps, reads_are_counted, ring_comes_round, scans_by_the_source, scans_go_on,
     sends_are_ideal, sights_agree, sparse_closes, takes_are_ideal, tallies_are_summed, tells_go_on,
