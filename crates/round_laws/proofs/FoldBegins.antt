@@ -19,7 +19,8 @@ use Rattle.vert_eval.specs.Rounds.{Scene, env_at}
 use Rattle.graph_table.proofs.FilterLaws.{all_filter, all_range, all_true, map_same}
 use Rattle.circulant_plan.specs.declared.spot.Spot.TheVariants.{Begin, Scan}
 use Rattle.circulant_plan.specs.Names.{push_name, update_name}
-use Rattle.circulant_plan.specs.Ring.{chunk_of, lies_in, order_of, start_of}
+use Rattle.circulant_plan.specs.Ring.{chunk_of, lies_in, order_of}
+use Rattle.vert_base.specs.Ends.{start_of}
 use Rattle.circulant_plan.specs.Skeleton.{has_name}
 use Rattle.circulant_plan.specs.Standing.{Standing, standing_at}
 use Rattle.circulant_plan.specs.Table.{after_begin, others_of}
@@ -34,7 +35,7 @@ use Rattle.symple_face.specs.CoreWork.{core_go, moved, sent_at}
 use Rattle.symple_face.specs.Ideal.{ideal_body, ideal_ran, ideal_send, ideal_sent, machines_of, owner_of, state_at}
 use Rattle.symple_face.specs.Parts.{chunk_vertices, push_list}
 use Rattle.symple_face.specs.PartsOf.{part_of, push_of}
-use Rattle.symple_face.specs.Shapes.{sends_in}
+use Rattle.vert_tree.specs.Places.{sends_in}
 use Rattle.symple_face.specs.Source.{Source, scene, stand}
 use Rattle.symple_face.specs.State.{State, machine}
 use Rattle.symple_face.proofs.ChunkLaws.{lies_is}

@@ -9,7 +9,8 @@ use Rattle.vert_base.specs.Neighbours.{bucket, source}
 use Rattle.graph_table.proofs.FilterLaws.{all_range, all_weaker}
 use Rattle.chunk_split.specs.Chunks.{AreEnds, vertices_of}
 use Rattle.circulant_plan.specs.Names.{push_name}
-use Rattle.circulant_plan.specs.Ring.{lies_in, start_of}
+use Rattle.circulant_plan.specs.Ring.{lies_in}
+use Rattle.vert_base.specs.Ends.{start_of}
 use Rattle.circulant_plan.proofs.ReadingLaws.{not_below}
 use Rattle.circulant_plan.proofs.SpanLaws.{is_below}
 use Rattle.body_shape.specs.Fit.{bit_len}
@@ -24,7 +25,7 @@ use Rattle.symple_face.specs.CoreSparse.{told_sends}
 use Rattle.symple_face.specs.Ideal.{ideal_body, ideal_send, machines_of, owner_of}
 use Rattle.symple_face.specs.Parts.{chunk_vertices, push_list}
 use Rattle.symple_face.specs.PartsOf.{part_of, push_of}
-use Rattle.symple_face.specs.Shapes.{sends_in}
+use Rattle.vert_tree.specs.Places.{sends_in}
 use Rattle.symple_face.specs.Source.{Source}
 use Rattle.symple_face.specs.State.{State}
 use Rattle.symple_face.proofs.ChunkLaws.{chunk_rises, lies_high, lies_is, lies_low}

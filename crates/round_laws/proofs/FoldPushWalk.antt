@@ -21,7 +21,8 @@ use Rattle.vert_eval.specs.Runs.{run}
 use Rattle.vert_eval.specs.Values.{value_of}
 use Rattle.vert_eval.specs.Words.{is_set}
 use Rattle.chunk_split.specs.Chunks.{vertices_of}
-use Rattle.circulant_plan.specs.Ring.{AreEndsUpTo, lies_in, start_of}
+use Rattle.circulant_plan.specs.Ring.{AreEndsUpTo, lies_in}
+use Rattle.vert_base.specs.Ends.{start_of}
 use Rattle.circulant_plan.proofs.ReadingLaws.{turns_at_its_end}
 use Rattle.symple_face.specs.CoreSight.{none, own_sight, own_start, program_of}
 use Rattle.symple_face.specs.CoreSparse.{at_receiver, edge_worked, key_of, pushed_to, sends_at, worked}

@@ -13,17 +13,18 @@ use Rattle.vert_base.specs.Letters.{Letter, found, placed}
 use Rattle.vert_base.specs.Names.{same_name}
 use Rattle.vert_base.specs.Neighbours.{bucket, in_order, ins_of, source, target, turn_of, turned}
 use Rattle.vert_base.proofs.LetterLaws.{placed_law}
-use Rattle.vert_base.proofs.Orders.{in_order_below}
+use Rattle.vert_base.proofs.Orders.{in_order_below, all_append}
 use Rattle.vert_tree.specs.declared.program.Sparse.{Sparse}
 use Rattle.slot_merge.specs.Combine.{words_for}
 use Rattle.slot_merge.specs.Filled.{AreFilled}
 use Rattle.vert_eval.specs.Rounds.{Scene, emitted_over, env_at, row_at, slot_ops}
-use Rattle.graph_table.proofs.FilterLaws.{all_append, all_filter, all_passes, all_weaker, filter_same}
+use Rattle.graph_table.proofs.FilterLaws.{all_filter, all_passes, all_weaker, filter_same}
 use Rattle.chunk_split.specs.Chunks.{vertices_of}
 use Rattle.circulant_plan.specs.declared.spot.Spot.{Spot}
 use Rattle.circulant_plan.specs.declared.spot.Spot.TheVariants.{Tell, Judge, Begin, Scan, Close, Over}
 use Rattle.circulant_plan.specs.Names.{push_name}
-use Rattle.circulant_plan.specs.Ring.{lies_in, start_of}
+use Rattle.circulant_plan.specs.Ring.{lies_in}
+use Rattle.vert_base.specs.Ends.{start_of}
 use Rattle.circulant_plan.proofs.NameLists.{same_as_self}
 use Rattle.symple_face.specs.CoreSight.{known, none, program_of}
 use Rattle.symple_face.specs.CoreSparse.{key_of, told_sends, worked}

@@ -13,7 +13,7 @@ use Rattle.symple_face.specs.CoreSight.{known, program_of}
 use Rattle.symple_face.specs.CoreWork.{core_take}
 use Rattle.symple_face.specs.Ideal.{ideal_body, ideal_send, machines_of}
 use Rattle.symple_face.specs.Parts.{push_list}
-use Rattle.symple_face.specs.Shapes.{sends_in}
+use Rattle.vert_tree.specs.Places.{sends_in}
 use Rattle.symple_face.specs.Source.{Source, stand}
 use Rattle.symple_face.specs.State.{State}
 use Rattle.round_laws.specs.IsIdeal.{IsIdeal, awaits_begin, is_open}
