@@ -26,15 +26,15 @@ same_item [] k d e lt = absurd (omega arith)
 same_item (x ∷ xs) zero d e lt = refl
 same_item (x ∷ xs) (suc k) d e lt = same_item xs k d e (omega arith)
 
--- one part more
-pub one_more : (ps : List Part) (i : ℕ) (part : Part) → i < length ps → part ≡ get_or ps i part → RunsOn part →
-    ((k : ℕ) (d : Part) → k < i → RunsOn (get_or ps k d)) → (k : ℕ) (d : Part) → k < i + 1 → RunsOn (get_or ps k d)
-one_more ps i part within is runs before k d lt =
+-- what holds of the first of some elements holds of one element more
+pub one_more : {X : Type 0} (P : X → Type 0) (xs : List X) (i : ℕ) (x : X) → i < length xs → x ≡ get_or xs i x →
+    P x → ((k : ℕ) (d : X) → k < i → P (get_or xs k d)) → (k : ℕ) (d : X) → k < i + 1 → P (get_or xs k d)
+one_more P xs i x within is holds before k d lt =
     ⊎_elim
     (λ (early : k < i). before k d early)
     (λ (late : i ≤ k).
     let same : i ≡ k = omega arith in
-    subst (λ j. RunsOn (get_or ps j d)) same (subst RunsOn (is ∙ same_item ps i part d within) runs))
+    subst (λ j. P (get_or xs j d)) same (subst P (is ∙ same_item xs i x d within) holds))
     (cases_lt k i)
 
 pub made_is : (work : Work) (split : Split) (ps : List Part) → All (λ part. part.split.value ≡ split) ps →
