@@ -6,7 +6,7 @@
 -- A reader with its notion, the form that it reads, is sound, complete and finds the first fault: `IsReader`, which
 -- is the invariant. Laws puts readers of parts together to readers of wholes (`both_by_reader`, `up_to_reader`,
 -- `many_reader`); Signs has the readers of one token, Either choices by the first token, Lists and Many lists.
--- Of expressions, from the tightest on: Atoms, Unary, Chains (operators group to the left), Choices; Exprs puts
+-- Of expressions, from the tightest on: Atoms, Parentheses, Unary, Chains (operators group to the left), Choices; Exprs puts
 -- them together by induction over depth and layer (`tree_reader`). Trees says what may follow an expression,
 -- Operators which marks go on with one, Readers carries faults from a part to the whole.
 pub mod Readers
@@ -18,6 +18,7 @@ pub mod Either
 pub mod Operators
 pub mod Trees
 pub mod Atoms
+pub mod Parentheses
 pub mod Unary
 pub mod Chains
 pub mod Choices

@@ -12,11 +12,9 @@ use Rattle.vert_base.specs.Neighbours.{source}
 use Rattle.vert_tree.specs.declared.program.Dense.{Dense}
 use Rattle.vert_tree.specs.declared.program.Program.{Program}
 use Rattle.vert_tree.specs.declared.program.Sparse.{Sparse}
-use Rattle.vert_tree.specs.Kinds.{is_kinded}
-use Rattle.vert_tree.specs.Limits.{is_limited, is_shallow, mode_stands, names_stand, version_stands}
-use Rattle.vert_tree.specs.Places.{is_placed, option_all}
-use Rattle.vert_tree.specs.Readable.{body_read, decls_read, dense_read, expr_read, in_fields, in_loop, in_tests, is_readable}
-use Rattle.vert_tree.specs.Typed.{is_typed}
+use Rattle.vert_tree.specs.Places.{option_all}
+use Rattle.vert_tree.specs.Readable.{body_read, decls_read, dense_read, expr_read, in_loop, in_tests}
+use Rattle.vert_tree.proofs.ReadLaws.{blocks_read}
 use Rattle.slot_merge.specs.Combine.{Emission, slot_values}
 use Rattle.vert_eval.specs.declared.environment.Env.{Env}
 use Rattle.vert_eval.specs.Rounds.{Scene, at_member, dense_block, dense_part, emitted_over, env_at, gathered, loop, members_of, no_values, received, row_after, rows_after, sender_at, sent_by, slot_ops, sparse_part, updated, vertices_of, with_lets}
@@ -117,24 +115,6 @@ sparse_part_alike ops None s first second ms ns moved none env = refl
 sparse_part_alike ops (Some sparse) s first second ms ns moved none env = sent_alike ops sparse s none env ms ns moved
 
 -- ---- a round
-readable_of : (p : Program) → IsTrue (is_typed p) → IsTrue (is_readable p)
-readable_of p h =
-    let kinded = and_parts (is_placed p) _ h in
-    let limited = and_parts (is_kinded p) _ kinded.1 in
-    let shallow = and_parts (is_limited p) _ limited.1 in
-    let names = and_parts (is_shallow p) _ shallow.1 in
-    let version = and_parts (names_stand p) _ names.1 in
-    let modes = and_parts (version_stands p) _ version.1 in
-    let readable = and_parts (mode_stands p.mode (is_some p.dense) (is_some p.sparse)) _ modes.1 in
-    (and_parts (is_readable p) _ readable.1).0
-
-dense_tests : (p : Program) → IsTrue (is_readable p) → IsTrue (option_all dense_read p.dense)
-dense_tests p h =
-    let totals = and_parts (decls_read in_fields p.fields.items) _ h in
-    let start = and_parts (list_all (λ t. expr_read in_tests t.value) p.totals.items) _ totals.1 in
-    let dense = and_parts (expr_read in_fields p.start) _ start.1 in
-    (and_parts (option_all dense_read p.dense) _ dense.1).0
-
 module _ (p : Program) (free : IsOrderFree p) (s : Scene) (first second : List ℕ) where
   members_moved : (v : ℕ) → IsPermutation (members_of (over first s).graph v) (members_of (over second s).graph v)
   members_moved v = neighbours_of-permutation s.graph.vertices first second s.graph.edges v
@@ -153,7 +133,7 @@ module _ (p : Program) (free : IsOrderFree p) (s : Scene) (first second : List �
   gathered_alike ruling.Dense v =
       dense_part_alike (slot_ops p) p.dense s first second (members_of (over first s).graph v)
       (members_of (over second s).graph v) (members_moved v)
-      free.loop none_dense (dense_tests p (readable_of p free.typed)) (env_at s v (no_values (slot_ops p)))
+      free.loop none_dense (blocks_read p free.typed).0 (env_at s v (no_values (slot_ops p)))
   gathered_alike ruling.Sparse v =
       sparse_part_alike (slot_ops p) p.sparse s first second (members_of (over first s).graph v)
       (members_of (over second s).graph v) (members_moved v)

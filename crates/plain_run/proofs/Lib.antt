@@ -11,4 +11,3 @@ pub mod SlotLaws
 pub mod StartLaws
 pub mod TableRunLaws
 pub mod TurnLaws
-pub mod TypedLaws

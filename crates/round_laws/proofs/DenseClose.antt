@@ -57,7 +57,7 @@ use Rattle.round_laws.proofs.DenseRound.{round_words}
 use Rattle.round_laws.proofs.Lets.{lets_by_machines}
 use Rattle.round_laws.proofs.Partials.{behind_at, filled_behind, filled_first, slot_value_at, slots_filled}
 use Rattle.round_laws.proofs.Ranges.{joined_more, same_below}
-use Rattle.round_laws.proofs.Readable.{tail_read}
+use Rattle.vert_tree.proofs.ReadLaws.{tail_read}
 use Rattle.round_laws.proofs.Seen.{seen_environment}
 use Rattle.round_laws.proofs.Steps.{unhanded}
 

@@ -41,7 +41,7 @@ use Rattle.round_laws.proofs.Chunks.{ends_reach}
 use Rattle.round_laws.proofs.FoldPushEdges.{buckets_grow, emitted_in_turn, fills_in_turn}
 use Rattle.round_laws.proofs.Keys.{keys_below as low_keys}
 use Rattle.round_laws.proofs.Members.{push_members}
-use Rattle.round_laws.proofs.Readable.{pushed_read}
+use Rattle.vert_tree.proofs.ReadLaws.{pushed_read}
 use Rattle.round_laws.proofs.Seen.{seen_environment}
 use Rattle.round_laws.proofs.Sights.{own_are_seen}
 

@@ -35,7 +35,7 @@ use Rattle.symple_face.specs.Sight.{Sight, seen_env}
 use Rattle.symple_face.specs.Source.{Source, job_of, stand}
 use Rattle.symple_face.proofs.ChunkLaws.{lies_is}
 use Rattle.round_laws.specs.Judging.{CountsAreIdeal, JudgesAsTheSource}
-use Rattle.round_laws.proofs.Readable.{stop_read}
+use Rattle.vert_tree.proofs.ReadLaws.{stop_read}
 use Rattle.round_laws.proofs.Seen.{seen_environment}
 use Rattle.round_laws.proofs.Sights.{degree_known, row_of_own}
 use Rattle.round_laws.proofs.Tallies.{sum-passing}

@@ -39,7 +39,6 @@
 -- FoldPushWalk: the edges that a machine works fill the buckets of each own vertex. FoldPushLists: what a push tells of
 -- the sources of these edges. FoldPushes: a push that is worked when it is taken, and one that is kept. FoldBegins: the
 -- begin of a dense round, and the pushes sent at that of a sparse one.
--- Readable: what the blocks of a typed program may read.
 pub mod Chunks
 pub mod DenseClose
 pub mod DenseRound
@@ -73,7 +72,6 @@ pub mod Members
 pub mod Partials
 pub mod Planned
 pub mod Ranges
-pub mod Readable
 pub mod ReadsCounted
 pub mod ReadsTargets
 pub mod Scans

@@ -1,6 +1,6 @@
 -- The tallies of a round, summed.
 use Rattle.std.proofs.Common.{◌≡◌, ◌≢◌, ◌≤◌, ◌+◌, ◌-◌, ℕ, zero, suc, ℤ, Bool, true, false, List, [], ◌∷◌, length, map, sum, refl, sym, ap, ◌∙◌, arith, cond}
-use Rattle.std.specs.Prelude.{fold, get_or, if◌then◌else◌, is_some}
+use Rattle.std.specs.Prelude.{fold, get_or, if◌then◌else◌}
 use Rattle.std.specs.List.{AllByRecursion, filter, list_all, range_with_len}
 use Rattle.std.proofs.lemmas.Bool.{and_parts}
 use Rattle.std.proofs.lemmas.List.{length-map}
@@ -10,11 +10,9 @@ use Rattle.vert_base.specs.declared.value.Combine.TheVariants.{First}
 use Rattle.vert_base.specs.declared.value.Row.{Row}
 use Rattle.vert_tree.specs.declared.program.Program.{Program}
 use Rattle.vert_tree.specs.declared.program.TotalDecl.{TotalDecl}
-use Rattle.vert_tree.specs.Kinds.{is_kinded}
-use Rattle.vert_tree.specs.Limits.{is_limited, is_shallow, mode_stands, names_stand, version_stands}
-use Rattle.vert_tree.specs.Places.{is_placed}
-use Rattle.vert_tree.specs.Readable.{declares_once, is_readable, is_total_op, totals_combine}
+use Rattle.vert_tree.specs.Readable.{is_total_op}
 use Rattle.vert_tree.specs.Typed.{is_typed}
+use Rattle.vert_tree.proofs.TypedLaws.{totals_are_combined}
 use Rattle.slot_merge.specs.Combine.{combined_of, total_of}
 use Rattle.vert_eval.specs.Rounds.{empty_row, env_at, outdegree, row_at, vertices_of}
 use Rattle.vert_eval.specs.SourceRun.{active_edges, active_vertices, scene_of, total_after}
@@ -123,17 +121,6 @@ all_machines zero some = absurd (omega arith)
 all_machines (suc p) some = ap (λ n. 0 ∷ range_with_len 1 n) (omega arith)
 
 -- ---- a program's totals combine
-totals_typed : (p : Program) → is_typed p ≡ true → totals_combine p ≡ true
-totals_typed p typed =
-    let a = and_parts (is_placed p) _ typed in
-    let b = and_parts (is_kinded p) _ a.1 in
-    let c = and_parts (is_limited p) _ b.1 in
-    let d = and_parts (is_shallow p) _ c.1 in
-    let e = and_parts (names_stand p) _ d.1 in
-    let f = and_parts (version_stands p) _ e.1 in
-    let g = and_parts (mode_stands p.mode (is_some p.dense) (is_some p.sparse)) _ f.1 in
-    let h = and_parts (is_readable p) _ g.1 in
-    (and_parts (declares_once p) _ h.1).1
 
 no_first : (op : Combine) → is_total_op op ≡ true → op ≢ First
 no_first op is same = let wrong : is_total_op First ≡ true = ap is_total_op (sym same) ∙ is in cc
@@ -224,7 +211,7 @@ module _ (src : Source) (most round : ℕ) (typed : is_typed src.job.program ≡
             (total_after src.job round rows) ts
             (each_total (λ t. fold (combined_of t.op) (chunk_total src round 0 t)
             (map (λ k. chunk_total src round k t) (others_of p 0)) ≡ total_after src.job round rows t) total_sum ts
-            (totals_typed src.job.program typed))) i;
+            (totals_are_combined src.job.program typed))) i;
       }
 
 pub tallies_summed : TalliesAreSummed

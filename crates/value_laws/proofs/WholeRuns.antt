@@ -14,7 +14,7 @@ use Rattle.vert_eval.specs.Rounds.{row_after, rows_after, vertices_of}
 use Rattle.vert_eval.specs.SourceRun.{Job, Run, Standing, by_ruling, first_row, first_rows, next_standing, played_at, rounds_from, scene_before, standing_after, then_runs}
 use Rattle.word_kinds.specs.Fits.{IsEdge, IsFitting, IsRow, IsSized, PlaysInWords, RunsInWords, StandsInWords}
 use Rattle.value_laws.specs.Laws.{BeginsInWords, EdgesAreSized, GoesOnInWords, ResumedInWords, ScenesHaveWords, WholeInWords}
-use Rattle.value_laws.proofs.Rounds.{few_rounds}
+use Rattle.vert_tree.proofs.TypedLaws.{few_rounds}
 use Rattle.value_laws.proofs.Rows.{first_words, rows_words, totals_words}
 
 -- ---- the edges of a graph
@@ -70,7 +70,7 @@ rounds_in_words : (fuel : ℕ) (job : Job) (round : ℕ) (s : Standing) → fuel
     IsFitting job.program → IsSized job.graph → StandsInWords job s → RunsInWords job (rounds_from fuel job round s)
 rounds_in_words zero job round s within fit size h = ended_in_words job s h
 rounds_in_words (suc more) job round s within fit size h =
-    let few = few_rounds job.program fit in
+    let few = few_rounds job.program fit.typed in
     let reached : round ≤ job.program.limit = omega (arith, within) in
     let small : round < 2 ^ 32 = omega (arith, reached, few) in
     let next = next_standing job round s in

@@ -1,6 +1,6 @@
 -- The lists of a typed program are code, name only what there is, and do what its blocks do.
 use Rattle.std.proofs.Common.{◌≡◌, ℕ, ◌+◌, ◌≤◌, Bool, true, ◌&&◌, List, [], ◌∷◌, ◌++◌, length, map, refl, sym, ap, ◌∙◌, subst, arith, Option, Some, None}
-use Rattle.std.specs.Prelude.{nat_le, slice_index, slice_index_or, is_some}
+use Rattle.std.specs.Prelude.{nat_le, slice_index, slice_index_or}
 use Rattle.std.specs.List.{list_all}
 use Rattle.std.proofs.lemmas.Bool.{eq-eqb, leb-true}
 use Rattle.std.specs.Cmp.Derive.{both_true}
@@ -8,11 +8,10 @@ use Rattle.vert_tree.specs.declared.program.Dense.{Dense}
 use Rattle.vert_tree.specs.declared.program.Program.{Program}
 use Rattle.vert_tree.specs.declared.program.Sparse.{Sparse}
 use Rattle.vert_tree.specs.declared.statement.Stmt.{Stmt}
-use Rattle.vert_tree.specs.Kinds.{is_kinded}
-use Rattle.vert_tree.specs.Limits.{body_shallow, decls_shallow, deepest, dense_shallow, expr_shallow, is_limited, is_shallow, mode_stands, names_stand, sparse_shallow, stmt_depth, version_stands}
-use Rattle.vert_tree.specs.Places.{Counts, Rights, body_placed, dense_placed, expr_placed, is_placed, lets_placed, loop_rights, no_counts, option_all, round_counts, row_counts, sparse_placed, sparse_rights, stop_counts, tail_rights, update_rights}
-use Rattle.vert_tree.specs.Readable.{declares_once, is_readable, totals_combine}
+use Rattle.vert_tree.specs.Limits.{body_shallow, decls_shallow, deepest, dense_shallow, expr_shallow, sparse_shallow, stmt_depth}
+use Rattle.vert_tree.specs.Places.{Counts, Rights, body_placed, dense_placed, expr_placed, lets_placed, loop_rights, option_all, round_counts, sparse_placed, sparse_rights, tail_rights, update_rights}
 use Rattle.vert_tree.specs.Typed.{is_typed}
+use Rattle.vert_tree.proofs.TypedLaws.{blocks_limited, blocks_placed, few_fields, few_slots, few_totals, shallow, update_placed}
 use Rattle.slot_merge.specs.Combine.{Emission}
 use Rattle.vert_eval.specs.declared.environment.Env.{Env}
 use Rattle.vert_eval.specs.declared.environment.Flow.{Flow}
@@ -157,60 +156,11 @@ few_sends None h = omega arith
 few_sends (Some s) h = leb-true (length s.sends.items) 8 h
 
 module _ (p : Program) (typed : is_typed p ≡ true) where
-  abbrev readings : Bool
-  readings = is_readable p && (declares_once p && totals_combine p)
-
-  abbrev modes : Bool
-  modes = mode_stands p.mode (is_some p.dense) (is_some p.sparse) && readings
-
-  abbrev names : Bool
-  names = names_stand p && (version_stands p && modes)
-
-  placed_part : is_placed p ≡ true
-  placed_part = left_true (is_placed p) (is_kinded p && (is_limited p && (is_shallow p && names))) typed
-
-  limits_part : (is_limited p && (is_shallow p && names)) ≡ true
-  limits_part = right_true (is_kinded p) (is_limited p && (is_shallow p && names))
-      (right_true (is_placed p) (is_kinded p && (is_limited p && (is_shallow p && names))) typed)
-
-  limited_part : is_limited p ≡ true
-  limited_part = left_true (is_limited p) (is_shallow p && names) limits_part
-
-  shallow_part : is_shallow p ≡ true
-  shallow_part = left_true (is_shallow p) names (right_true (is_limited p) (is_shallow p && names) limits_part)
-
-  abbrev dense_ok : Bool
-  dense_ok = option_all (dense_placed (round_counts p)) p.dense
-
-  abbrev sparse_ok : Bool
-  sparse_ok = option_all (sparse_placed (round_counts p)) p.sparse
-
-  abbrev update_ok : Bool
-  update_ok = body_placed update_rights (round_counts p) p.update.items
-
-  abbrev stop_ok : Bool
-  stop_ok = option_all (expr_placed (stop_counts p)) p.stop
-
-  blocks_placed : (dense_ok && (sparse_ok && (update_ok && stop_ok))) ≡ true
-  blocks_placed =
-      let rest = dense_ok && (sparse_ok && (update_ok && stop_ok)) in
-      let start = expr_placed (row_counts p) p.start in
-      let totals = list_all (λ t. expr_placed (row_counts p) t.value) p.totals.items in
-      right_true start rest (right_true totals (start && rest)
-      (right_true (list_all (λ d. expr_placed no_counts d.value) p.fields.items) (totals && (start && rest))
-      placed_part))
-
   pub block_placed : (block : Block) → body_placed (rights_of block) (counts_in p block) (statements_of p block) ≡ true
-  block_placed Loop = loop_placed (round_counts p) p.dense
-      (left_true dense_ok (sparse_ok && (update_ok && stop_ok)) blocks_placed)
-  block_placed Tail = tail_placed (round_counts p) p.dense
-      (left_true dense_ok (sparse_ok && (update_ok && stop_ok)) blocks_placed)
-  block_placed SparseBody = sparse_is_placed (round_counts p) p.sparse
-      (left_true sparse_ok (update_ok && stop_ok)
-      (right_true dense_ok (sparse_ok && (update_ok && stop_ok)) blocks_placed))
-  block_placed UpdateBody = left_true update_ok stop_ok
-      (right_true sparse_ok (update_ok && stop_ok)
-      (right_true dense_ok (sparse_ok && (update_ok && stop_ok)) blocks_placed))
+  block_placed Loop = loop_placed (round_counts p) p.dense (blocks_placed p typed).0
+  block_placed Tail = tail_placed (round_counts p) p.dense (blocks_placed p typed).0
+  block_placed SparseBody = sparse_is_placed (round_counts p) p.sparse (blocks_placed p typed).1
+  block_placed UpdateBody = update_placed p typed
 
   abbrev dense_low : Bool
   dense_low = option_all dense_shallow p.dense
@@ -230,7 +180,7 @@ module _ (p : Program) (typed : is_typed p ≡ true) where
       let start = expr_shallow p.start in
       let totals = list_all (λ t. expr_shallow t.value) p.totals.items in
       right_true start rest (right_true totals (start && rest)
-      (right_true (decls_shallow p.fields.items) (totals && (start && rest)) shallow_part))
+      (right_true (decls_shallow p.fields.items) (totals && (start && rest)) (shallow p typed)))
 
   block_shallow : (block : Block) → body_shallow (statements_of p block) ≡ true
   block_shallow Loop = loop_shallow p.dense
@@ -244,86 +194,47 @@ module _ (p : Program) (typed : is_typed p ≡ true) where
       (right_true sparse_low (update_low && stop_low)
       (right_true dense_low (sparse_low && (update_low && stop_low)) blocks_shallow))
 
-  abbrev few_fields : Bool
-  few_fields = nat_le (length p.fields.items) 16
-
-  abbrev few_slots : Bool
-  few_slots = nat_le (length p.slots.items) 8
-
-  abbrev few_totals : Bool
-  few_totals = nat_le (length p.totals.items) 4
-
-  abbrev lets_few : Bool
-  lets_few = option_all (λ d. nat_le (length d.lets.items) 8) p.dense
-
-  abbrev sends_few : Bool
-  sends_few = option_all (λ s. nat_le (length s.sends.items) 8) p.sparse
-
-  fields_within : length p.fields.items ≤ 16
-  fields_within = leb-true (length p.fields.items) 16
-      (left_true few_fields (few_slots && (few_totals && (lets_few && sends_few)))
-      (right_true (nat_le p.limit 10000) (few_fields && (few_slots && (few_totals && (lets_few && sends_few))))
-      limited_part))
-
-  few_rest : (few_slots && (few_totals && (lets_few && sends_few))) ≡ true
-  few_rest = right_true few_fields (few_slots && (few_totals && (lets_few && sends_few)))
-      (right_true (nat_le p.limit 10000) (few_fields && (few_slots && (few_totals && (lets_few && sends_few))))
-      limited_part)
-
-  slots_within : length p.slots.items ≤ 8
-  slots_within = leb-true (length p.slots.items) 8
-      (left_true few_slots (few_totals && (lets_few && sends_few)) few_rest)
-
-  totals_within : length p.totals.items ≤ 4
-  totals_within = leb-true (length p.totals.items) 4
-      (left_true few_totals (lets_few && sends_few)
-      (right_true few_slots (few_totals && (lets_few && sends_few)) few_rest))
-
-  few_both : (lets_few && sends_few) ≡ true
-  few_both = right_true few_totals (lets_few && sends_few)
-      (right_true few_slots (few_totals && (lets_few && sends_few)) few_rest)
-
   lets_within : lets_in p.dense ≤ 8
-  lets_within = few_lets p.dense (left_true lets_few sends_few few_both)
+  lets_within = few_lets p.dense (blocks_limited p typed).0
 
   sends_within : sends_in p.sparse ≤ 8
-  sends_within = few_sends p.sparse (right_true lets_few sends_few few_both)
+  sends_within = few_sends p.sparse (blocks_limited p typed).1
 
   none_within : 0 ≤ 8
   none_within = omega arith
 
   block_within : (block : Block) → Within (counts_in p block) most
   block_within Loop = record {
-    fields = fields_within;
+    fields = few_fields p typed;
     locals = lets_within;
     sends = none_within;
-    slots = slots_within;
-    totals = totals_within;
-    others = fields_within;
+    slots = few_slots p typed;
+    totals = few_totals p typed;
+    others = few_fields p typed;
   }
   block_within Tail = record {
-    fields = fields_within;
+    fields = few_fields p typed;
     locals = lets_within;
     sends = none_within;
-    slots = slots_within;
-    totals = totals_within;
-    others = fields_within;
+    slots = few_slots p typed;
+    totals = few_totals p typed;
+    others = few_fields p typed;
   }
   block_within SparseBody = record {
-    fields = fields_within;
+    fields = few_fields p typed;
     locals = none_within;
     sends = sends_within;
-    slots = slots_within;
-    totals = totals_within;
-    others = fields_within;
+    slots = few_slots p typed;
+    totals = few_totals p typed;
+    others = few_fields p typed;
   }
   block_within UpdateBody = record {
-    fields = fields_within;
+    fields = few_fields p typed;
     locals = none_within;
     sends = none_within;
-    slots = slots_within;
-    totals = totals_within;
-    others = fields_within;
+    slots = few_slots p typed;
+    totals = few_totals p typed;
+    others = few_fields p typed;
   }
 
   list_fits : (block : Block) → is_list (rights_of block).breaks (block_code (statements_of p block)) ≡ true

@@ -1,2 +1,4 @@
 pub mod Printing
+pub mod ReadLaws
 pub mod Rows
+pub mod TypedLaws

@@ -20,7 +20,7 @@ use Rattle.circulant_plan.specs.Standing.{Standing, next_standing, round_of, sta
 use Rattle.circulant_plan.specs.Table.{after_begin, after_judge}
 use Rattle.instrument.specs.declared.split.Split.{Split}
 use Rattle.body_shape.specs.Tally.{Counted}
-use Rattle.value_laws.proofs.Rounds.{few_rounds}
+use Rattle.vert_tree.proofs.TypedLaws.{few_rounds}
 use Rattle.symple_face.specs.declared.action.Action.TheVariants as action
 use Rattle.symple_face.specs.CoreClose.{close_go}
 use Rattle.symple_face.specs.CoreDense.{scan_go, scan_kept, scan_read}
@@ -125,7 +125,7 @@ module _ (s : State) (can : CanRun s.part s.split) (fits : HoldsFit s.part s.spl
   limit = (program_of s.split).limit
 
   pub small : (r : ℕ) → r ≤ (program_of s.split).limit + 1 → r < 2 ^ 32
-  small r low = low_round r (program_of s.split).limit low (few_rounds (program_of s.split) can.program)
+  small r low = low_round r (program_of s.split).limit low (few_rounds (program_of s.split) can.program.typed)
 
   pub small_within : (r : ℕ) → r ≤ (program_of s.split).limit → r < 2 ^ 32
   small_within r low = small r (omega (arith, low))

@@ -35,7 +35,8 @@ use Rattle.circulant_plan.specs.Table.{begin_gives, gives_of, name_if, others_of
 use Rattle.circulant_plan.proofs.CircleLaws.{chunk_other}
 use Rattle.circulant_plan.proofs.Members.{Has, contains_from_has, has_map, has_others_cases}
 use Rattle.instrument.specs.Loops.{is_reduced, loop_split, places_where}
-use Rattle.instrument.proofs.TypedLaws.{few_lets, length-let_classes}
+use Rattle.instrument.proofs.TypedLaws.{length-let_classes}
+use Rattle.vert_tree.proofs.TypedLaws.{few_lets}
 use Rattle.body_shape.specs.declared.shape.BodyShape.{BodyShape}
 use Rattle.body_shape.specs.declared.shape.BodyShape.TheVariants.{Refresh, Update, Push, Tally}
 use Rattle.body_shape.specs.Fit.{is_fit}
@@ -76,7 +77,7 @@ use Rattle.symple_face.specs.Shapes.{carried_in, count_within, form_of, half_in,
 use Rattle.vert_tree.specs.Places.{lets_in, sends_in}
 use Rattle.symple_face.specs.Shapes as shapes
 use Rattle.symple_face.specs.State.{State, action_of, machine, p_of}
-use Rattle.symple_face.proofs.LimitLaws.{few_slots}
+use Rattle.vert_tree.proofs.TypedLaws.{few_slots}
 use Rattle.symple_face.proofs.TableLaws.{plans_by_table, some_block}
 use Rattle.work_laws.specs.Sound.{FitsSpot, IsRuled, TakesPlace, core_sound}
 use Rattle.work_laws.proofs.Closes.{closed_rows_fit}
@@ -376,7 +377,7 @@ module _ (s : State) (sound : core_sound s) where
       by None e = omega arith
       by (Some d) e =
           let cs = places_few is_reduced 0 (loop_split d).classes.locals.items in
-          let lets = few_lets (program_of s.split) d s.split.program.typed e in
+          let lets = few_lets (program_of s.split) s.split.program.typed d e in
           let count = length-let_classes 0 d.lets.items (body_marks d.body.items) in
           omega (arith, cs, lets, count)
 

@@ -1,4 +1,4 @@
-use Rattle.order_free.proofs.TypedParts.{few_slots}
+use Rattle.vert_tree.proofs.TypedLaws.{few_slots}
 use Rattle.order_free.proofs.answer.free.Goals as goal
 
 pub first_slot-requires : goal.first_slot-requires

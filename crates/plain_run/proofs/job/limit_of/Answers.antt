@@ -1,5 +1,5 @@
 use Rattle.std.proofs.Common.{arith}
-use Rattle.plain_run.proofs.TypedLaws.{few_rounds}
+use Rattle.vert_tree.proofs.TypedLaws.{few_rounds}
 use Rattle.plain_run.proofs.job.limit_of.Goals as goal
 
 pub overflow_cast-result : goal.overflow_cast-result

@@ -1,5 +1,5 @@
 use Rattle.plain_run.specs.Views.{program_of}
-use Rattle.plain_run.proofs.TypedLaws.{dense_stands, few_lets, few_sends, sparse_stands}
+use Rattle.vert_tree.proofs.TypedLaws.{dense_stands, few_lets, few_sends, sparse_stands}
 use Rattle.plain_run.proofs.round.emit_at.Goals as goal
 
 pub run_dense-requires-clause-placed : goal.run_dense-requires-clause-placed

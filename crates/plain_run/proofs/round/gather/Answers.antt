@@ -4,7 +4,7 @@ use Rattle.slot_merge.proofs.SlotLaws.{slot_values_are}
 use Rattle.vert_eval.specs.Rounds.{gathered, slot_ops}
 use Rattle.plain_run.specs.Views.{program_of, scene_of}
 use Rattle.plain_run.proofs.SlotLaws.{length_empty}
-use Rattle.plain_run.proofs.TypedLaws.{few_slots}
+use Rattle.vert_tree.proofs.TypedLaws.{few_slots}
 use Rattle.plain_run.proofs.round.gather.Goals as goal
 
 pub clear_emits-requires : goal.clear_emits-requires

@@ -8,7 +8,7 @@ use Rattle.vert_eval.specs.Runs.{run}
 use Rattle.vert_eval.specs.Values.{counts_of}
 use Rattle.plain_run.specs.Views.{counts_in, program_of, scene_of}
 use Rattle.plain_run.proofs.EnvLaws.{counts_at}
-use Rattle.plain_run.proofs.TypedLaws.{few_totals, update_placed}
+use Rattle.vert_tree.proofs.TypedLaws.{few_totals, update_placed}
 use Rattle.plain_run.proofs.round.updated_row.Goals as goal
 
 pub enter_vertex-requires-clause-totals : goal.enter_vertex-requires-clause-totals

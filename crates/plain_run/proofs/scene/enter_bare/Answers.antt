@@ -1,6 +1,6 @@
 use Rattle.std.proofs.Common.{◌≤◌, length}
 use Rattle.plain_run.specs.Views.{program_of}
-use Rattle.plain_run.proofs.TypedLaws.{few_slots, few_totals}
+use Rattle.vert_tree.proofs.TypedLaws.{few_slots, few_totals}
 use Rattle.plain_run.proofs.scene.enter_bare.Goals as goal
 
 pub enter_vertex-requires-clause-totals : goal.enter_vertex-requires-clause-totals

@@ -5,7 +5,7 @@ use Rattle.vert_tree.specs.Places.{expr_placed}
 use Rattle.vert_eval.specs.Values.{counts_of, value_of}
 use Rattle.plain_run.specs.Jobs.{job_of}
 use Rattle.plain_run.proofs.StartLaws.{entered_counts, first_row_is}
-use Rattle.plain_run.proofs.TypedLaws.{few_fields, fields_placed, start_placed}
+use Rattle.vert_tree.proofs.TypedLaws.{few_fields, fields_placed, start_placed}
 use Rattle.plain_run.proofs.start.first_row.Goals as goal
 
 pub field_words-requires-clause-room : goal.field_words-requires-clause-room

@@ -1,4 +1,4 @@
-use Rattle.plain_run.proofs.TypedLaws.{stop_stands}
+use Rattle.vert_tree.proofs.TypedLaws.{stop_stands}
 use Rattle.plain_run.proofs.totals.stops_after.Goals as goal
 
 pub test_after-requires-clause-names : goal.test_after-requires-clause-names

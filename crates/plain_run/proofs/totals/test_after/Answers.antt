@@ -3,7 +3,7 @@ use Rattle.vert_tree.specs.Places.{expr_placed}
 use Rattle.vert_eval.specs.Values.{counts_of}
 use Rattle.plain_run.specs.Jobs.{job_of}
 use Rattle.plain_run.proofs.StartLaws.{stop_counts_are}
-use Rattle.plain_run.proofs.TypedLaws.{few_totals}
+use Rattle.vert_tree.proofs.TypedLaws.{few_totals}
 use Rattle.plain_run.proofs.totals.test_after.Goals as goal
 
 pub enter_vertex-requires-clause-totals : goal.enter_vertex-requires-clause-totals

@@ -1,7 +1,7 @@
 use Rattle.std.proofs.Common.{length, ap, ◌∙◌, arith}
 use Rattle.std.specs.List.{list_all}
 use Rattle.vert_tree.specs.Places.{expr_placed, row_counts}
-use Rattle.plain_run.proofs.TypedLaws.{few_totals, totals_placed}
+use Rattle.vert_tree.proofs.TypedLaws.{few_totals, totals_placed}
 use Rattle.plain_run.proofs.totals.totals_after.Goals as goal
 
 pub total_words-requires-clause-room : goal.total_words-requires-clause-room

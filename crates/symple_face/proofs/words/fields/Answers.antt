@@ -1,6 +1,6 @@
 -- A typed program has no more than sixteen fields.
 use Rattle.std.proofs.Common.{ap, arith, length}
-use Rattle.symple_face.proofs.LimitLaws.{few_fields}
+use Rattle.vert_tree.proofs.TypedLaws.{few_fields}
 use Rattle.symple_face.proofs.words.fields.Goals as goal
 
 pub returns-clause-few : goal.returns-clause-few

@@ -1,6 +1,6 @@
 -- A typed program has no more than 8 slots.
 use Rattle.std.proofs.Common.{arith}
-use Rattle.symple_face.proofs.LimitLaws.{few_slots}
+use Rattle.vert_tree.proofs.TypedLaws.{few_slots}
 use Rattle.symple_face.proofs.words.slot_count.Goals as goal
 
 pub overflow_cast-result : goal.overflow_cast-result

@@ -1,6 +1,6 @@
 -- A typed program has no more than 4 totals.
 use Rattle.std.proofs.Common.{arith}
-use Rattle.symple_face.proofs.LimitLaws.{few_totals}
+use Rattle.vert_tree.proofs.TypedLaws.{few_totals}
 use Rattle.symple_face.proofs.words.total_count.Goals as goal
 
 pub overflow_cast-result : goal.overflow_cast-result

@@ -1,27 +1,14 @@
 -- What the blocks of a typed program may read.
 use Rattle.std.proofs.Common.{◌≡◌, true, Some, sym, ap, ◌∙◌}
-use Rattle.std.specs.Prelude.{is_some}
 use Rattle.std.specs.List.{list_all}
 use Rattle.std.proofs.lemmas.Bool.{and_parts}
 use Rattle.vert_tree.specs.declared.program.Dense.{Dense}
 use Rattle.vert_tree.specs.declared.program.Program.{Program}
 use Rattle.vert_tree.specs.declared.program.Sparse.{Sparse}
-use Rattle.vert_tree.specs.Kinds.{is_kinded}
-use Rattle.vert_tree.specs.Limits.{is_limited, is_shallow, mode_stands, names_stand, version_stands}
-use Rattle.vert_tree.specs.Places.{is_placed, option_all}
-use Rattle.vert_tree.specs.Readable.{body_read, decls_read, dense_read, expr_read, in_fields, in_loop, in_sparse, in_stop, in_tests, in_update, is_readable, sparse_read}
+use Rattle.vert_tree.specs.Places.{option_all}
+use Rattle.vert_tree.specs.Readable.{body_read, decls_read, dense_read, expr_read, in_fields, in_loop, in_sparse, in_stop, in_tests, in_update, sparse_read}
 use Rattle.vert_tree.specs.Typed.{is_typed}
-
-readable : (p : Program) → is_typed p ≡ true → is_readable p ≡ true
-readable p typed =
-    let a = and_parts (is_placed p) _ typed in
-    let b = and_parts (is_kinded p) _ a.1 in
-    let c = and_parts (is_limited p) _ b.1 in
-    let d = and_parts (is_shallow p) _ c.1 in
-    let e = and_parts (names_stand p) _ d.1 in
-    let f = and_parts (version_stands p) _ e.1 in
-    let g = and_parts (mode_stands p.mode (is_some p.dense) (is_some p.sparse)) _ f.1 in
-    (and_parts (is_readable p) _ g.1).0
+use Rattle.vert_tree.proofs.TypedLaws.{readable}
 
 -- the stop test reads no vertex
 pub stop_read : (p : Program) → is_typed p ≡ true → option_all (expr_read in_stop) p.stop ≡ true
@@ -33,7 +20,8 @@ stop_read p typed =
     let e = and_parts (option_all sparse_read p.sparse) _ d.1 in
     (and_parts (body_read in_update p.update.items) _ e.1).1
 
-blocks_read : (p : Program) → is_typed p ≡ true →
+-- the blocks of rounds
+pub blocks_read : (p : Program) → is_typed p ≡ true →
     (option_all dense_read p.dense ≡ true) × (option_all sparse_read p.sparse ≡ true)
 blocks_read p typed =
     let a = and_parts (decls_read in_fields p.fields.items) _ (readable p typed) in

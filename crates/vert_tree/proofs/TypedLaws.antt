@@ -80,6 +80,31 @@ module _ (p : Program) (typed : is_typed p ≡ true) where
       (nat_le (length p.totals.items) 4) (option_all (λ d. nat_le (length d.lets.items) 8) p.dense)
       (option_all (λ s. nat_le (length s.sends.items) 8) p.sparse) all.third
 
+  -- the last four tests
+  abbrev mode : Bool
+  mode = mode_stands p.mode (is_some p.dense) (is_some p.sparse)
+
+  readings : (is_readable p && (declares_once p && totals_combine p)) ≡ true
+  readings = (and_parts mode (is_readable p && (declares_once p && totals_combine p)) all.seventh).1
+
+  once : (declares_once p && totals_combine p) ≡ true
+  once = (and_parts (is_readable p) (declares_once p && totals_combine p) readings).1
+
+  pub shallow : is_shallow p ≡ true
+  shallow = all.fourth
+
+  pub kinded : is_kinded p ≡ true
+  kinded = all.second
+
+  pub readable : is_readable p ≡ true
+  readable = (and_parts (is_readable p) (declares_once p && totals_combine p) readings).0
+
+  pub totals_are_combined : totals_combine p ≡ true
+  totals_are_combined = (and_parts (declares_once p) (totals_combine p) once).1
+
+  pub limited : is_limited p ≡ true
+  limited = all.third
+
   pub fields_placed : list_all (λ d. expr_placed no_counts d.value) p.fields.items ≡ true
   fields_placed = places.first
 
@@ -88,6 +113,10 @@ module _ (p : Program) (typed : is_typed p ≡ true) where
 
   pub start_placed : expr_placed (row_counts p) p.start ≡ true
   start_placed = places.third
+
+  pub blocks_placed : (option_all (dense_placed (round_counts p)) p.dense ≡ true) ×
+      (option_all (sparse_placed (round_counts p)) p.sparse ≡ true)
+  blocks_placed = (places.fourth, places.fifth)
 
   pub dense_stands : (d : Dense) → p.dense ≡ Some d → dense_placed (round_counts p) d ≡ true
   dense_stands d e = there (dense_placed (round_counts p)) p.dense d e places.fourth
@@ -109,6 +138,10 @@ module _ (p : Program) (typed : is_typed p ≡ true) where
 
   pub few_totals : length p.totals.items ≤ 4
   few_totals = leb-true _ _ limits.fourth
+
+  pub blocks_limited : (option_all (λ d. nat_le (length d.lets.items) 8) p.dense ≡ true) ×
+      (option_all (λ s. nat_le (length s.sends.items) 8) p.sparse ≡ true)
+  blocks_limited = (limits.fifth, limits.sixth)
 
   pub few_lets : (d : Dense) → p.dense ≡ Some d → length d.lets.items ≤ 8
   few_lets d e = leb-true _ _ (there (λ x. nat_le (length x.lets.items) 8) p.dense d e limits.fifth)
