@@ -15,13 +15,10 @@ use Rattle.skeleton_laws.proofs.NamesInOrder.{has_ordered, has_ordered_cases, na
 use Rattle.skeleton_laws.proofs.LeastLaws.{rising_are_one}
 use Rattle.circulant_plan.specs.Choosing.{names_in_order}
 use Rattle.symple_face.specs.Cluster.{all_placed}
+use Rattle.skeleton_laws.proofs.LeastLaws.{same_bool}
 use Rattle.cluster_run.specs.Sends.{AreNew}
 
 -- two tests that hold together are one
-pub same_test : (a b : Bool) → (a ≡ true → b ≡ true) → (b ≡ true → a ≡ true) → a ≡ b
-same_test true b there back = sym (there refl)
-same_test false true there back = back refl
-same_test false false there back = refl
 
 pub test_cases : (b : Bool) → (b ≡ true) ⊎ (b ≡ false)
 test_cases true = inl refl
@@ -29,7 +26,7 @@ test_cases false = inr refl
 
 pub same_swap : (a b : Name) → same_name a b ≡ same_name b a
 same_swap a b =
-    same_test (same_name a b) (same_name b a)
+    same_bool (same_name a b) (same_name b a)
     (λ e. subst (λ c. same_name c a ≡ true) (names_law a b e) (same_as_self a))
     (λ e. subst (λ c. same_name c b ≡ true) (names_law b a e) (same_as_self b))
 
@@ -164,7 +161,7 @@ not_parts false e = refl
 pub name_but_for : (x y : Name) (xs : List Name) →
     has_name y (but_for x xs) ≡ (not (same_name x y) && has_name y xs)
 name_but_for x y xs =
-    same_test (has_name y (but_for x xs)) (not (same_name x y) && has_name y xs)
+    same_bool (has_name y (but_for x xs)) (not (same_name x y) && has_name y xs)
     (λ h.
     let c = has_but_cases x y xs (has_from_name y (but_for x xs) h) in
     and_true (not (same_name x y)) (has_name y xs)
@@ -198,7 +195,7 @@ pub ordered_names : (xs : List Name) (ms : List Letter) → Ascends ms →
     ((x : Name) → has_letter x ms ≡ has_name x xs) → names_in_order xs ≡ names_of ms
 ordered_names xs ms rise same =
     rising_are_one (names_in_order xs) (names_of ms) (names_rise xs) (letters_rise ms rise)
-    (λ x. same_test (has_name x (names_in_order xs)) (has_name x (names_of ms))
+    (λ x. same_bool (has_name x (names_in_order xs)) (has_name x (names_of ms))
     (λ h.
     sym (has_names x ms) ∙ same x
     ∙ name_from_has x xs (has_ordered_cases xs x (has_from_name x (names_in_order xs) h)))

@@ -31,8 +31,10 @@ use Rattle.symple_face.specs.State.{State, machine, ruling_read, shape_at}
 use Rattle.symple_face.specs.State as face
 use Rattle.symple_face.specs.Work.{Work}
 use Rattle.cluster_run.proofs.GoWorlds.{same_from}
-use Rattle.cluster_run.proofs.Letters.{has_letter, has_without, length_without, name_but_for, not_found, not_same_names, once_from_each, same_swap, same_test, test_cases, without_is}
+use Rattle.cluster_run.proofs.Letters.{has_letter, has_without, length_without, name_but_for, not_found, not_same_names, once_from_each, same_swap, test_cases, without_is}
 use Rattle.cluster_run.proofs.Sites.{get_one, map_get_back, map_set, other, same, set_cases, set_length}
+use Rattle.skeleton_laws.proofs.LeastLaws.{same_bool}
+use Rattle.skeleton_laws.proofs.RoundLaws.{kind_cases}
 use Rattle.cluster_run.proofs.Worlds.{FitsAt, IsMachine, IsSkeletonOf, Knows, is_for, is_for_it, knows_judged}
 
 taken_round : (kind : NameKind) (a : Ruling) (s : Standing) → (standing_taken kind a s).round ≡ s.round
@@ -54,14 +56,6 @@ taken_alike Update a b s agree = refl
 taken_alike Push a b s agree = refl
 taken_alike Tally a b s agree = refl
 taken_alike Verdict a b s agree = ap (λ q. ruled_standing q s) (agree refl)
-
-verdict_cases : (kind : NameKind) → (kind ≡ Verdict) ⊎ (kind ≢ Verdict)
-verdict_cases Refresh = inr (λ e. let no : Refresh ≡ Verdict = e in grind arith)
-verdict_cases Dep = inr (λ e. let no : Dep ≡ Verdict = e in grind arith)
-verdict_cases Update = inr (λ e. let no : Update ≡ Verdict = e in grind arith)
-verdict_cases Push = inr (λ e. let no : Push ≡ Verdict = e in grind arith)
-verdict_cases Tally = inr (λ e. let no : Tally ≡ Verdict = e in grind arith)
-verdict_cases Verdict = inl refl
 
 -- a name of others isn't one for this machine
 for_other : (taken b : Bool) (x y : Name) (j round : ℕ) → same_name y x ≡ b → x.to ≢ j →
@@ -202,7 +196,7 @@ module _ (work : Work) (sound : State → Type 0) (lawful : IsLawful work sound)
       (λ (not_one : l.name.kind ≢ Verdict).
       lawful.take_other s l not_one ∙ tied.rulings x.to s here going (knew not_one knows)
       ∙ ap (ruling_in k.rulings) (sym next_round))
-      (verdict_cases l.name.kind)
+      (kind_cases l.name.kind)
     where
       knew : l.name.kind ≢ Verdict → Knows x.to (work.take s l) → Knows x.to s
       knew not_one (inl first) = inl (first.0, let late = first.1 in let r = next_round in omega arith)

@@ -41,7 +41,7 @@ tail_has x xs ys rise all z h =
     (λ (more : Has ys z). name_from_has z ys more)
     (has_from_name z (x ∷ ys) (all z (name_from_has z (x ∷ xs) (inr in_xs))))
 
-same_bool : (a b : Bool) → (a ≡ true → b ≡ true) → (b ≡ true → a ≡ true) → a ≡ b
+pub same_bool : (a b : Bool) → (a ≡ true → b ≡ true) → (b ≡ true → a ≡ true) → a ≡ b
 same_bool true b f g = sym (f refl)
 same_bool false true f g = g refl
 same_bool false false f g = refl

@@ -61,7 +61,7 @@ other_mode ring Tally a b x (inl e) h = absurd (not_kind Tally Verdict (λ q. om
 other_mode ring Tally a b x (inr e) h = tally_other ring x.from x.round a b x e h
 other_mode ring Verdict a b x e h = h
 
-kind_cases : (kind : NameKind) → (kind ≡ Verdict) ⊎ (kind ≢ Verdict)
+pub kind_cases : (kind : NameKind) → (kind ≡ Verdict) ⊎ (kind ≢ Verdict)
 kind_cases Refresh = inr (not_kind Refresh Verdict (λ q. omega arith))
 kind_cases Dep = inr (not_kind Dep Verdict (λ q. omega arith))
 kind_cases Update = inr (not_kind Update Verdict (λ q. omega arith))
