@@ -28,7 +28,8 @@ use Rattle.symple_face.specs.State.{State}
 use Rattle.symple_face.specs.Work.{Work}
 use Rattle.cluster_run.specs.Driven.{BeginsRound, IsRestarted}
 use Rattle.cluster_run.proofs.GoWorlds.{same_from}
-use Rattle.cluster_run.proofs.Letters.{and_true, has_letter, not_from, not_parts, same_test, test_cases}
+use Rattle.cluster_run.proofs.Letters.{and_true, has_letter, not_from, not_parts, test_cases}
+use Rattle.skeleton_laws.proofs.LeastLaws.{same_bool}
 use Rattle.cluster_run.proofs.PartsAt.{part_at, parts_count, parts_some}
 use Rattle.cluster_run.proofs.Sites.{map_get_back}
 use Rattle.cluster_run.proofs.Worlds.{IsMachine, IsSkeletonOf, Knows, is_for, is_for_it}
@@ -133,7 +134,7 @@ module _ (work : Work) (sound : State → Type 0) (lawful : IsLawful work sound)
         let it = is.each m s at in
         let at_round : s.at.round ≡ round = ap (λ (t : Standing). t.round) it.at in
         it.held x
-        ∙ same_test (not (m == 0) && same_name (verdict_name round m) x) (has_name x k.taken && is_for m round x)
+        ∙ same_bool (not (m == 0) && same_name (verdict_name round m) x) (has_name x k.taken && is_for m round x)
         (λ e.
         let c = and_parts (not (m == 0)) (same_name (verdict_name round m) x) e in
         let named : verdict_name round m ≡ x = names_law (verdict_name round m) x c.1 in
