@@ -13,7 +13,8 @@ use Rattle.vert_eval.specs.declared.environment.Env.{Env}
 use Rattle.vert_eval.specs.Rounds.{row_at}
 use Rattle.symple_face.specs.declared.degree.Degree.{Degree}
 use Rattle.symple_face.specs.CoreSparse.{sends_at}
-use Rattle.machine_parts.specs.Entering.{entered, with_rows}
+use Rattle.machine_parts.specs.Entering.{entered}
+use Rattle.vert_eval.specs.SourceRun.{with_row}
 use Rattle.machine_parts.specs.Neighbours.{ArePlaced}
 use Rattle.machine_parts.specs.Sending.{TellsSends, own_sends}
 use Rattle.machine_parts.proofs.TotalLaws.{own_here, settled, settled_here}
@@ -115,7 +116,7 @@ pub vertex_told : (sparse : Sparse) (rows : List Row) (degrees : List Degree) (s
     (d : VertexId) (e : Degree)
     (first now read env : Env) (old new : List ℕ) → ArePlaced start (length rows) list → length degrees ≡ length
     rows → at < length list →
-    settled now ≡ settled first → read ≡ with_rows (row_at rows ((get_or list at d).0 - start)) now →
+    settled now ≡ settled first → read ≡ with_row (row_at rows ((get_or list at d).0 - start)) now →
     env ≡ entered (get_or list at d).0 (get_or degrees ((get_or list at d).0 - start) e) 0 read →
     old ≡ push_body (sends_upto (λ v. own_sends sparse rows degrees start first (v.0 - start)) at list) →
     TellsSends old at (sends_at (Some sparse) env) new →

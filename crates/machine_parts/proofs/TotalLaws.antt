@@ -14,13 +14,14 @@ use Rattle.vert_eval.specs.Rounds.{empty_row, row_at}
 use Rattle.vert_eval.specs.Values.{CanDraw, counts_of, value_of}
 use Rattle.symple_face.specs.declared.degree.Degree.{Degree}
 use Rattle.machine_parts.specs.Counting.{AreTotalsPlaced, own_counts, own_env, values_added}
-use Rattle.machine_parts.specs.Entering.{entered, with_rows}
+use Rattle.machine_parts.specs.Entering.{entered}
+use Rattle.vert_eval.specs.SourceRun.{with_row}
 use Rattle.machine_parts.specs.Flat.{zip_with}
 use Rattle.machine_parts.specs.Neighbours.{no_degree}
 
 -- what of an environment stays when vertices are entered
 abbrev pub settled : Env → Env
-settled env = entered 0 no_degree 0 (with_rows empty_row env)
+settled env = entered 0 no_degree 0 (with_row empty_row env)
 
 -- a total over the first own vertices
 abbrev pub total_upto : List Row → List Degree → ℕ → Env → ℕ → TotalDecl → ℤ
@@ -74,19 +75,19 @@ totals_more rows degrees start place first env (t ∷ ts) is =
 -- an environment that is entered at an own vertex, by one that agrees with the first
 module _ (rows : List Row) (degrees : List Degree) (start place : ℕ) (first now read env : Env) (d : Degree)
     (same : settled now ≡ settled first)
-    (read_is : read ≡ with_rows (row_at rows place) now) (entered_is : env
+    (read_is : read ≡ with_row (row_at rows place) now) (entered_is : env
     ≡ entered (start + place) (get_or degrees place d) 0 read) where
-  here : env ≡ entered (start + place) (get_or degrees place d) 0 (with_rows (row_at rows place) first)
+  here : env ≡ entered (start + place) (get_or degrees place d) 0 (with_row (row_at rows place) first)
   here =
       entered_is
       ∙ ap (entered (start + place) (get_or degrees place d) 0) read_is
-      ∙ ap (λ e. entered (start + place) (get_or degrees place d) 0 (with_rows (row_at rows place) e)) same
+      ∙ ap (λ e. entered (start + place) (get_or degrees place d) 0 (with_row (row_at rows place) e)) same
 
   pub settled_here : settled env ≡ settled first
   settled_here = ap settled here
 
   pub own_here : place < length degrees → env ≡ own_env rows degrees start first place
-  own_here lt = here ∙ ap (λ degree. entered (start + place) degree 0 (with_rows (row_at rows place) first))
+  own_here lt = here ∙ ap (λ degree. entered (start + place) degree 0 (with_row (row_at rows place) first))
       (get_or_default degrees place d no_degree lt)
 
   pub names_here : (width : ℕ) (totals : List TotalDecl) → length (row_at rows place).words.items ≡ width

@@ -9,7 +9,8 @@ use Rattle.vert_eval.specs.declared.environment.Env.{Env}
 use Rattle.vert_eval.specs.Rounds.{row_at}
 use Rattle.vert_eval.specs.Values.{value_of}
 use Rattle.symple_face.specs.declared.degree.Degree.{Degree}
-use Rattle.machine_parts.specs.Entering.{entered, with_rows}
+use Rattle.machine_parts.specs.Entering.{entered}
+use Rattle.vert_eval.specs.SourceRun.{with_row}
 use Rattle.machine_parts.specs.Flat.{zip_with}
 use Rattle.machine_parts.specs.Neighbours.{no_degree}
 
@@ -20,7 +21,7 @@ edges_at rows degrees place = if (row_at rows place).active then (slice_index_or
 -- the environment of the own vertex at a place, by one that has the numbers of the round
 abbrev pub own_env : List Row → List Degree → ℕ → Env → ℕ → Env
 own_env rows degrees start env place = entered (start + place) (slice_index_or degrees place no_degree) 0
-    (with_rows (row_at rows place) env)
+    (with_row (row_at rows place) env)
 
 -- a total over the own vertices
 abbrev pub own_total : List Row → List Degree → ℕ → Env → TotalDecl → ℤ

@@ -1,6 +1,5 @@
 -- The environment of a machine, which goes from vertex to vertex.
 use Rattle.std.specs.Prelude.{◌≡◌, ℕ, ℤ, pos, false, List, [], Option}
-use Rattle.vert_base.specs.declared.value.Row.{Row}
 use Rattle.vert_eval.specs.declared.environment.Env.{Env}
 use Rattle.symple_face.specs.declared.degree.Degree.{Degree}
 use Rattle.symple_face.specs.Sight.{Sight}
@@ -18,10 +17,6 @@ entered v degree key env = record env {
   sends = record { items = [] };
   key = key;
 }
-
--- the environment with a row, also as that of the neighbour
-abbrev pub with_rows : Row → Env → Env
-with_rows row env = record env { row = row; other_row = row }
 
 -- an environment that has the numbers and totals of a sight, these values of the slots, and a vertex's row and degrees
 -- at hand

@@ -2,7 +2,8 @@
 ghost use Rattle.std.specs.Prelude.{◌≡◌, ◌≤◌, ◌<◌, None, ℤ, List, Option, length, replicate};
 ghost use Rattle.symple_face.specs.Sight.{Sight, seen_env};
 ghost use Rattle.vert_eval.specs.Rounds.{row_at};
-ghost use Rattle.machine_parts.specs.Entering.{IsReadyFor, entered, with_rows};
+ghost use Rattle.vert_eval.specs.SourceRun.{with_row};
+ghost use Rattle.machine_parts.specs.Entering.{IsReadyFor, entered};
 
 use crate::rows::{Rows, copy_words};
 use arrayvec::ArrayVec;
@@ -80,7 +81,7 @@ pub fn new_env(setting: &Setting, totals: &[i64]) -> Env
 #[inline]
 pub fn read_row_of(rows: &Rows, place: usize, env: &mut Env)
     requires { place < length rows.now.rows }
-    ensures row { env.new ≡ with_rows (row_at rows.now.rows place) env.old }
+    ensures row { env.new ≡ with_row (row_at rows.now.rows place) env.old }
     ensures width { length (row_at rows.now.rows place).words.items ≡ rows.now.width }
 {
     rows.read(place, &mut env.row);
