@@ -1,5 +1,5 @@
 -- An event that is played: what it leaves is the step of the definition, reached, and nearer to the end.
-use Rattle.std.proofs.Common.{◌≡◌, ◌≢◌, ℕ, ◌+◌, ◌<◌, ◌≤◌, Bool, true, false, cond, List, [], length, map, get_or, Option, Some, None, refl, ap, sym, ◌∙◌, subst, arith, slice_get}
+use Rattle.std.proofs.Common.{◌≡◌, ℕ, ◌<◌, ◌≤◌, true, false, List, length, map, get_or, Some, None, ap, sym, ◌∙◌, subst, arith, slice_get}
 use Rattle.std.specs.Prelude.{if◌then◌else◌, slice_set, is_some}
 use Rattle.std.proofs.lemmas.List.{length-map}
 use Rattle.std.proofs.lemmas.Option.{slice_get_within}
@@ -8,22 +8,18 @@ use Rattle.vert_base.specs.declared.message.Event.{Event}
 use Rattle.vert_base.specs.declared.message.Event.TheVariants.{Go, Take}
 use Rattle.vert_base.specs.Letters.{Letter, found, without}
 use Rattle.vert_base.proofs.LetterLaws.{absent, found_name}
-use Rattle.symple_face.specs.declared.action.Action.{Action}
 use Rattle.symple_face.specs.declared.action.Action.TheVariants.{Ready}
 use Rattle.symple_face.specs.Cluster.{World, all_placed, can_act, events_left, go_at, is_ready, possible, step, take_at, take_found}
 use Rattle.symple_face.specs.Lawful.{IsLawful}
 use Rattle.symple_face.specs.State.{IsTakeable, State, action_of}
 use Rattle.symple_face.specs.Work.{Work}
 use Rattle.cluster_run.specs.declared.fault.EventFault.TheVariants.{NotUnderWay}
-use Rattle.cluster_run.specs.Driven.{IsReached}
+use Rattle.cluster_run.specs.Driven.{IsReached, world_of}
 use Rattle.cluster_run.specs.Faults.{action_fault, event_fault, go_fault}
 use Rattle.cluster_run.specs.Sends.{CanSend}
 use Rattle.cluster_run.proofs.Moves.{state_at}
 use Rattle.cluster_run.proofs.Results.{reached_few, reached_nearer, reached_sends, reached_takes, steps_on}
 use Rattle.cluster_run.proofs.Sites.{get_one}
-
-abbrev pub world_of : {X : Type 0} → (X → State) → List X → List Letter → World
-world_of state xs flight = record { sites = map state xs; under_way = flight }
 
 pub record IsDone (work : Work) (sound : State → Type 0) (old new : World) (e : Event) : Type 0 where
   pub free : event_fault old e ≡ None

@@ -1,8 +1,8 @@
 -- The first worlds, and the skeletons that stand as they do.
-use Rattle.std.proofs.Common.{◌≡◌, ◌≢◌, ◌⊎◌, ℕ, zero, suc, ◌+◌, ◌<◌, ◌≤◌, Bool, true, false, cond, ◌&&◌, ◌||◌, not, List, [], ◌∷◌, length, map, Option, Some, None, refl, ap, sym, ◌∙◌, subst, inl, inr, arith, ⊎_elim, slice_get}
-use Rattle.std.specs.Prelude.{is_some, ◌==◌, replicate}
+use Rattle.std.proofs.Common.{◌≡◌, ◌≢◌, ℕ, suc, ◌<◌, true, false, ◌&&◌, not, List, [], ◌∷◌, length, map, Some, None, refl, ap, sym, ◌∙◌, subst, inl, inr, arith, slice_get}
+use Rattle.std.specs.Prelude.{◌==◌, replicate}
 use Rattle.std.specs.List.{All}
-use Rattle.std.proofs.lemmas.Bool.{false≢true, and_parts}
+use Rattle.std.proofs.lemmas.Bool.{false≢true, and_parts, and_from, not-true, not_from_false}
 use Rattle.std.proofs.lemmas.List.{length-map}
 use Rattle.std.proofs.lemmas.List.Elements.{All-get_or}
 use Rattle.std.proofs.lemmas.Option.{get_or_from_slice_get, slice_get_within}
@@ -13,7 +13,7 @@ use Rattle.vert_base.specs.Names.{same_name}
 use Rattle.vert_base.proofs.LetterLaws.{names_law}
 use Rattle.circulant_plan.specs.declared.spot.Spot.TheVariants.{Begin}
 use Rattle.circulant_plan.specs.Names.{verdict_name}
-use Rattle.circulant_plan.specs.Skeleton.{Skeleton, first_skeleton, has_name, is_over, resumed_skeleton, ruling_in}
+use Rattle.circulant_plan.specs.Skeleton.{Skeleton, first_skeleton, has_name, resumed_skeleton, ruling_in}
 use Rattle.circulant_plan.specs.Standing.{Standing, first_standing, standing_at}
 use Rattle.circulant_plan.specs.Table.{others_of}
 use Rattle.circulant_plan.proofs.Members.{Has, has_map, has_map_cases, has_others, has_others_cases}
@@ -26,9 +26,9 @@ use Rattle.symple_face.specs.Lawful.{CanRun, IsLawful}
 use Rattle.symple_face.specs.Parts.{PlainPart}
 use Rattle.symple_face.specs.State.{State}
 use Rattle.symple_face.specs.Work.{Work}
-use Rattle.cluster_run.specs.Driven.{BeginsRound, IsRestarted}
+use Rattle.cluster_run.specs.Driven.{IsRestarted}
 use Rattle.cluster_run.proofs.GoWorlds.{same_from}
-use Rattle.cluster_run.proofs.Letters.{and_true, has_letter, not_from, not_parts, test_cases}
+use Rattle.cluster_run.proofs.Letters.{has_letter}
 use Rattle.skeleton_laws.proofs.LeastLaws.{same_bool}
 use Rattle.cluster_run.proofs.PartsAt.{part_at, parts_count, parts_some}
 use Rattle.cluster_run.proofs.Sites.{map_get_back}
@@ -138,11 +138,11 @@ module _ (work : Work) (sound : State → Type 0) (lawful : IsLawful work sound)
         (λ e.
         let c = and_parts (not (m == 0)) (same_name (verdict_name round m) x) e in
         let named : verdict_name round m ≡ x = names_law (verdict_name round m) x c.1 in
-        let later : m ≢ 0 = λ zero_is. false≢true (sym (not_parts (m == 0) c.0) ∙ ap (λ n. n == 0) zero_is) in
+        let later : m ≢ 0 = λ zero_is. false≢true (sym (not-true (m == 0) c.0) ∙ ap (λ n. n == 0) zero_is) in
         let there : Has k.taken (verdict_name round m) =
         has_map (verdict_name round) (others_of (length parts) 0) m
         (has_others (length parts) 0 m (parts_some parts one) (within m s at) later) in
-        and_true (has_name x k.taken) (is_for m round x)
+        and_from (has_name x k.taken) (is_for m round x)
         (subst (λ y. has_name y k.taken ≡ true) named (name_from_has (verdict_name round m) k.taken there))
         (is_for_it m round x (sym (ap (λ (y : Name). y.to) named)) (sym (ap (λ (y : Name). y.round) named))))
         (λ e.
@@ -151,8 +151,8 @@ module _ (work : Work) (sound : State → Type 0) (lawful : IsLawful work sound)
         let of = has_map_cases (verdict_name round) (others_of (length parts) 0) x (has_from_name x k.taken c.0) in
         let o = has_others_cases (length parts) 0 of.0 (parts_some parts one) of.1 in
         let to : of.0 ≡ m = ap (λ (y : Name). y.to) of.2 ∙ same_from x.to m f.0 in
-        and_true (not (m == 0)) (same_name (verdict_name round m) x)
-        (not_from (m == 0) (not_zero m (λ z. o.1 (to ∙ z))))
+        and_from (not (m == 0)) (same_name (verdict_name round m) x)
+        (not_from_false (m == 0) (not_zero m (λ z. o.1 (to ∙ z))))
         (subst (λ j. same_name (verdict_name round j) x ≡ true) to
         (subst (λ y. same_name y x ≡ true) (sym of.2) (same_as_self x))))
         ∙ ap (λ r. has_name x k.taken && is_for m r x) (sym at_round)

@@ -1,21 +1,18 @@
 -- The action of a machine: the world and the skeleton stand alike after it.
-use Rattle.std.proofs.Common.{◌≡◌, ◌≢◌, ◌⊎◌, ℕ, zero, suc, ◌+◌, ◌<◌, ◌≤◌, Bool, true, false, cond, ◌&&◌, ◌||◌, not, List, [], ◌∷◌, ◌++◌, length, length-append, map, Option, Some, None, refl, ap, sym, ◌∙◌, subst, inl, inr, arith, ⊎_elim, slice_get}
-use Rattle.std.specs.Prelude.{if◌then◌else◌, is_some, ◌==◌, slice_set}
+use Rattle.std.proofs.Common.{◌≡◌, ◌≢◌, ℕ, ◌+◌, ◌<◌, ◌≤◌, Bool, true, false, cond, ◌&&◌, ◌||◌, not, List, [], ◌∷◌, ◌++◌, length, length-append, map, Some, refl, ap, sym, ◌∙◌, subst, inl, inr, arith, ⊎_elim, slice_get}
+use Rattle.std.specs.Prelude.{is_some, ◌==◌, slice_set}
 use Rattle.std.specs.List.{AllByRecursion}
-use Rattle.std.proofs.lemmas.Bool.{false≢true, and_parts, cases_eq}
+use Rattle.std.proofs.lemmas.Bool.{false≢true, and_parts, cases_eq, and_from, cases_Bool}
 use Rattle.std.proofs.lemmas.List.{length-map}
 use Rattle.std.proofs.lemmas.Bool.Decides.{nat_tests}
-use Rattle.vert_base.specs.declared.graph.Edge.{Edge}
 use Rattle.vert_base.specs.declared.message.Name.{Name}
 use Rattle.vert_base.specs.declared.message.NameKind.TheVariants.{Verdict}
-use Rattle.vert_base.specs.declared.message.Event.{Event}
-use Rattle.vert_base.specs.declared.message.Event.TheVariants.{Go, Take}
+use Rattle.vert_base.specs.declared.message.Event.TheVariants.{Go}
 use Rattle.vert_base.specs.declared.value.Ruling.{Ruling}
 use Rattle.vert_base.specs.declared.value.Ruling.TheVariants.{Stop, Dense, Sparse}
-use Rattle.vert_base.specs.Letters.{Letter, found, Ascends}
+use Rattle.vert_base.specs.Letters.{Letter, found}
 use Rattle.vert_base.proofs.LetterLaws.{found_name}
 use Rattle.circulant_plan.specs.declared.spot.Ring.{Ring}
-use Rattle.circulant_plan.specs.declared.spot.Spot.{Spot}
 use Rattle.circulant_plan.specs.declared.spot.Spot.TheVariants.{Judge, Begin}
 use Rattle.circulant_plan.specs.Deliveries.{HasSpot}
 use Rattle.circulant_plan.specs.Names.{verdict_name}
@@ -31,7 +28,7 @@ use Rattle.skeleton_laws.specs.Laws.{IsStandingOf}
 use Rattle.skeleton_laws.proofs.GoFacts.{ruling_here}
 use Rattle.skeleton_laws.proofs.OrderLaws.{each_is_takeable, each_was_taken, few_are_under_way, steps_reach, the_rulings_stay}
 use Rattle.instrument.specs.declared.split.Split.{Split}
-use Rattle.body_shape.specs.Verdict.{Judged, ruling_byte, ruling_with}
+use Rattle.body_shape.specs.Verdict.{ruling_byte, ruling_with}
 use Rattle.symple_face.specs.declared.action.Action.{Action}
 use Rattle.symple_face.specs.declared.action.Action.TheVariants as action
 use Rattle.symple_face.specs.Cluster.{IsOneRun, World, all_placed, can_act}
@@ -40,13 +37,13 @@ use Rattle.symple_face.specs.Lawful.{HasForm, IsLawful, Rules, acting, is_begin}
 use Rattle.symple_face.specs.Parts.{PlainPart}
 use Rattle.symple_face.specs.Plans.{blocks_of, ring_of}
 use Rattle.symple_face.specs.Shapes.{shape_of}
-use Rattle.symple_face.specs.State.{State, action_of, machine, p_of, ruling_read}
+use Rattle.symple_face.specs.State.{State, action_of, p_of, ruling_read}
 use Rattle.symple_face.specs.Work.{Work}
 use Rattle.cluster_run.specs.Sends.{AreNew}
-use Rattle.cluster_run.proofs.Letters.{and_true, all_placed_ascends, all_placed_is, all_placed_length, are_new, has_all_placed, has_letter, name_append, names_of, not_from, once_from_each, test_cases}
-use Rattle.cluster_run.proofs.Onward.{IsOnward, begins, ends, onward, stays}
+use Rattle.cluster_run.proofs.Letters.{all_placed_ascends, all_placed_is, all_placed_length, are_new, has_all_placed, has_letter, name_append, names_of, once_from_each}
+use Rattle.cluster_run.proofs.Onward.{begins, ends, onward, stays}
 use Rattle.cluster_run.proofs.PartsAt.{fits_along}
-use Rattle.cluster_run.proofs.Sites.{IsOneOf, same, other, map_set, set_cases, set_length}
+use Rattle.cluster_run.proofs.Sites.{same, other, map_set, set_cases, set_length}
 use Rattle.cluster_run.proofs.Tables.{ActsAlike, acts_alike, gift_from, rules_by, stays_by, zero_begins}
 use Rattle.cluster_run.proofs.Worlds.{FitsAt, IsMachine, IsSkeletonOf, Knows, is_for, it_is, it_keeps, it_stands, knows_judged, ready_goes, ready_going, ready_holds}
 
@@ -88,7 +85,7 @@ once_apart xs ys once x late =
     ⊎_elim
     (λ (e : has_name x xs ≡ true). absurd (once_twice xs ys once x (has_from_name x xs e) late))
     (λ (e : has_name x xs ≡ false). e)
-    (test_cases (has_name x xs))
+    (cases_Bool (has_name x xs))
 
 pub same_from : (a b : ℕ) → (a == b) ≡ true → a ≡ b
 same_from a b e = grind (arith, nat_tests)
@@ -186,9 +183,9 @@ module _ (work : Work) (sound : State → Type 0) (lawful : IsLawful work sound)
       rules_by blocks judged s.at.spot (λ r at.
       subst (λ q. may_rule (blocks_of q) (r + 1) judged ≡ true) is.split_is (lawful.judge_may s r at)) in
       subst (λ o. can_go ring blocks judged m o k.taken ≡ true) (sym stands)
-      (and_true (not (is_over s.at.spot)) (is_ready ring m s.at k.taken && rules_rightly blocks judged s.at.spot)
+      (and_from (not (is_over s.at.spot)) (is_ready ring m s.at k.taken && rules_rightly blocks judged s.at.spot)
       could.0
-      (and_true (is_ready ring m s.at k.taken) (rules_rightly blocks judged s.at.spot) could.1 rules))
+      (and_from (is_ready ring m s.at k.taken) (rules_rightly blocks judged s.at.spot) could.1 rules))
 
   abbrev pub next : Skeleton
   next = plan.go_at ring judged m (Some s.at) k
@@ -247,7 +244,7 @@ module _ (work : Work) (sound : State → Type 0) (lawful : IsLawful work sound)
       let arrived = was.reached in
       absurd (omega arith))
       (λ (e : (has_name x k.taken && is_for m round x) ≡ false). e)
-      (test_cases (has_name x k.taken && is_for m round x))
+      (cases_Bool (has_name x k.taken && is_for m round x))
 
   next_held : is_over (work.go s).at.spot ≡ false → (x : Name) →
       has_letter x (work.go s).held ≡ (has_name x k.taken && is_for m (work.go s).at.round x)

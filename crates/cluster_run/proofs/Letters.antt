@@ -1,12 +1,13 @@
 -- Letters put among others, and their names.
-use Rattle.std.proofs.Common.{◌≡◌, ◌≢◌, ◌⊎◌, ℕ, suc, ◌+◌, Bool, true, false, cond, ◌||◌, ◌&&◌, not, List, [], ◌∷◌, ◌++◌, length, map, Option, Some, None, refl, ap, sym, ◌∙◌, subst, inl, inr, arith, ⊎_elim}
+use Rattle.std.proofs.Common.{◌≡◌, ◌⊎◌, suc, ◌+◌, Bool, true, false, ◌||◌, ◌&&◌, not, List, [], ◌∷◌, ◌++◌, length, map, Option, Some, None, refl, ap, sym, ◌∙◌, subst, inl, inr, arith, ⊎_elim}
 use Rattle.std.specs.Prelude.{if◌then◌else◌, is_some}
-use Rattle.std.specs.List.{AllByRecursion, Contains}
-use Rattle.std.proofs.lemmas.Bool.{false≢true, and_parts}
+use Rattle.std.specs.List.{AllByRecursion}
+use Rattle.std.proofs.Math.Bool.{or_assoc}
+use Rattle.std.proofs.lemmas.Bool.{false≢true, and_parts, and_from, cases_Bool, not-true, not_from_false, or_from}
 use Rattle.vert_base.specs.declared.message.Name.{Name}
 use Rattle.vert_base.specs.Names.{is_before, same_name}
 use Rattle.vert_base.specs.Letters.{Letter, found, placed, without, Ascends}
-use Rattle.vert_base.proofs.LetterLaws.{names_law, placed_law, taken_law, found_name, placed_ascends, longer}
+use Rattle.vert_base.proofs.LetterLaws.{names_law, placed_law, taken_law, placed_ascends, longer}
 use Rattle.circulant_plan.specs.Skeleton.{has_name}
 use Rattle.circulant_plan.proofs.Members.{Has, has_from_contains, contains_from_has}
 use Rattle.circulant_plan.proofs.NameLists.{Once, same_as_self, has_from_name, name_from_has, but_for, has_but, has_but_cases}
@@ -17,12 +18,6 @@ use Rattle.circulant_plan.specs.Choosing.{names_in_order}
 use Rattle.symple_face.specs.Cluster.{all_placed}
 use Rattle.skeleton_laws.proofs.LeastLaws.{same_bool}
 use Rattle.cluster_run.specs.Sends.{AreNew}
-
--- two tests that hold together are one
-
-pub test_cases : (b : Bool) → (b ≡ true) ⊎ (b ≡ false)
-test_cases true = inl refl
-test_cases false = inr refl
 
 pub same_swap : (a b : Name) → same_name a b ≡ same_name b a
 same_swap a b =
@@ -78,12 +73,9 @@ none_found (Some l) e = absurd (false≢true (sym e))
 pub not_found : (x : Name) (ms : List Letter) → has_letter x ms ≡ false → found x ms ≡ None
 not_found x ms e = none_found (found x ms) e
 
-pub or_false : (a b : Bool) → a ≡ false → b ≡ false → (a || b) ≡ false
-or_false a b e f = subst (λ c. (c || b) ≡ false) (sym e) f
-
 pub not_same_names : (x y : Name) → (x ≡ y → ⊥) → same_name x y ≡ false
 not_same_names x y differ = ⊎_elim (λ (e : same_name x y ≡ true). absurd (differ (names_law x y e)))
-    (λ (e : same_name x y ≡ false). e) (test_cases (same_name x y))
+    (λ (e : same_name x y ≡ false). e) (cases_Bool (same_name x y))
 
 pub are_new : (ls ms : List Letter) → Once (names_of ls) →
     ((x : Name) → Has (names_of ls) x → has_letter x ms ≡ false) → AreNew ls ms
@@ -91,7 +83,7 @@ are_new [] ms once apart = tt
 are_new (l ∷ ls) ms once apart = (
   not_found l.name ms (apart l.name (inl refl)),
   are_new ls (placed l ms) once.1
-      (λ x h. has_placed x l ms ∙ or_false (same_name x l.name) (has_letter x ms)
+      (λ x h. has_placed x l ms ∙ or_from (same_name x l.name) (has_letter x ms)
       (not_same_names x l.name (λ e. once.0 (subst (λ y. Has (names_of ls) y) e h))) (apart x (inr h))),
 )
 
@@ -148,31 +140,21 @@ pub without_is : (x z : Name) (ms : List Letter) (y : Letter) → Ascends ms →
     found z ms ≡ Some y
 without_is x z ms y rise e = left_is_step y (found z ms) (same_name x z) (sym (taken_law x ms z rise) ∙ e)
 
-pub and_true : (a b : Bool) → a ≡ true → b ≡ true → (a && b) ≡ true
-and_true a b e f = subst (λ c. (c && b) ≡ true) (sym e) f
-
-pub not_from : (b : Bool) → b ≡ false → not b ≡ true
-not_from b e = ap not e
-
-pub not_parts : (b : Bool) → not b ≡ true → b ≡ false
-not_parts true e = absurd (false≢true e)
-not_parts false e = refl
-
 pub name_but_for : (x y : Name) (xs : List Name) →
     has_name y (but_for x xs) ≡ (not (same_name x y) && has_name y xs)
 name_but_for x y xs =
     same_bool (has_name y (but_for x xs)) (not (same_name x y) && has_name y xs)
     (λ h.
     let c = has_but_cases x y xs (has_from_name y (but_for x xs) h) in
-    and_true (not (same_name x y)) (has_name y xs)
-    (not_from (same_name x y) (not_same_names x y (λ e. c.1 (sym e)))) (name_from_has y xs c.0))
+    and_from (not (same_name x y)) (has_name y xs)
+    (not_from_false (same_name x y) (not_same_names x y (λ e. c.1 (sym e)))) (name_from_has y xs c.0))
     (λ h.
     let parts = and_parts (not (same_name x y)) (has_name y xs) h in
     ⊎_elim
     (λ (e : y ≡ x).
     absurd
     (false≢true
-    (sym (not_parts (same_name x y) parts.0) ∙ subst (λ z. same_name x z ≡ true) (sym e) (same_as_self x))))
+    (sym (not-true (same_name x y) parts.0) ∙ subst (λ z. same_name x z ≡ true) (sym e) (same_as_self x))))
     (λ (left : Has (but_for x xs) y). name_from_has y (but_for x xs) left)
     (has_but x y xs (has_from_name y xs parts.1)))
 
@@ -207,11 +189,7 @@ pub once_from_each : (xs : List Name) → EachOnce xs → Once xs
 once_from_each [] once = tt
 once_from_each (x ∷ xs) once = ((λ h. once.0 (contains_from_has xs x h)), once_from_each xs once.1)
 
-or_along : (a b c : Bool) → (a || (b || c)) ≡ ((a || b) || c)
-or_along true b c = refl
-or_along false b c = refl
-
 pub name_append : (x : Name) (xs ys : List Name) → has_name x (xs ++ ys) ≡ (has_name x xs || has_name x ys)
 name_append x [] ys = refl
 name_append x (y ∷ xs) ys = ap (λ b. same_name x y || b) (name_append x xs ys)
-    ∙ or_along (same_name x y) (has_name x xs) (has_name x ys)
+    ∙ sym (or_assoc (same_name x y) (has_name x xs) (has_name x ys))

@@ -12,3 +12,6 @@ pub mod Results
 pub mod Moves
 pub mod Done
 pub mod PartLists
+pub mod ChoiceLists
+pub mod ChoicesAlike
+pub mod Chosen

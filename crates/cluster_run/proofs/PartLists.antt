@@ -9,7 +9,6 @@ use Rattle.symple_face.specs.Cluster.{IsOneRun, World, first_world}
 use Rattle.cluster_run.specs.Driven.{IsReached, anew}
 use Rattle.symple_face.specs.declared.part.Part.{Part}
 use Rattle.symple_face.specs.Lawful.{CanRun}
-use Rattle.symple_face.specs.Parts.{PlainPart}
 use Rattle.symple_face.specs.PartViews.{plain_of}
 use Rattle.symple_face.specs.State.{State}
 use Rattle.symple_face.specs.Work.{Work}

@@ -1,16 +1,15 @@
 -- The parts of one run, each at its place.
-use Rattle.std.proofs.Common.{◌≡◌, ℕ, zero, suc, ◌+◌, ◌<◌, ◌≤◌, true, List, [], ◌∷◌, length, map, Option, Some, None, refl, ap, sym, ◌∙◌, subst, arith, slice_get}
+use Rattle.std.proofs.Common.{◌≡◌, ℕ, zero, suc, ◌+◌, ◌<◌, ◌≤◌, true, List, length, Some, ap, sym, ◌∙◌, subst, arith, slice_get}
 use Rattle.std.specs.List.{range_with_len}
 use Rattle.std.proofs.lemmas.List.{length-map}
 use Rattle.std.proofs.lemmas.List.FromFn.{length-range_with_len}
-use Rattle.vert_base.specs.declared.graph.Edge.{Edge}
 use Rattle.vert_base.specs.Letters.{Letter}
 use Rattle.instrument.specs.declared.split.Split.{Split}
 use Rattle.body_shape.specs.declared.shape.BodyShape.{BodyShape}
 use Rattle.body_shape.specs.Fit.{is_fit}
 use Rattle.symple_face.specs.Cluster.{IsOneRun}
 use Rattle.symple_face.specs.Parts.{PlainPart}
-use Rattle.symple_face.specs.PartsOf.{part_of, parts_of}
+use Rattle.symple_face.specs.PartsOf.{part_of}
 use Rattle.symple_face.specs.Shapes.{shape_of}
 use Rattle.symple_face.proofs.ShapeLaws.{shapes_agree}
 use Rattle.cluster_run.proofs.Sites.{map_get_back}

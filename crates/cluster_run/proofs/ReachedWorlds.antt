@@ -1,23 +1,15 @@
 -- Each reached world stands as a reached skeleton does; so what holds of the order of events holds of it.
-use Rattle.std.proofs.Common.{◌≡◌, ◌≢◌, ◌⊎◌, ℕ, zero, suc, ◌+◌, ◌*◌, ◌^◌, ◌<◌, ◌≤◌, Bool, true, false, cond, ◌&&◌, ◌||◌, not, List, [], ◌∷◌, ◌++◌, length, map, Option, Some, None, refl, ap, sym, ◌∙◌, subst, inl, inr, arith, ⊎_elim, slice_get}
-use Rattle.std.specs.Prelude.{is_some, slice_set}
-use Rattle.std.specs.List.{All, list_all}
+use Rattle.std.proofs.Common.{◌≡◌, ℕ, ◌≤◌, true, List, [], ◌∷◌, length, Option, Some, None, refl, ap, sym, ◌∙◌, subst, slice_get}
+use Rattle.std.specs.Prelude.{is_some}
+use Rattle.std.specs.List.{All}
 use Rattle.std.proofs.lemmas.Bool.{false≢true, and_parts}
-use Rattle.std.proofs.lemmas.List.Folds.{list_all-map}
 use Rattle.vert_base.specs.declared.message.Name.{Name}
 use Rattle.vert_base.specs.declared.message.Event.{Event}
 use Rattle.vert_base.specs.declared.message.Event.TheVariants.{Go, Take}
-use Rattle.vert_base.specs.declared.value.Ruling.{Ruling}
-use Rattle.vert_base.specs.declared.value.Ruling.TheVariants.{Stop}
 use Rattle.vert_base.specs.Letters.{Letter, found}
 use Rattle.circulant_plan.specs.declared.spot.Ring.{Ring}
-use Rattle.circulant_plan.specs.Choosing.{could_act}
-use Rattle.circulant_plan.specs.Remaining.{way_left}
-use Rattle.circulant_plan.specs.Remaining as bound
-use Rattle.circulant_plan.specs.Runs.{IsReached, anew, again, judged_round}
-use Rattle.circulant_plan.specs.Skeleton.{Skeleton, Blocks, can_go, first_skeleton, resumed_skeleton, has_name, is_finished, is_over, is_possible, is_ready, rules_rightly, step_of}
-use Rattle.circulant_plan.specs.Standing.{Standing}
-use Rattle.skeleton_laws.proofs.OrderLaws.{events_come_nearer, few_are_under_way, finished_is_still, some_event_moves}
+use Rattle.circulant_plan.specs.Runs.{IsReached, anew, again}
+use Rattle.circulant_plan.specs.Skeleton.{Skeleton, Blocks, first_skeleton, resumed_skeleton}
 use Rattle.instrument.specs.declared.split.Split.{Split}
 use Rattle.symple_face.specs.Cluster.{IsOneRun, World, after, all_possible, can_act, events_left, finished, possible, step, ways_left}
 use Rattle.symple_face.specs.Cluster as cluster
@@ -25,18 +17,14 @@ use Rattle.symple_face.specs.Lawful.{CanRun, IsLawful}
 use Rattle.symple_face.specs.Parts.{PlainPart}
 use Rattle.symple_face.specs.Plans.{blocks_of, ring_of}
 use Rattle.symple_face.specs.State.{State}
-use Rattle.symple_face.specs.State as face
 use Rattle.symple_face.specs.Work.{Work}
 use Rattle.cluster_run.specs.Driven.{IsFirst, IsRestarted}
 use Rattle.cluster_run.specs.Driven as driven
 use Rattle.cluster_run.proofs.FirstWorlds.{first_tied, restarted_tied}
 use Rattle.cluster_run.proofs.GoWorlds as go
-use Rattle.cluster_run.specs.Sends.{AreNew}
-use Rattle.cluster_run.proofs.Letters.{and_true, has_letter}
 use Rattle.cluster_run.proofs.PartsAt.{parts_few, parts_some}
-use Rattle.cluster_run.proofs.Sites.{map_get_back}
 use Rattle.cluster_run.proofs.TakeWorlds as take
-use Rattle.cluster_run.proofs.Worlds.{IsMachine, IsSkeletonOf, goes_ready, it_stands}
+use Rattle.cluster_run.proofs.Worlds.{IsSkeletonOf}
 
 -- a reached skeleton that stands as the world does
 pub record IsTied (sound : State → Type 0) (split : Split) (parts : List PlainPart) (w : World) : Type 0 where

@@ -1,20 +1,19 @@
 -- What holds of each world that possible events leave.
-use Rattle.std.proofs.Common.{◌≡◌, ◌≢◌, ◌⊎◌, ℕ, zero, suc, ◌+◌, ◌*◌, ◌^◌, ◌<◌, ◌≤◌, Bool, true, false, cond, ◌&&◌, ◌||◌, not, List, [], ◌∷◌, ◌++◌, length, map, Option, Some, None, refl, ap, sym, ◌∙◌, subst, inl, inr, arith, ⊎_elim, slice_get}
-use Rattle.std.specs.Prelude.{is_some, slice_set}
+use Rattle.std.proofs.Common.{◌≡◌, ℕ, suc, ◌+◌, ◌*◌, ◌<◌, ◌≤◌, true, false, ◌&&◌, not, List, [], ◌∷◌, ◌++◌, length, map, Option, Some, None, refl, ap, sym, ◌∙◌, subst, arith, ⊎_elim, slice_get}
+use Rattle.std.specs.Prelude.{is_some}
 use Rattle.std.specs.List.{list_all}
-use Rattle.std.proofs.lemmas.Bool.{false≢true, and_parts}
+use Rattle.std.proofs.lemmas.Bool.{false≢true, and_parts, and_from, cases_Bool}
 use Rattle.std.proofs.lemmas.List.Folds.{list_all-map}
 use Rattle.vert_base.specs.declared.message.Name.{Name}
 use Rattle.vert_base.specs.declared.message.Event.{Event}
 use Rattle.vert_base.specs.declared.message.Event.TheVariants.{Go, Take}
-use Rattle.vert_base.specs.declared.value.Ruling.{Ruling}
 use Rattle.vert_base.specs.declared.value.Ruling.TheVariants.{Stop}
 use Rattle.vert_base.specs.Letters.{Letter, found}
 use Rattle.circulant_plan.specs.declared.spot.Ring.{Ring}
 use Rattle.circulant_plan.specs.Choosing.{could_act}
 use Rattle.circulant_plan.specs.Remaining.{way_left}
 use Rattle.circulant_plan.specs.Remaining as bound
-use Rattle.circulant_plan.specs.Skeleton.{Skeleton, Blocks, can_go, has_name, is_finished, is_over, is_possible, is_ready, rules_rightly, step_of}
+use Rattle.circulant_plan.specs.Skeleton.{Blocks, can_go, has_name, is_finished, is_over, is_possible, is_ready, rules_rightly, step_of}
 use Rattle.circulant_plan.specs.Standing.{Standing}
 use Rattle.skeleton_laws.proofs.OrderLaws.{events_come_nearer, few_are_under_way, finished_is_empty, finished_is_still, some_event_moves}
 use Rattle.instrument.specs.declared.split.Split.{Split}
@@ -28,12 +27,12 @@ use Rattle.symple_face.specs.Work.{Work}
 use Rattle.cluster_run.specs.Driven.{IsReached}
 use Rattle.cluster_run.specs.Sends.{CanSend}
 use Rattle.cluster_run.proofs.GoWorlds as go
-use Rattle.cluster_run.proofs.Letters.{all_placed_length, and_true, has_letter, test_cases}
+use Rattle.cluster_run.proofs.Letters.{all_placed_length}
 use Rattle.cluster_run.proofs.PartsAt.{parts_few}
-use Rattle.cluster_run.proofs.ReachedWorlds.{IsTied, reached_ties, step_ties}
+use Rattle.cluster_run.proofs.ReachedWorlds.{IsTied, reached_ties}
 use Rattle.cluster_run.proofs.Sites.{map_get_back}
 use Rattle.cluster_run.proofs.TakeWorlds as take
-use Rattle.cluster_run.proofs.Worlds.{IsMachine, IsSkeletonOf, goes_ready, ready_goes, it_stands}
+use Rattle.cluster_run.proofs.Worlds.{goes_ready}
 
 -- ---- lists of events with one more
 after_more : (work : Work) (w : World) (es : List Event) (e : Event) →
@@ -43,10 +42,10 @@ after_more work w (d ∷ es) e = after_more work (step work w d) es e
 
 more_possible : (work : Work) (w : World) (es : List Event) (e : Event) → all_possible work w es ≡ true →
     possible (after work w es) e ≡ true → all_possible work w (es ++ e ∷ []) ≡ true
-more_possible work w [] e all can = and_true (possible w e) true can refl
+more_possible work w [] e all can = and_from (possible w e) true can refl
 more_possible work w (d ∷ es) e all can =
     let c = and_parts (possible w d) (all_possible work (step work w d) es) all in
-    and_true (possible w d) (all_possible work (step work w d) (es ++ e ∷ [])) c.0
+    and_from (possible w d) (all_possible work (step work w d) (es ++ e ∷ [])) c.0
     (more_possible work (step work w d) es e c.1 can)
 
 -- a possible event leaves a reached world
@@ -79,7 +78,7 @@ some_standing ring blocks m None taken e = absurd (false≢true e)
 some_standing ring blocks m (Some t) taken e =
     let c = and_parts (not (is_over t.spot)) (is_ready ring m t taken && rules_rightly blocks Stop t.spot) e in
     let d = and_parts (is_ready ring m t taken) (rules_rightly blocks Stop t.spot) c.1 in
-    (t, refl, and_true (not (is_over t.spot)) (is_ready ring m t taken) c.0 d.0)
+    (t, refl, and_from (not (is_over t.spot)) (is_ready ring m t taken) c.0 d.0)
 
 -- ways of machines of one program are those of their standings
 ways_alike : (split : Split) (ss : List State) → ((m : ℕ) (s : State) → slice_get ss m ≡ Some s → s.split ≡ split) →
@@ -138,7 +137,7 @@ module _ (work : Work) (sound : State → Type 0) (lawful : IsLawful work sound)
       absurd (false≢true (sym (finished_is_still ring blocks t.k t.reached (sym finished_alike ∙ over)
       (work.judge it.0) (Go m)) ∙ goes)))
       (λ (no : possible w (Go m) ≡ false). no)
-      (test_cases (possible w (Go m)))
+      (cases_Bool (possible w (Go m)))
   still (Take x) over = t.alike.flies x ∙ finished_is_still ring blocks t.k t.reached (sym finished_alike ∙ over) Stop
       (Take x)
 

@@ -1,8 +1,7 @@
 -- What the table of actions says of the names at a spot, and of the spot behind it.
-use Rattle.std.proofs.Common.{◌≡◌, ◌≢◌, ◌⊎◌, ℕ, zero, suc, ◌+◌, ◌<◌, ◌≤◌, Bool, true, false, cond, ◌&&◌, List, [], ◌∷◌, map, refl, ap, sym, ◌∙◌, subst, inl, inr, arith, ⊎_elim, nat_lt}
+use Rattle.std.proofs.Common.{◌≡◌, ◌≢◌, ℕ, zero, suc, ◌+◌, ◌<◌, ◌≤◌, Bool, true, false, List, [], ◌∷◌, map, refl, ap, sym, subst, inl, inr, arith, nat_lt}
 use Rattle.std.specs.Prelude.{if◌then◌else◌, ◌==◌, ◌-◌}
-use Rattle.std.specs.List.{Contains}
-use Rattle.std.proofs.lemmas.Bool.{false≢true, cases_eq}
+use Rattle.std.proofs.lemmas.Bool.{false≢true}
 use Rattle.vert_base.specs.declared.message.Name.{Name}
 use Rattle.vert_base.specs.declared.message.NameKind.TheVariants.{Refresh, Dep, Update, Push, Tally, Verdict}
 use Rattle.vert_base.specs.declared.value.Ruling.{Ruling}
@@ -14,13 +13,13 @@ use Rattle.circulant_plan.specs.Names.{refresh_name, dep_name, update_name, push
 use Rattle.circulant_plan.specs.Ring.{chunk_of, after_machine}
 use Rattle.circulant_plan.specs.Skeleton.{Blocks, is_over, acting_ruling, may_rule, rules_rightly, rulings_after}
 use Rattle.symple_face.specs.Lawful.{is_begin}
-use Rattle.circulant_plan.specs.Standing.{Standing, round_of, round_ruled, next_standing}
-use Rattle.circulant_plan.specs.Table.{others_of, name_if, tally_gives, begin_gives, needs_of, gives_of, after_begin, after_judge, next_spot}
-use Rattle.circulant_plan.specs.Deliveries.{HasSpot, IsSentBefore}
+use Rattle.circulant_plan.specs.Standing.{round_of}
+use Rattle.circulant_plan.specs.Table.{others_of, name_if, begin_gives, needs_of, gives_of, after_begin, after_judge, next_spot}
+use Rattle.circulant_plan.specs.Deliveries.{HasSpot}
 use Rattle.circulant_plan.proofs.Members.{Has, has_map_cases, contains_from_has}
 use Rattle.circulant_plan.proofs.Choices.{has_name_if_cases}
 use Rattle.circulant_plan.proofs.NeedLaws.{needed_is_sent}
-use Rattle.circulant_plan.proofs.StandingLaws.{is_zero, not_zero}
+use Rattle.circulant_plan.proofs.StandingLaws.{is_zero}
 use Rattle.skeleton_laws.proofs.Settled.{dense_goes, sparse_goes}
 
 -- a spot is in a list of actions by some ruling that isn't stop

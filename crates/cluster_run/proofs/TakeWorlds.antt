@@ -1,11 +1,10 @@
 -- The delivery of a message: its receiver can take it, and the world and the skeleton stand alike after it.
-use Rattle.std.proofs.Common.{◌≡◌, ◌≢◌, ◌⊎◌, ℕ, zero, suc, ◌+◌, ◌<◌, ◌≤◌, Bool, true, false, cond, ◌&&◌, ◌||◌, not, List, [], ◌∷◌, length, map, Option, Some, None, refl, ap, sym, ◌∙◌, subst, inl, inr, arith, ⊎_elim, slice_get}
-use Rattle.std.specs.Prelude.{if◌then◌else◌, is_some, ◌==◌, slice_set}
-use Rattle.std.proofs.lemmas.Bool.{false≢true, and_parts}
+use Rattle.std.proofs.Common.{◌≡◌, ◌≢◌, ℕ, ◌≤◌, Bool, true, false, ◌&&◌, ◌||◌, not, List, length, map, Some, None, refl, ap, sym, ◌∙◌, subst, inl, inr, arith, ⊎_elim, slice_get}
+use Rattle.std.specs.Prelude.{is_some, ◌==◌, slice_set}
+use Rattle.std.proofs.lemmas.Bool.{cases_Bool}
 use Rattle.vert_base.specs.declared.message.Name.{Name}
 use Rattle.vert_base.specs.declared.message.NameKind.{NameKind}
 use Rattle.vert_base.specs.declared.message.NameKind.TheVariants.{Refresh, Dep, Update, Push, Tally, Verdict}
-use Rattle.vert_base.specs.declared.message.Event.{Event}
 use Rattle.vert_base.specs.declared.message.Event.TheVariants.{Take}
 use Rattle.vert_base.specs.declared.value.Ruling.{Ruling}
 use Rattle.vert_base.specs.declared.value.Ruling.TheVariants.{Stop, Dense, Sparse}
@@ -15,7 +14,7 @@ use Rattle.vert_base.proofs.LetterLaws.{found_name, names_law, without_ascends}
 use Rattle.circulant_plan.specs.declared.spot.Ring.{Ring}
 use Rattle.circulant_plan.specs.Names.{verdict_name}
 use Rattle.circulant_plan.specs.Runs.{IsReached}
-use Rattle.circulant_plan.specs.Skeleton.{Skeleton, Blocks, has_name, is_over, is_possible, ruling_in, standing_taken, standings_taken, step_of}
+use Rattle.circulant_plan.specs.Skeleton.{Skeleton, Blocks, has_name, is_over, ruling_in, standing_taken, standings_taken, step_of}
 use Rattle.circulant_plan.specs.Standing.{Standing, ruled_standing}
 use Rattle.circulant_plan.proofs.NameLists.{has_from_name, but_one}
 use Rattle.skeleton_laws.specs.Laws.{IsTakeable}
@@ -31,11 +30,10 @@ use Rattle.symple_face.specs.State.{State, machine, ruling_read, shape_at}
 use Rattle.symple_face.specs.State as face
 use Rattle.symple_face.specs.Work.{Work}
 use Rattle.cluster_run.proofs.GoWorlds.{same_from}
-use Rattle.cluster_run.proofs.Letters.{has_letter, has_without, length_without, name_but_for, not_found, not_same_names, once_from_each, same_swap, test_cases, without_is}
-use Rattle.cluster_run.proofs.Sites.{get_one, map_get_back, map_set, other, same, set_cases, set_length}
-use Rattle.skeleton_laws.proofs.LeastLaws.{same_bool}
+use Rattle.cluster_run.proofs.Letters.{has_letter, has_without, length_without, name_but_for, not_found, not_same_names, once_from_each, same_swap, without_is}
+use Rattle.cluster_run.proofs.Sites.{map_get_back, map_set, other, same, set_cases, set_length}
 use Rattle.skeleton_laws.proofs.RoundLaws.{kind_cases}
-use Rattle.cluster_run.proofs.Worlds.{FitsAt, IsMachine, IsSkeletonOf, Knows, is_for, is_for_it, knows_judged}
+use Rattle.cluster_run.proofs.Worlds.{IsMachine, IsSkeletonOf, Knows, is_for, is_for_it}
 
 taken_round : (kind : NameKind) (a : Ruling) (s : Standing) → (standing_taken kind a s).round ≡ s.round
 taken_round Refresh a s = refl
@@ -64,7 +62,7 @@ for_other taken true x y j round e differ =
     let named : y ≡ x = names_law y x e in
     let not_it : (y.to == j) ≡ false = ⊎_elim (λ (is : (y.to == j) ≡ true).
     absurd (differ (sym (ap (λ (z : Name). z.to) named) ∙ same_from y.to j is))) (λ (is : (y.to == j) ≡ false).
-    is) (test_cases (y.to == j)) in
+    is) (cases_Bool (y.to == j)) in
     rw not_it (none taken)
   where
     none : (a : Bool) → false ≡ (a && false)

@@ -1,24 +1,18 @@
 -- A world of machines of one kind, and the skeleton of the same run.
-use Rattle.std.proofs.Common.{◌≡◌, ◌≢◌, ◌⊎◌, ℕ, zero, suc, ◌+◌, ◌<◌, ◌≤◌, Bool, true, false, cond, ◌&&◌, ◌||◌, not, List, [], ◌∷◌, length, map, Option, Some, None, refl, ap, sym, ◌∙◌, subst, inl, inr, arith, ⊎_elim, slice_get}
-use Rattle.std.specs.Prelude.{if◌then◌else◌, is_some, ◌==◌}
-use Rattle.std.specs.List.{Contains, list_all}
-use Rattle.std.proofs.lemmas.Bool.{false≢true, and_parts}
-use Rattle.std.proofs.lemmas.Option.{slice_get_within}
+use Rattle.std.proofs.Common.{◌≡◌, ◌⊎◌, ℕ, ◌+◌, ◌<◌, ◌≤◌, Bool, true, false, ◌&&◌, not, List, [], ◌∷◌, length, map, Option, Some, None, refl, ap, sym, ◌∙◌, subst, inl, inr, arith, slice_get}
+use Rattle.std.specs.Prelude.{if◌then◌else◌, ◌==◌}
+use Rattle.std.specs.List.{list_all}
+use Rattle.std.proofs.lemmas.Bool.{false≢true, and_parts, and_from, not-true, not_from_false}
 use Rattle.vert_base.specs.declared.message.Name.{Name}
 use Rattle.vert_base.specs.declared.message.NameKind.TheVariants.{Verdict}
-use Rattle.vert_base.specs.declared.message.Event.{Event}
-use Rattle.vert_base.specs.declared.message.Event.TheVariants.{Go, Take}
-use Rattle.vert_base.specs.declared.value.Ruling.{Ruling}
 use Rattle.vert_base.specs.Letters.{Letter, found, Ascends}
-use Rattle.vert_base.specs.Names.{same_name}
-use Rattle.circulant_plan.specs.declared.spot.Ring.{Ring}
 use Rattle.circulant_plan.specs.declared.spot.Spot.{Spot}
 use Rattle.circulant_plan.specs.declared.spot.Spot.TheVariants.{Tell, Judge, Begin, Scan, Close, Over}
 use Rattle.circulant_plan.specs.Choosing.{could_act}
 use Rattle.circulant_plan.specs.Names.{verdict_name}
 use Rattle.circulant_plan.specs.Runs.{IsReached, judged_round, round_at}
-use Rattle.circulant_plan.specs.Skeleton.{Skeleton, Blocks, has_name, is_over, is_ready, is_possible, may_rule, rules_rightly, ruling_in}
-use Rattle.circulant_plan.specs.Standing.{Standing, round_of}
+use Rattle.circulant_plan.specs.Skeleton.{Skeleton, has_name, is_over, is_ready, ruling_in}
+use Rattle.circulant_plan.specs.Standing.{round_of}
 use Rattle.circulant_plan.specs.Table.{needs_of}
 use Rattle.circulant_plan.proofs.Members.{Has}
 use Rattle.skeleton_laws.specs.Laws.{IsStandingOf}
@@ -26,7 +20,6 @@ use Rattle.skeleton_laws.proofs.OrderLaws.{each_stands, each_was_taken}
 use Rattle.instrument.specs.declared.split.Split.{Split}
 use Rattle.body_shape.specs.declared.shape.BodyShape.{BodyShape}
 use Rattle.body_shape.specs.Fit.{is_fit}
-use Rattle.symple_face.specs.declared.action.Action.{Action}
 use Rattle.symple_face.specs.declared.action.Action.TheVariants as action
 use Rattle.symple_face.specs.Cluster.{World, can_act, possible}
 use Rattle.symple_face.specs.Cluster as cluster
@@ -34,9 +27,9 @@ use Rattle.symple_face.specs.Lawful.{IsLawful}
 use Rattle.symple_face.specs.Parts.{PlainPart}
 use Rattle.symple_face.specs.Plans.{blocks_of, ring_of}
 use Rattle.symple_face.specs.Shapes.{shape_of}
-use Rattle.symple_face.specs.State.{State, action_of, first_missing, machine, needs, p_of, ruling_read, waiting_for}
+use Rattle.symple_face.specs.State.{State, first_missing, machine, needs, p_of, ruling_read, waiting_for}
 use Rattle.symple_face.specs.Work.{Work}
-use Rattle.cluster_run.proofs.Letters.{has_letter, test_cases, and_true, not_from}
+use Rattle.cluster_run.proofs.Letters.{has_letter}
 use Rattle.cluster_run.proofs.Sites.{map_get}
 use Rattle.cluster_run.proofs.Tables.{need_here}
 
@@ -117,7 +110,7 @@ missing_none (y ∷ xs) held all =
 all_taken : (xs taken : List Name) → ((x : Name) → Has xs x → has_name x taken ≡ true) →
     list_all (λ x. has_name x taken) xs ≡ true
 all_taken [] taken all = refl
-all_taken (x ∷ xs) taken all = and_true (has_name x taken) (list_all (λ y. has_name y taken) xs) (all x (inl refl))
+all_taken (x ∷ xs) taken all = and_from (has_name x taken) (list_all (λ y. has_name y taken) xs) (all x (inl refl))
     (all_taken xs taken (λ y h. all y (inr h)))
 
 taken_all : (xs taken : List Name) → list_all (λ x. has_name x taken) xs ≡ true → (x : Name) → Has xs x →
@@ -132,7 +125,7 @@ same_number : (a b : ℕ) → a ≡ b → (a == b) ≡ true
 same_number a b e = grind (arith)
 
 pub is_for_it : (m round : ℕ) (x : Name) → x.to ≡ m → x.round ≡ round → is_for m round x ≡ true
-is_for_it m round x to at = and_true (x.to == m) (x.round == round) (same_number x.to m to)
+is_for_it m round x to at = and_from (x.to == m) (x.round == round) (same_number x.to m to)
     (same_number x.round round at)
 
 -- what holds of a machine in a world that stands as a reached skeleton does
@@ -183,8 +176,8 @@ module _ (work : Work) (sound : State → Type 0) (lawful : IsLawful work sound)
       let c = ready_cases (is_over s.at.spot) (first_missing (needs s) s.held) ready in
       let none : first_missing (needs_of (ring_of split (length parts)) m s.at.spot) s.held ≡ None =
       subst (λ xs. first_missing xs s.held ≡ None) needs_are c.1 in
-      and_true (not (is_over s.at.spot)) (is_ready (ring_of split (length parts)) m s.at k.taken)
-      (not_from (is_over s.at.spot) c.0)
+      and_from (not (is_over s.at.spot)) (is_ready (ring_of split (length parts)) m s.at k.taken)
+      (not_from_false (is_over s.at.spot) c.0)
       (all_taken (needs_of (ring_of split (length parts)) m s.at.spot) k.taken
       (λ x h. sym (holds_need c.0 x h) ∙ none_missing (needs_of (ring_of split (length parts)) m s.at.spot) s.held
       none x h))
@@ -215,12 +208,8 @@ module _ (work : Work) (sound : State → Type 0) (lawful : IsLawful work sound)
   pub goes_ready : could_act (ring_of split (length parts)) m (Some s.at) k.taken ≡ true → can_act (Some s) ≡ true
   goes_ready could =
       let c = and_parts (not (is_over s.at.spot)) (is_ready (ring_of split (length parts)) m s.at k.taken) could in
-      let going = not_back (is_over s.at.spot) c.0 in
+      let going = not-true (is_over s.at.spot) c.0 in
       ready_from (is_over s.at.spot) (first_missing (needs s) s.held) going
       (subst (λ xs. first_missing xs s.held ≡ None) (sym needs_are)
       (missing_none (needs_of (ring_of split (length parts)) m s.at.spot) s.held
       (λ x h. holds_need going x h ∙ taken_all (needs_of (ring_of split (length parts)) m s.at.spot) k.taken c.1 x h)))
-    where
-      not_back : (b : Bool) → not b ≡ true → b ≡ false
-      not_back true e = absurd (false≢true e)
-      not_back false e = refl

@@ -1,11 +1,11 @@
 -- A cluster as its callers see it, and the worlds that possible events leave.
-use Rattle.std.specs.Prelude.{◌≡◌, ◌≢◌, ◌≤◌, ◌==◌, ◌&&◌, not, ℕ, Bool, true, false, Some, is_some, List, [], length, slice_get}
+use Rattle.std.specs.Prelude.{◌≡◌, ◌≢◌, ◌≤◌, ◌==◌, ◌&&◌, not, ℕ, Bool, true, false, Some, is_some, List, [], length, map, slice_get}
 use Rattle.std.specs.List.{All}
 use Rattle.vert_base.specs.declared.message.Name.{Name}
 use Rattle.vert_base.specs.declared.message.Event.{Event}
 use Rattle.vert_base.specs.declared.value.Ruling.{Ruling}
 use Rattle.vert_base.specs.declared.value.Ruling.TheVariants.{Stop}
-use Rattle.vert_base.specs.Letters.{found}
+use Rattle.vert_base.specs.Letters.{Letter, found}
 use Rattle.vert_base.specs.Names.{same_name}
 use Rattle.circulant_plan.specs.declared.spot.Spot.TheVariants.{Begin}
 use Rattle.circulant_plan.specs.Names.{verdict_name}
@@ -23,6 +23,10 @@ use Rattle.symple_face.specs.Work.{Work}
 pub record Driven : Type 0 where
   pub world : World
   pub ended : Bool
+
+-- machines of any kind, and the messages under way
+abbrev pub world_of : {X : Type 0} → (X → State) → List X → List Letter → World
+world_of state xs flight = record { sites = map state xs; under_way = flight }
 
 -- machine m stands where a round begins that was ruled, and of messages it has taken the round's verdict alone
 pub record BeginsRound (sound : State → Type 0) (split : Split) (parts : List PlainPart) (round : ℕ) (ruling : Ruling)

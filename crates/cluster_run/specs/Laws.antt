@@ -1,11 +1,12 @@
 -- What holds of each world that possible events leave, for every kind of machine.
-use Rattle.std.specs.Prelude.{◌≡◌, ◌<◌, true, false, Some, [], slice_get}
+use Rattle.std.specs.Prelude.{◌≡◌, ◌<◌, true, false, Some, List, [], slice_get}
 use Rattle.vert_base.specs.declared.message.Name.{Name}
 use Rattle.vert_base.specs.declared.message.Event.{Event}
 use Rattle.vert_base.specs.Letters.{Letter, found}
-use Rattle.symple_face.specs.Cluster.{World, can_act, events_left, finished, possible, step}
+use Rattle.symple_face.specs.Cluster.{IsPlainRun, World, all_possible, can_act, events_left, finished, possible, step}
 use Rattle.symple_face.specs.State.{IsTakeable, State}
 use Rattle.symple_face.specs.Work.{Work}
+use Rattle.cluster_run.specs.Choices.{AreChoices, GoesOn, IsLeast}
 use Rattle.cluster_run.specs.Driven.{IsReached}
 use Rattle.cluster_run.specs.Sends.{CanSend}
 use Rattle.std.specs.Prelude.{ℕ}
@@ -43,3 +44,20 @@ abbrev pub FinishedIsStill : Work → (State → Type 0) → Type 0
 FinishedIsStill work sound =
     (w : World) → IsReached work sound w → finished w ≡ true →
     (w.under_way ≡ []) × ((e : Event) → possible w e ≡ false)
+
+-- which events can be chosen, and what is missing
+abbrev pub ChoicesArePossible : Work → (State → Type 0) → Type 0
+ChoicesArePossible work sound = (w : World) → IsReached work sound w → AreChoices w
+
+abbrev pub MissingIsLeast : Work → (State → Type 0) → Type 0
+MissingIsLeast work sound = (w : World) → IsReached work sound w → IsLeast w
+
+-- there is some choice, and something is missing, until the end
+abbrev pub UnfinishedGoesOn : Work → (State → Type 0) → Type 0
+UnfinishedGoesOn work sound = (w : World) → IsReached work sound w → GoesOn w
+
+-- the plain events lead to the end
+abbrev pub PlainEventsEnd : Work → (State → Type 0) → Type 0
+PlainEventsEnd work sound =
+    (w : World) → IsReached work sound w →
+    (es : List Event) × IsPlainRun work w es × (all_possible work w es ≡ true)

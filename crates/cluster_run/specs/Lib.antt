@@ -1,3 +1,4 @@
+pub mod Choices
 pub mod Driven
 pub mod Faults
 pub mod Laws

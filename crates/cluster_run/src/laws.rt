@@ -1,3 +1,4 @@
+ghost use Rattle.cluster_run.specs.Laws.{ChoicesArePossible, MissingIsLeast, PlainEventsEnd, UnfinishedGoesOn};
 ghost use Rattle.cluster_run.specs.Laws.{EachCanBeSent, EachCanBeTaken, EventsComeNearer, FinishedIsStill, SomeEventMoves, StepsReach};
 
 use symple_face::Site;
@@ -11,4 +12,12 @@ pub fn worlds_are_in_order<S: Site>()
     ensures nearer { EventsComeNearer S.work S.sound }
     ensures moves { SomeEventMoves S.work S.sound }
     ensures still { FinishedIsStill S.work S.sound }
+{}
+
+/// The laws of choosing the next event, which its clauses say, of the same worlds. It does nothing.
+pub fn choices_are_in_order<S: Site>()
+    ensures choices { ChoicesArePossible S.work S.sound }
+    ensures missing { MissingIsLeast S.work S.sound }
+    ensures unfinished { UnfinishedGoesOn S.work S.sound }
+    ensures plain { PlainEventsEnd S.work S.sound }
 {}

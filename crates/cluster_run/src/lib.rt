@@ -2,6 +2,7 @@
 #![tactic(auto)]
 
 mod acts;
+mod choosing;
 mod cluster;
 mod fault;
 mod laws;
@@ -11,4 +12,4 @@ mod views;
 
 pub use cluster::Cluster;
 pub use fault::{EventFault, Missing};
-pub use laws::worlds_are_in_order;
+pub use laws::{choices_are_in_order, worlds_are_in_order};

@@ -1,5 +1,5 @@
 // What the machines are ready for.
-ghost use Rattle.std.specs.Prelude.{◌≡◌, ◌≤◌, Some, map, length, slice_get};
+ghost use Rattle.std.specs.Prelude.{◌≡◌, ◌≤◌, ◌+◌, Some, IfOk, IfErr, map, length, slice_get};
 ghost use Rattle.std.specs.List.{list_all};
 ghost use Rattle.circulant_plan.specs.Skeleton.{is_over};
 ghost use Rattle.symple_face.specs.Cluster.{can_act, ready_from};
@@ -46,21 +46,34 @@ pub(crate) fn ready_count<S: Site>(sites: &[S]) -> u32
     count
 }
 
-/// The machine that is ready and has `k` ready ones before it.
-pub(crate) fn nth_ready<S: Site>(sites: &[S], k: u32) -> Option<u8>
+/// The ready machine with `k` ready ones before it, or by how much `k` passes their count.
+pub(crate) fn nth_ready<S: Site>(sites: &[S], k: u32) -> Result<u8, u32>
     requires { length sites.now ≤ 64 }
-    ensures { result ≡ slice_get (ready_from 0 (map S.state sites.now)) k }
+    ensures there { IfOk result (λ machine.
+        slice_get (ready_from 0 (map S.state sites.now)) k ≡ Some machine) }
+    ensures past { IfErr result (λ left.
+        k ≡ length (ready_from 0 (map S.state sites.now)) + left) }
 {
     let mut left = k;
     let mut machine: u8 = 0;
     for site in sites {
         if is_ready(site) {
             if left == 0 {
-                return Some(machine);
+                return Ok(machine);
             }
             left -= 1;
         }
         machine += 1;
     }
-    None
+    Err(left)
+}
+
+/// Whether the machine of a number is ready.
+pub(crate) fn can_go<S: Site>(sites: &[S], machine: u8) -> bool
+    ensures { result ≡ can_act (slice_get (map S.state sites.now) machine) }
+{
+    match sites.get(usize::from(machine)) {
+        Some(site) => is_ready(site),
+        None => false,
+    }
 }

@@ -1,4 +1,4 @@
-use Rattle.std.proofs.Common.{◌≡◌, ◌∙◌, ap, get_or}
+use Rattle.std.proofs.Common.{◌∙◌, ap}
 use Rattle.std.proofs.lemmas.Result.{on_ok_weaker}
 use Rattle.symple_face.specs.Cluster.{all_placed}
 use Rattle.cluster_run.proofs.Moves.{replaced, sent_by, state_at}

@@ -1,4 +1,4 @@
-use Rattle.std.proofs.Common.{◌≡◌, ◌≤◌, ◌∙◌, length, arith}
+use Rattle.std.proofs.Common.{◌≤◌, ◌∙◌, length, arith}
 use Rattle.cluster_run.proofs.Moves.{shifted}
 use Rattle.cluster_run.proofs.acts.send_all.Goals as goal
 

@@ -1,4 +1,4 @@
-use Rattle.std.proofs.Common.{◌≡◌, ◌<◌, length, arith}
+use Rattle.std.proofs.Common.{◌<◌, length, arith}
 use Rattle.cluster_run.proofs.PartLists.{RunsOn, one_more}
 use Rattle.cluster_run.proofs.start.each_can_run.Goals as goal
 

@@ -1,7 +1,6 @@
-use Rattle.std.proofs.Common.{◌≡◌, ◌≤◌, ◌∙◌, [], length, map, vec_len, false, ap, sym, subst, arith}
+use Rattle.std.proofs.Common.{◌≡◌, ◌≤◌, ◌∙◌, length, map, vec_len, false, ap, sym, subst, arith}
 use Rattle.std.specs.List.{All}
-use Rattle.symple_face.specs.Cluster.{World, first_world}
-use Rattle.symple_face.specs.PartViews.{plain_of}
+use Rattle.symple_face.specs.Cluster.{World}
 use Rattle.cluster_run.specs.Driven.{Driven}
 use Rattle.cluster_run.proofs.GoWorlds.{same_from}
 use Rattle.cluster_run.proofs.PartLists.{RunsOn, anew_reached, begins_anew, one_made}

@@ -1,13 +1,13 @@
-use Rattle.std.proofs.Common.{◌≡◌, ◌<◌, length, false, cond, None, Some, ap, sym, ◌∙◌, subst, arith}
+use Rattle.std.proofs.Common.{◌≡◌, ◌<◌, false, None, Some, ap, sym, ◌∙◌, subst}
 use Rattle.std.specs.Prelude.{if◌then◌else◌}
 use Rattle.std.specs.Option.{option_map}
 use Rattle.vert_base.specs.declared.message.Event.TheVariants.{Take}
-use Rattle.vert_base.specs.Letters.{Letter, found, letter_of}
+use Rattle.vert_base.specs.Letters.{found, letter_of}
 use Rattle.symple_face.specs.Cluster.{events_left, step}
-use Rattle.cluster_run.specs.declared.fault.EventFault.TheVariants.{NotUnderWay, Want}
-use Rattle.cluster_run.specs.Driven.{Driven, IsReached}
+use Rattle.cluster_run.specs.declared.fault.EventFault.TheVariants.{NotUnderWay}
+use Rattle.cluster_run.specs.Driven.{Driven, IsReached, world_of}
 use Rattle.cluster_run.specs.Faults.{event_fault}
-use Rattle.cluster_run.proofs.Done.{none_taken, take_done, take_fits, take_within, world_of}
+use Rattle.cluster_run.proofs.Done.{none_taken, take_done, take_fits, take_within}
 use Rattle.cluster_run.proofs.cluster.Cluster.take.Goals as goal
 
 pub invariant_of-self : goal.invariant_of-self

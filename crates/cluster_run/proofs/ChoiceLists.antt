@@ -1,0 +1,43 @@
+-- The goes and then the takes, by their places.
+use Rattle.std.proofs.Common.{◌≡◌, ℕ, zero, suc, ◌+◌, List, [], ◌∷◌, ◌++◌, length, map, Option, Some, refl, ap, sym, ◌∙◌, arith, slice_get}
+use Rattle.std.proofs.lemmas.List.{length-map}
+use Rattle.std.specs.Option.{option_map}
+use Rattle.std.specs.Prelude.{if◌then◌else◌, Bool}
+use Rattle.std.specs.List.{filter, range_with_len}
+use Rattle.vert_base.specs.declared.message.Name.{Name}
+use Rattle.vert_base.specs.declared.message.Event.TheVariants.{Go, Take}
+use Rattle.vert_base.specs.Letters.{Letter}
+use Rattle.symple_face.specs.Cluster.{can_act, ready_from}
+use Rattle.symple_face.specs.State.{State}
+
+behind : {X : Type 0} → (xs ys : List X) (k j : ℕ) → k ≡ length xs + j → slice_get (xs ++ ys) k ≡ slice_get ys j
+behind [] ys k j at = let same : k ≡ j = omega arith in ap (slice_get ys) same
+behind (x ∷ xs) ys zero j at = absurd (omega arith)
+behind (x ∷ xs) ys (suc k) j at = behind xs ys k j (omega arith)
+
+take_at : (ms : List Letter) (j : ℕ) →
+    option_map (λ x. Take x) (option_map (λ l. l.name) (slice_get ms j)) ≡ slice_get (map (λ l. Take l.name) ms) j
+take_at [] j = refl
+take_at (m ∷ ms) zero = refl
+take_at (m ∷ ms) (suc j) = take_at ms j
+
+-- past the goes stand the takes
+pub nth_take : (ns : List ℕ) (ms : List Letter) (k j : ℕ) (o : Option Name) → k ≡ length ns + j →
+    o ≡ option_map (λ l. l.name) (slice_get ms j) →
+    option_map (λ x. Take x) o ≡ slice_get (map (λ m. Go m) ns ++ map (λ l. Take l.name) ms) k
+nth_take ns ms k j o at is =
+    ap (option_map (λ x. Take x)) is ∙ take_at ms j
+    ∙ sym (behind (map (λ m. Go m) ns) (map (λ l. Take l.name) ms) k j at_goes)
+  where
+    at_goes : k ≡ length (map (λ m. Go m) ns) + j
+    at_goes = let size = length-map ns (λ m. Go m) in omega arith
+
+-- the ready machines are those for which a test holds that tells whether they can act
+pub ready_by : (test : ℕ → Bool) (n : ℕ) (ss : List State) →
+    ((j m : ℕ) (s : State) → slice_get ss j ≡ Some s → m ≡ n + j → can_act (Some s) ≡ test m) →
+    ready_from n ss ≡ filter test (range_with_len n (length ss))
+ready_by test n [] tells = refl
+ready_by test n (s ∷ ss) tells =
+    ap (λ b. if b then n ∷ ready_from (n + 1) ss else ready_from (n + 1) ss) (tells 0 n s refl (omega arith))
+    ∙ ap (λ ns. if test n then n ∷ ns else ns)
+    (ready_by test (n + 1) ss (λ j m t at is. tells (suc j) m t at (omega arith)))

@@ -1,0 +1,57 @@
+// The events that are possible, in the order of choices.
+ghost use Rattle.std.specs.Prelude.{◌≡◌, ◌≤◌, length, slice_get};
+ghost use Rattle.symple_face.specs.Cluster.{choices_of, possible};
+ghost use Rattle.cluster_run.specs.Driven.{world_of};
+ghost use Rattle.cluster_run.specs.Faults.{lacking};
+
+use crate::fault::Missing;
+use crate::looks::{can_go, nth_ready, ready_count};
+use flight::Flight;
+use symple_face::Site;
+use vert_base::Event;
+
+/// Whether an event is possible.
+pub(crate) fn can_play<S: Site>(sites: &[S], flight: &Flight, event: &Event) -> bool
+    ensures { result ≡ possible (world_of S.state sites.now flight.now) event.now }
+{
+    match event {
+        Event::Go(machine) => can_go(sites, *machine),
+        Event::Take(name) => flight.peek(name).is_some(),
+    }
+}
+
+/// How many events are possible.
+pub(crate) fn choice_count<S: Site>(sites: &[S], flight: &Flight) -> u32
+    requires { length sites.now ≤ 64 }
+    ensures { result ≡ length (choices_of (world_of S.state sites.now flight.now)) }
+{
+    ready_count(sites) + flight.count()
+}
+
+/// The possible event with `k` others before it.
+pub(crate) fn nth_choice<S: Site>(sites: &[S], flight: &Flight, k: u32) -> Option<Event>
+    requires { length sites.now ≤ 64 }
+    ensures { result ≡ slice_get (choices_of (world_of S.state sites.now flight.now)) k }
+{
+    match nth_ready(sites, k) {
+        Ok(machine) => Some(Event::Go(machine)),
+        Err(left) => match flight.nth(left) {
+            Some(name) => Some(Event::Take(name)),
+            None => None,
+        },
+    }
+}
+
+/// The least message under way, or where there is none the least machine that is ready.
+pub(crate) fn first_missing<S: Site>(sites: &[S], flight: &Flight) -> Option<Missing>
+    requires { length sites.now ≤ 64 }
+    ensures { result ≡ lacking (world_of S.state sites.now flight.now) }
+{
+    match flight.first() {
+        Some(name) => Some(Missing::Taken(name)),
+        None => match nth_ready(sites, 0) {
+            Ok(machine) => Some(Missing::Gone(machine)),
+            Err(_) => None,
+        },
+    }
+}
