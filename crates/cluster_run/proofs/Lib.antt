@@ -11,6 +11,7 @@ pub mod ReachedWorlds
 pub mod Results
 pub mod Moves
 pub mod Done
+pub mod Restarted
 pub mod PartLists
 pub mod ChoiceLists
 pub mod ChoicesAlike

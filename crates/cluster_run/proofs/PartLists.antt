@@ -5,20 +5,23 @@ use Rattle.std.proofs.lemmas.Bool.{cases_lt}
 use Rattle.std.proofs.lemmas.List.Elements.{All-map}
 use Rattle.instrument.specs.declared.split.Split.{Split}
 use Rattle.vert_base.specs.Letters.{Letter}
-use Rattle.symple_face.specs.Cluster.{IsOneRun, World, first_world}
-use Rattle.cluster_run.specs.Driven.{IsReached, anew}
+use Rattle.symple_face.specs.Cluster.{IsOneRun, World, first_world, restarted_world}
+use Rattle.symple_face.specs.Restarts.{IsRestartLawful, IsStart}
+use Rattle.cluster_run.specs.Driven.{IsFirst, IsReached, again, anew, world_of}
+use Rattle.cluster_run.proofs.Restarted.{is_restarted}
 use Rattle.symple_face.specs.declared.part.Part.{Part}
 use Rattle.symple_face.specs.Lawful.{CanRun}
+use Rattle.symple_face.specs.Parts.{PlainPart}
 use Rattle.symple_face.specs.PartViews.{plain_of}
 use Rattle.symple_face.specs.State.{State}
-use Rattle.symple_face.specs.Work.{Work}
+use Rattle.symple_face.specs.Work.{PlainStart, Work}
 
 abbrev pub RunsOn : Part → Type 0
 RunsOn part = CanRun (plain_of part) part.split.value
 
 -- the machine that is made of a part
-abbrev pub made : Work → Part → State
-made work part = work.first (plain_of part) part.split.value
+abbrev pub made : (PlainPart → Split → State) → Part → State
+made make part = make (plain_of part) part.split.value
 
 same_item : {X : Type 0} → (xs : List X) (k : ℕ) (d e : X) → k < length xs → get_or xs k d ≡ get_or xs k e
 same_item [] k d e lt = absurd (omega arith)
@@ -36,26 +39,37 @@ one_more P xs i x within is holds before k d lt =
     subst (λ j. P (get_or xs j d)) same (subst P (is ∙ same_item xs i x d within) holds))
     (cases_lt k i)
 
-pub made_is : (work : Work) (split : Split) (ps : List Part) → All (λ part. part.split.value ≡ split) ps →
-    map (made work) ps ≡ map (λ part. work.first part split) (map plain_of ps)
-made_is work split [] all = refl
-made_is work split (p ∷ ps) all =
+pub made_is : (make : PlainPart → Split → State) (split : Split) (ps : List Part) →
+    All (λ part. part.split.value ≡ split) ps → map (made make) ps ≡ map (λ part. make part split) (map plain_of ps)
+made_is make split [] all = refl
+made_is make split (p ∷ ps) all =
     let head : p.split.value ≡ split = all 0 p (omega arith) in
-    ap (λ q. work.first (plain_of p) q ∷ map (made work) ps) head
-    ∙ ap (λ ss. work.first (plain_of p) split ∷ ss) (made_is work split ps (λ k d lt. all (suc k) d (omega arith)))
+    ap (λ q. make (plain_of p) q ∷ map (made make) ps) head
+    ∙ ap (λ ss. make (plain_of p) split ∷ ss) (made_is make split ps (λ k d lt. all (suc k) d (omega arith)))
 
-pub all_run : (split : Split) (ps : List Part) → All RunsOn ps → All (λ part. part.split.value ≡ split) ps →
-    All (λ part. CanRun part split) (map plain_of ps)
-all_run split ps runs same =
-    All-map (λ part. CanRun part split) plain_of ps
-    (λ k d lt. subst (λ q. CanRun (plain_of (get_or ps k d)) q) (same k d lt) (runs k d lt))
+-- what holds of each part with its own program holds of it with the one of all
+pub all_plain : (P : PlainPart → Split → Type 0) (split : Split) (ps : List Part) →
+    All (λ part. P (plain_of part) part.split.value) ps → All (λ part. part.split.value ≡ split) ps →
+    All (λ part. P part split) (map plain_of ps)
+all_plain P split ps all same =
+    All-map (λ part. P part split) plain_of ps
+    (λ k d lt. subst (λ q. P (plain_of (get_or ps k d)) q) (same k d lt) (all k d lt))
 
 -- the first of the parts is made
-pub next_made : (work : Work) (ps rest : List Part) (p : Part) → 1 ≤ length ps → p ≡ get_or ps 0 p → rest ≡ drop 1 ps →
-    made work p ∷ map (made work) rest ≡ map (made work) ps
-next_made work [] rest p some first others = absurd (omega arith)
-next_made work (q ∷ ps) rest p some first others =
-    ap (λ x. made work x ∷ map (made work) rest) first ∙ ap (λ xs. made work q ∷ map (made work) xs) others
+pub next_made : (make : PlainPart → Split → State) (ps rest : List Part) (p : Part) → 1 ≤ length ps →
+    p ≡ get_or ps 0 p → rest ≡ drop 1 ps → made make p ∷ map (made make) rest ≡ map (made make) ps
+next_made make [] rest p some first others = absurd (omega arith)
+next_made make (q ∷ ps) rest p some first others =
+    ap (λ x. made make x ∷ map (made make) rest) first ∙ ap (λ xs. made make q ∷ map (made make) xs) others
+
+-- what holds of each part holds of the first one, and of each of the rest
+pub first_holds : (P : Part → Type 0) (ps : List Part) (p : Part) → 1 ≤ length ps → p ≡ get_or ps 0 p → All P ps →
+    P p
+first_holds P ps p some first all = subst P (sym first) (all 0 p (omega arith))
+
+pub rest_holds : (P : Part → Type 0) (ps rest : List Part) → 1 ≤ length ps → rest ≡ drop 1 ps → All P ps → All P rest
+rest_holds P [] rest some others all = absurd (omega arith)
+rest_holds P (q ∷ ps) rest some others all = subst (All P) (sym others) (λ k d lt. all (suc k) d (omega arith))
 
 put_behind : {X : Type 0} → (state : X → State) (xs : List X) (x : X) (ss : List State) →
     map state (xs ++ x ∷ []) ++ ss ≡ map state xs ++ state x ∷ ss
@@ -63,45 +77,64 @@ put_behind state [] x ss = refl
 put_behind state (y ∷ xs) x ss = ap (λ zs. state y ∷ zs) (put_behind state xs x ss)
 
 -- a machine more is made of the first part
-pub one_made : {X : Type 0} → (state : X → State) (work : Work) (xs ys : List X) (x : X) (ps rest : List Part)
-    (p : Part) → 1 ≤ length ps → p ≡ get_or ps 0 p →
-    rest ≡ drop 1 ps → state x ≡ made work p → ys ≡ xs ++ x ∷ [] → map state ys ++ map (made work) rest ≡ map state xs
-    ++ map (made work) ps
-one_made state work xs ys x ps rest p some first others is grown =
-    ap (λ zs. map state zs ++ map (made work) rest) grown
-    ∙ put_behind state xs x (map (made work) rest)
-    ∙ ap (λ s. map state xs ++ s ∷ map (made work) rest) is
-    ∙ ap (λ ss. map state xs ++ ss) (next_made work ps rest p some first others)
+pub one_made : {X : Type 0} → (state : X → State) (make : PlainPart → Split → State) (xs ys : List X) (x : X)
+    (ps rest : List Part) (p : Part) → 1 ≤ length ps → p ≡ get_or ps 0 p →
+    rest ≡ drop 1 ps → state x ≡ made make p → ys ≡ xs ++ x ∷ [] →
+    map state ys ++ map (made make) rest ≡ map state xs ++ map (made make) ps
+one_made state make xs ys x ps rest p some first others is grown =
+    ap (λ zs. map state zs ++ map (made make) rest) grown
+    ∙ put_behind state xs x (map (made make) rest)
+    ∙ ap (λ s. map state xs ++ s ∷ map (made make) rest) is
+    ∙ ap (λ ss. map state xs ++ ss) (next_made make ps rest p some first others)
 
-all_made : (work : Work) (left : List Part) (ss made_ones : List State) → length left ≡ 0 →
-    ss ++ map (made work) left ≡ made_ones → ss ≡ made_ones
-all_made work [] ss made_ones none is = sym (append-nil ss) ∙ is
-all_made work (p ∷ left) ss made_ones none is = absurd (omega arith)
+all_made : (make : PlainPart → Split → State) (left : List Part) (ss made_ones : List State) → length left ≡ 0 →
+    ss ++ map (made make) left ≡ made_ones → ss ≡ made_ones
+all_made make [] ss made_ones none is = sym (append-nil ss) ∙ is
+all_made make (p ∷ left) ss made_ones none is = absurd (omega arith)
 
 -- all machines are made, and nothing is under way: this is the first world
-pub begins_anew : {X : Type 0} → (state : X → State) (work : Work) (split : Split) (ps left : List Part) (xs : List X)
-    (flight : List Letter) → length left ≡ 0 →
-    map state xs ++ map (made work) left ≡ map (made work) ps → All (λ part. part.split.value ≡ split) ps →
+pub begins : {X : Type 0} → (state : X → State) (make : PlainPart → Split → State) (split : Split)
+    (ps left : List Part) (xs : List X) (flight : List Letter) → length left ≡ 0 →
+    map state xs ++ map (made make) left ≡ map (made make) ps → All (λ part. part.split.value ≡ split) ps →
     flight ≡ [] →
-    (let w : World = record { sites = map state xs; under_way = flight } in w)
-    ≡ first_world work split (map plain_of ps)
-begins_anew state work split ps left xs flight none is same empty =
-    ap (λ ms. (let w : World = record { sites = map state xs; under_way = ms } in w)) empty
+    world_of state xs flight
+    ≡ (let w : World = record { sites = map (λ part. make part split) (map plain_of ps); under_way = [] } in w)
+begins state make split ps left xs flight none is same empty =
+    ap (world_of state xs) empty
     ∙ ap (λ ss. (let w : World = record { sites = ss; under_way = [] } in w))
-    (all_made work left (map state xs) (map (made work) ps) none is ∙ made_is work split ps same)
+    (all_made make left (map state xs) (map (made make) ps) none is ∙ made_is make split ps same)
 
 -- and it is reached
-pub anew_reached : (work : Work) (sound : State → Type 0) (split : Split) (ps : List Part) (w : World) →
-    IsOneRun (map plain_of ps) → All RunsOn ps →
-    All (λ part. part.split.value ≡ split) ps → w ≡ first_world work split (map plain_of ps) → IsReached work sound w
-anew_reached work sound split ps w one runs same is = record {
+reached_first : (work : Work) (sound : State → Type 0) (split : Split) (ps : List Part) (first w : World) →
+    IsOneRun (map plain_of ps) → All (λ part. CanRun part split) (map plain_of ps) →
+    IsFirst work sound split (map plain_of ps) first → w ≡ first → IsReached work sound w
+reached_first work sound split ps first w one runs is_first is = record {
   split = split;
   parts = map plain_of ps;
   one_run = one;
-  can_run = all_run split ps runs same;
-  first = first_world work split (map plain_of ps);
-  is_first = anew refl;
+  can_run = runs;
+  first = first;
+  is_first = is_first;
   events = [];
   were_possible = refl;
   here = is;
 }
+
+pub anew_reached : (work : Work) (sound : State → Type 0) (split : Split) (ps : List Part) (w : World) →
+    IsOneRun (map plain_of ps) → All RunsOn ps → All (λ part. part.split.value ≡ split) ps →
+    w ≡ first_world work split (map plain_of ps) → IsReached work sound w
+anew_reached work sound split ps w one runs same is =
+    reached_first work sound split ps (first_world work split (map plain_of ps)) w one
+    (all_plain CanRun split ps runs same) (anew refl) is
+
+pub again_reached : (work : Work) (sound : State → Type 0) → IsRestartLawful work sound → (split : Split)
+    (ps : List Part) (start : PlainStart) (w : World) → IsOneRun (map plain_of ps) → All RunsOn ps →
+    All (λ part. IsStart (plain_of part) part.split.value start) ps → All (λ part. part.split.value ≡ split) ps →
+    w ≡ restarted_world work split (map plain_of ps) start → IsReached work sound w
+again_reached work sound restarts split ps start w one runs starts same is =
+    let can_run = all_plain CanRun split ps runs same in
+    reached_first work sound split ps (restarted_world work split (map plain_of ps) start) w one can_run
+    (again start.round start.ruling
+    (is_restarted work sound restarts split (map plain_of ps) one can_run start
+    (all_plain (λ part program. IsStart part program start) split ps starts same)))
+    is

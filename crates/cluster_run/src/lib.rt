@@ -7,6 +7,7 @@ mod cluster;
 mod fault;
 mod laws;
 mod looks;
+mod resume;
 mod start;
 mod views;
 

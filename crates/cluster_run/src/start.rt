@@ -58,7 +58,8 @@ fn tells_can_run(part: &Part)
     let _machine = part.at.number();
 }
 
-fn each_can_run(parts: &[Part])
+/// Each of the parts tells that its machine can run.
+pub(crate) fn each_can_run(parts: &[Part])
     ensures { All (λ part. CanRun (plain_of part) part.split.value) parts.now }
 {
     for part in parts {
