@@ -1,6 +1,8 @@
 -- What an event does, over the list of the machines and the messages under way.
-use Rattle.std.proofs.Common.{◌≡◌, ℕ, ◌<◌, ◌≤◌, List, [], ◌∷◌, ◌++◌, length, map, drop, get_or, Some, refl, ap, sym, ◌∙◌, subst, arith, slice_get}
+use Rattle.std.proofs.Common.{◌≡◌, ℕ, ◌<◌, List, [], ◌∷◌, ◌++◌, length, map, get_or, Some, refl, ap, sym, ◌∙◌, subst, arith, slice_get}
 use Rattle.std.specs.Prelude.{slice_set}
+use Rattle.std.proofs.lemmas.List.{reverse-append}
+use mathlib.Core.List.{reverse}
 use Rattle.std.proofs.lemmas.Option.{slice_get_read}
 use Rattle.vert_base.specs.declared.message.Message.{Message}
 use Rattle.vert_base.specs.Letters.{Letter, letter_of, placed}
@@ -11,23 +13,24 @@ use Rattle.symple_face.specs.Work.{Work}
 use Rattle.cluster_run.specs.Sends.{CanSend}
 use Rattle.cluster_run.proofs.Sites.{map_get, map_set, get_one}
 
+-- what is popped off the end of a list is the first of its reverse
+pub popped : {X : Type 0} → (xs rest : List X) (x : X) → xs ≡ rest ++ x ∷ [] → reverse xs ≡ x ∷ reverse rest
+popped xs rest x is = ap reverse is ∙ reverse-append rest (x ∷ [])
+
 -- the first message of a list is put under way
 pub record IsShifted (ms rest : List Message) (old new : List Letter) : Type 0 where
   pub rest_is : all_placed (map letter_of rest) new ≡ all_placed (map letter_of ms) old
   pub can : CanSend (map letter_of rest) new
 
-pub shifted : (ms rest : List Message) (m : Message) (old new : List Letter) → 1 ≤ length ms → m ≡ get_or ms 0 m →
-    rest ≡ drop 1 ms →
+pub shifted : (ms rest : List Message) (m : Message) (old new : List Letter) → ms ≡ m ∷ rest →
     new ≡ placed (letter_of m) old → CanSend (map letter_of ms) old → IsShifted ms rest old new
-shifted [] rest m old new some first others is can = absurd (omega arith)
-shifted (x ∷ xs) rest m old new some first others is can =
-    let here : new ≡ placed (letter_of x) old = is ∙ ap (λ (q : Message). placed (letter_of q) old) first in
-    let tail : rest ≡ xs = others in
-    let size = longer (letter_of x) old in
-    let room = can.room in
-    subst (λ ys. IsShifted (x ∷ xs) ys old new) (sym tail)
-    (subst (λ flight. IsShifted (x ∷ xs) xs old flight) (sym here)
-    (record { rest_is = refl; can = record { new = can.new.1; room = omega arith } }))
+shifted ms rest m old new is put can =
+    let those : CanSend (letter_of m ∷ map letter_of rest) old = subst (λ xs. CanSend (map letter_of xs) old) is can in
+    let size = longer (letter_of m) old in
+    let room = those.room in
+    subst (λ xs. IsShifted xs rest old new) (sym is)
+    (subst (IsShifted (m ∷ rest) rest old) (sym put)
+    (record { rest_is = refl; can = record { new = those.new.1; room = omega arith } }))
 
 -- ---- one machine among others
 pub state_at : {X : Type 0} → (state : X → State) (xs : List X) (m : ℕ) (x : X) → m < length xs → x ≡ get_or xs m x →

@@ -1,5 +1,6 @@
 -- The parts of a run, as they are handed in and as plain data.
-use Rattle.std.proofs.Common.{◌≡◌, ℕ, zero, suc, ◌+◌, ◌<◌, ◌≤◌, List, [], ◌∷◌, ◌++◌, length, map, get_or, drop, append-nil, refl, ap, sym, ◌∙◌, subst, arith, ⊎_elim}
+use Rattle.std.proofs.Common.{◌≡◌, ℕ, zero, suc, ◌+◌, ◌<◌, ◌≤◌, List, [], ◌∷◌, ◌++◌, length, map, get_or, append-nil, refl, ap, sym, ◌∙◌, subst, arith, ⊎_elim}
+use mathlib.Core.List.{reverse}
 use Rattle.std.specs.List.{All}
 use Rattle.std.proofs.lemmas.Bool.{cases_lt}
 use Rattle.std.proofs.lemmas.List.Elements.{All-map}
@@ -55,21 +56,12 @@ all_plain P split ps all same =
     All-map (λ part. P part split) plain_of ps
     (λ k d lt. subst (λ q. P (plain_of (get_or ps k d)) q) (same k d lt) (all k d lt))
 
--- the first of the parts is made
-pub next_made : (make : PlainPart → Split → State) (ps rest : List Part) (p : Part) → 1 ≤ length ps →
-    p ≡ get_or ps 0 p → rest ≡ drop 1 ps → made make p ∷ map (made make) rest ≡ map (made make) ps
-next_made make [] rest p some first others = absurd (omega arith)
-next_made make (q ∷ ps) rest p some first others =
-    ap (λ x. made make x ∷ map (made make) rest) first ∙ ap (λ xs. made make q ∷ map (made make) xs) others
-
 -- what holds of each part holds of the first one, and of each of the rest
-pub first_holds : (P : Part → Type 0) (ps : List Part) (p : Part) → 1 ≤ length ps → p ≡ get_or ps 0 p → All P ps →
-    P p
-first_holds P ps p some first all = subst P (sym first) (all 0 p (omega arith))
+pub first_holds : (P : Part → Type 0) (ps rest : List Part) (p : Part) → ps ≡ p ∷ rest → All P ps → P p
+first_holds P ps rest p is all = (subst (All P) is all) 0 p (omega arith)
 
-pub rest_holds : (P : Part → Type 0) (ps rest : List Part) → 1 ≤ length ps → rest ≡ drop 1 ps → All P ps → All P rest
-rest_holds P [] rest some others all = absurd (omega arith)
-rest_holds P (q ∷ ps) rest some others all = subst (All P) (sym others) (λ k d lt. all (suc k) d (omega arith))
+pub rest_holds : (P : Part → Type 0) (ps rest : List Part) (p : Part) → ps ≡ p ∷ rest → All P ps → All P rest
+rest_holds P ps rest p is all = λ k d lt. (subst (All P) is all) (suc k) d (omega arith)
 
 put_behind : {X : Type 0} → (state : X → State) (xs : List X) (x : X) (ss : List State) →
     map state (xs ++ x ∷ []) ++ ss ≡ map state xs ++ state x ∷ ss
@@ -78,24 +70,23 @@ put_behind state (y ∷ xs) x ss = ap (λ zs. state y ∷ zs) (put_behind state 
 
 -- a machine more is made of the first part
 pub one_made : {X : Type 0} → (state : X → State) (make : PlainPart → Split → State) (xs ys : List X) (x : X)
-    (ps rest : List Part) (p : Part) → 1 ≤ length ps → p ≡ get_or ps 0 p →
-    rest ≡ drop 1 ps → state x ≡ made make p → ys ≡ xs ++ x ∷ [] →
+    (ps rest : List Part) (p : Part) → ps ≡ p ∷ rest → state x ≡ made make p → ys ≡ xs ++ x ∷ [] →
     map state ys ++ map (made make) rest ≡ map state xs ++ map (made make) ps
-one_made state make xs ys x ps rest p some first others is grown =
+one_made state make xs ys x ps rest p first is grown =
     ap (λ zs. map state zs ++ map (made make) rest) grown
     ∙ put_behind state xs x (map (made make) rest)
     ∙ ap (λ s. map state xs ++ s ∷ map (made make) rest) is
-    ∙ ap (λ ss. map state xs ++ ss) (next_made make ps rest p some first others)
+    ∙ ap (λ qs. map state xs ++ map (made make) qs) (sym first)
 
 all_made : (make : PlainPart → Split → State) (left : List Part) (ss made_ones : List State) → length left ≡ 0 →
-    ss ++ map (made make) left ≡ made_ones → ss ≡ made_ones
+    ss ++ map (made make) (reverse left) ≡ made_ones → ss ≡ made_ones
 all_made make [] ss made_ones none is = sym (append-nil ss) ∙ is
 all_made make (p ∷ left) ss made_ones none is = absurd (omega arith)
 
 -- all machines are made, and nothing is under way: this is the first world
 pub begins : {X : Type 0} → (state : X → State) (make : PlainPart → Split → State) (split : Split)
     (ps left : List Part) (xs : List X) (flight : List Letter) → length left ≡ 0 →
-    map state xs ++ map (made make) left ≡ map (made make) ps → All (λ part. part.split.value ≡ split) ps →
+    map state xs ++ map (made make) (reverse left) ≡ map (made make) ps → All (λ part. part.split.value ≡ split) ps →
     flight ≡ [] →
     world_of state xs flight
     ≡ (let w : World = record { sites = map (λ part. make part split) (map plain_of ps); under_way = [] } in w)

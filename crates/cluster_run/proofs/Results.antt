@@ -28,7 +28,7 @@ use Rattle.cluster_run.specs.Driven.{IsReached}
 use Rattle.cluster_run.specs.Sends.{CanSend}
 use Rattle.cluster_run.proofs.GoWorlds as go
 use Rattle.cluster_run.proofs.Letters.{all_placed_length}
-use Rattle.cluster_run.proofs.PartsAt.{parts_few}
+use Rattle.cluster_run.proofs.PartsAt.{parts_few, parts_some}
 use Rattle.cluster_run.proofs.ReachedWorlds.{IsTied, reached_ties}
 use Rattle.cluster_run.proofs.Sites.{map_get_back}
 use Rattle.cluster_run.proofs.TakeWorlds as take
@@ -186,6 +186,9 @@ module _ (work : Work) (sound : State → Type 0) (lawful : IsLawful work sound)
 
   pub reached_few : length w.sites ≤ 64
   reached_few = let count = tied.alike.count in let m = most in omega arith
+
+  pub reached_some : 1 ≤ length w.sites
+  reached_some = let count = tied.alike.count in let some = parts_some r.parts r.one_run in omega arith
 
   -- the receiver of a message under way can take it
   pub reached_takes : (x : Name) (l : Letter) → found x w.under_way ≡ Some l → (s : State) ×

@@ -28,8 +28,9 @@ fn send_all(flight: &mut Flight, out: &mut Vec<Message>) -> Result<(), Want>
     ensures sent { OnOk result (flight.new ≡ all_placed (map letter_of out.old.items) flight.old) }
     ensures empty { OnOk result (out.new.items ≡ []) }
 {
-    while !out.is_empty() {
-        let message = out.remove(0);
+    // Popping off the end moves no other message.
+    out.reverse();
+    while let Some(message) = out.pop() {
         send(flight, message)?;
     }
     Ok(())

@@ -44,8 +44,8 @@ impl<S: Restart, const CAP: usize> Cluster<S, CAP> {
     {
         each_can_run(&parts);
         let mut sites = Vec::new(alloc);
-        while !parts.is_empty() {
-            let part = parts.remove(0);
+        parts.reverse();
+        while let Some(part) = parts.pop() {
             sites.push(make_at(alloc, part, start)?)?;
         }
         Ok(Cluster {

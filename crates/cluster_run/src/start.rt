@@ -85,8 +85,8 @@ impl<S: Site, const CAP: usize> Cluster<S, CAP> {
     {
         each_can_run(&parts);
         let mut sites = Vec::new(alloc);
-        while !parts.is_empty() {
-            let part = parts.remove(0);
+        parts.reverse();
+        while let Some(part) = parts.pop() {
             sites.push(S::make(alloc, part)?)?;
         }
         Ok(Cluster {

@@ -17,6 +17,7 @@ impl<S: Site, const CAP: usize> Cluster<S, CAP> {
     pub fn machines(&self) -> u8
         ensures count { result ≡ length self.now.world.sites }
         ensures few { result ≤ 64 }
+        ensures some { self.now.ended ≡ false → 1 ≤ result }
     {
         self.sites.len() as u8
     }

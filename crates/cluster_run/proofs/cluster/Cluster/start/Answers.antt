@@ -1,31 +1,20 @@
-use Rattle.std.proofs.Common.{◌≡◌, ◌≤◌, ◌∙◌, length, map, vec_len, false, ap, sym, subst, arith}
+use Rattle.std.proofs.Common.{◌≡◌, length, map, vec_len, false, ap, subst, arith}
 use Rattle.std.specs.List.{All}
 use Rattle.symple_face.specs.Cluster.{World}
 use Rattle.cluster_run.specs.Driven.{Driven}
-use Rattle.cluster_run.proofs.GoWorlds.{same_from}
-use Rattle.cluster_run.proofs.PartLists.{RunsOn, anew_reached, begins, one_made}
+use Rattle.cluster_run.proofs.PartLists.{RunsOn, anew_reached, begins}
 use Rattle.cluster_run.proofs.Results.{reached_few}
 use Rattle.cluster_run.proofs.cluster.Cluster.start.Goals as goal
 
-pub loop-parts-preserved : goal.loop-parts-preserved
-loop-parts-preserved g c =
-    let some : 1 ≤ length c.loop-parts.parts.items = omega arith in
-    one_made g.S.Site.state g.S.Site.work.first c.loop-parts.sites.items c.push.new.self.items c.in_ok-make.field-0
-    c.loop-parts.parts.items c.remove-part.new.self.items
-    c.remove-part.result some c.remove-part.ensures.value c.remove-part.ensures.items c.in_ok-make.ensures
-    c.in_ok-push.ensures.items
-    ∙ c.loop-parts.invariant
-
 pub invariant_of-result : goal.invariant_of-result
 invariant_of-result g c =
-    let zero : vec_len c.loop-parts.parts ≡ 0 =
-    same_from (vec_len c.loop-parts.parts) 0 (sym c.loop-parts-test.ensures) in
-    let none : length c.loop-parts.parts.items ≡ 0 = omega arith in
+    let zero : vec_len c.loop-part.parts ≡ 0 = c.in_default.ensures.cases.0 in
+    let none : length c.loop-part.parts.items ≡ 0 = omega arith in
     let split = c.requires.one_split.0 in
-    let w : World = record { sites = map g.S.Site.state c.loop-parts.sites.items; under_way = c.new.result } in
+    let w : World = record { sites = map g.S.Site.state c.loop-part.sites.items; under_way = c.new.result } in
     let is =
-    begins g.S.Site.state g.S.Site.work.first split c.args.parts.items c.loop-parts.parts.items
-    c.loop-parts.sites.items c.new.result none c.loop-parts.invariant
+    begins g.S.Site.state g.S.Site.work.first split c.args.parts.items c.loop-part.parts.items
+    c.loop-part.sites.items c.new.result none c.loop-part.invariant
     c.requires.one_split.1 c.new.ensures in
     let runs = subst (All RunsOn) c.deref.ensures.value c.each_can_run.ensures in
     let reached = anew_reached g.S.Site.work g.S.Site.sound split c.args.parts.items w c.requires.one_run runs
@@ -36,10 +25,9 @@ invariant_of-result g c =
 
 pub returns : goal.returns
 returns g c = λ split same.
-    let zero : vec_len c.loop-parts.parts ≡ 0 =
-    same_from (vec_len c.loop-parts.parts) 0 (sym c.loop-parts-test.ensures) in
-    let none : length c.loop-parts.parts.items ≡ 0 = omega arith in
+    let zero : vec_len c.loop-part.parts ≡ 0 = c.in_default.ensures.cases.0 in
+    let none : length c.loop-part.parts.items ≡ 0 = omega arith in
     ap (λ w. (let d : Driven = record { world = w; ended = false } in d))
-    (begins g.S.Site.state g.S.Site.work.first split c.args.parts.items c.loop-parts.parts.items
-    c.loop-parts.sites.items c.new.result none c.loop-parts.invariant
+    (begins g.S.Site.state g.S.Site.work.first split c.args.parts.items c.loop-part.parts.items
+    c.loop-part.sites.items c.new.result none c.loop-part.invariant
     same c.new.ensures)
