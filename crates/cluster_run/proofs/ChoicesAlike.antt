@@ -1,6 +1,7 @@
 -- The choices of a world are those of the skeleton that stands as it does, and so is what is missing.
-use Rattle.std.proofs.Common.{◌≡◌, ℕ, ◌≤◌, Bool, true, false, ◌&&◌, not, List, [], ◌∷◌, ◌++◌, length, map, Option, Some, None, refl, ap, sym, ◌∙◌, subst, arith, slice_get}
-use Rattle.std.proofs.lemmas.List.{length-map}
+use Rattle.std.proofs.Common.{◌≡◌, ℕ, ◌≤◌, Bool, true, ◌&&◌, not, List, ◌++◌, length, map, Option, Some, None, refl, ap, sym, ◌∙◌, subst, arith, slice_get}
+use Rattle.std.proofs.Math.Bool.{and-true}
+use Rattle.std.proofs.lemmas.List.{length-map, nil_from_length}
 use Rattle.std.proofs.lemmas.Option.{slice_get-map}
 use Rattle.std.proofs.lemmas.Simd.{map-map}
 use Rattle.std.specs.List.{Contains, filter, range_with_len}
@@ -43,16 +44,12 @@ may_stop blocks (Scan r s h) = refl
 may_stop blocks (Close r dense) = refl
 may_stop blocks Over = refl
 
-and_truth : (b : Bool) → (b && true) ≡ b
-and_truth true = refl
-and_truth false = refl
-
 goes_by_stop : (ring : Ring) (blocks : Blocks) (m : ℕ) (o : Option Standing) (taken : List Name) →
     could_act ring m o taken ≡ can_go ring blocks Stop m o taken
 goes_by_stop ring blocks m None taken = refl
 goes_by_stop ring blocks m (Some s) taken =
     ap (λ b. not (is_over s.spot) && b)
-    (sym (and_truth (is_ready ring m s taken))
+    (sym (and-true (is_ready ring m s taken))
     ∙ sym (ap (λ b. is_ready ring m s taken && b) (may_stop blocks s.spot)))
 
 module _ (work : Work) (sound : State → Type 0) (lawful : IsLawful work sound) (split : Split)
@@ -137,11 +134,7 @@ module _ (work : Work) (sound : State → Type 0) (lawful : IsLawful work sound)
       record {
         take_flies = λ x is. t.alike.flies x ∙ of.take_flies x (was ∙ is);
         take_least = λ x y is flies. of.take_least x y (was ∙ is) (sym (t.alike.flies y) ∙ flies);
-        go_alone = λ m is. nothing w.under_way (t.alike.as_many ∙ ap length (of.go_alone m (was ∙ is)));
+        go_alone = λ m is. nil_from_length w.under_way (t.alike.as_many ∙ ap length (of.go_alone m (was ∙ is)));
         go_ready = λ m is. acts_alike m ∙ of.go_ready m (was ∙ is);
         go_least = λ m j is before. acts_alike j ∙ of.go_least m j (was ∙ is) before;
       }
-    where
-      nothing : (ms : List Letter) → length ms ≡ 0 → ms ≡ []
-      nothing [] e = refl
-      nothing (m ∷ ms) e = absurd (omega arith)

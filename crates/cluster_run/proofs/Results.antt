@@ -3,6 +3,7 @@ use Rattle.std.proofs.Common.{◌≡◌, ℕ, suc, ◌+◌, ◌*◌, ◌<◌, �
 use Rattle.std.specs.Prelude.{is_some}
 use Rattle.std.specs.List.{list_all}
 use Rattle.std.proofs.lemmas.Bool.{false≢true, and_parts, and_from, cases_Bool}
+use Rattle.std.proofs.lemmas.List.{nil_from_length}
 use Rattle.std.proofs.lemmas.List.Folds.{list_all-map}
 use Rattle.vert_base.specs.declared.message.Name.{Name}
 use Rattle.vert_base.specs.declared.message.Event.{Event}
@@ -154,12 +155,8 @@ module _ (work : Work) (sound : State → Type 0) (lawful : IsLawful work sound)
   -- and nothing is under way
   pub empty : finished w ≡ true → w.under_way ≡ []
   empty over =
-      none_left w.under_way
+      nil_from_length w.under_way
       (t.alike.as_many ∙ ap length (finished_is_empty ring blocks t.k t.reached (sym finished_alike ∙ over)))
-    where
-      none_left : (ms : List Letter) → length ms ≡ 0 → ms ≡ []
-      none_left [] e = refl
-      none_left (m ∷ ms) e = absurd (omega arith)
 
   -- in an unfinished world some event is possible
   pub moves : finished w ≡ false → (e : Event) × (possible w e ≡ true)

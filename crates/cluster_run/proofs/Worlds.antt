@@ -2,6 +2,7 @@
 use Rattle.std.proofs.Common.{◌≡◌, ◌⊎◌, ℕ, ◌+◌, ◌<◌, ◌≤◌, Bool, true, false, ◌&&◌, not, List, [], ◌∷◌, length, map, Option, Some, None, refl, ap, sym, ◌∙◌, subst, inl, inr, arith, slice_get}
 use Rattle.std.specs.Prelude.{if◌then◌else◌, ◌==◌}
 use Rattle.std.specs.List.{list_all}
+use Rattle.std.proofs.Math.Bool.{and-true}
 use Rattle.std.proofs.lemmas.Bool.{false≢true, and_parts, and_from, not-true, not_from_false}
 use Rattle.vert_base.specs.declared.message.Name.{Name}
 use Rattle.vert_base.specs.declared.message.NameKind.TheVariants.{Verdict}
@@ -157,7 +158,7 @@ module _ (work : Work) (sound : State → Type 0) (lawful : IsLawful work sound)
       few it_keeps.has h in
       let round : x.round ≡ s.at.round = n.1 ∙ spot_round s.at.spot s.at.round going ∙ sym it_keeps.round in
       tied.held m s here going x ∙ ap (λ b. has_name x k.taken && b) (is_for_it m s.at.round x n.0 round)
-      ∙ and_truth (has_name x k.taken)
+      ∙ and-true (has_name x k.taken)
     where
       spot_round : (spot : Spot) (round : ℕ) → is_over spot ≡ false → round_of 0 spot ≡ round_of round spot
       spot_round Tell round e = refl
@@ -166,10 +167,6 @@ module _ (work : Work) (sound : State → Type 0) (lawful : IsLawful work sound)
       spot_round (Scan r step h) round e = refl
       spot_round (Close r dense) round e = refl
       spot_round Over round e = absurd (false≢true (sym e))
-
-      and_truth : (b : Bool) → (b && true) ≡ b
-      and_truth true = refl
-      and_truth false = refl
 
   pub ready_goes : can_act (Some s) ≡ true → could_act (ring_of split (length parts)) m (Some s.at) k.taken ≡ true
   ready_goes ready =
