@@ -52,7 +52,7 @@ some_of : {X : Type 0} (o : Option X) → is_some o ≡ true → (x : X) × (o �
 some_of None e = cc
 some_of (Some x) e = (x, refl)
 
-all_words : (words : List ℤ) → ((i : ℕ) → FitsSigned w64 (word_at words i)) → AllByRecursion (FitsSigned w64) words
+pub all_words : (words : List ℤ) → ((i : ℕ) → FitsSigned w64 (word_at words i)) → AllByRecursion (FitsSigned w64) words
 all_words [] each = tt
 all_words (x ∷ xs) each = (each zero, all_words xs (λ i. each (suc i)))
 

@@ -4,11 +4,9 @@ use Rattle.std.specs.Prelude.{fold, get_or, if◌then◌else◌}
 use Rattle.std.specs.List.{AllByRecursion, filter, list_all, range_with_len}
 use Rattle.std.proofs.lemmas.Bool.{and_parts}
 use Rattle.std.proofs.lemmas.List.{length-map}
-use Rattle.std.proofs.lemmas.List.Sums.{sum_by-cons}
 use Rattle.vert_base.specs.declared.value.Combine.{Combine}
 use Rattle.vert_base.specs.declared.value.Combine.TheVariants.{First}
 use Rattle.vert_base.specs.declared.value.Row.{Row}
-use Rattle.vert_tree.specs.declared.program.Program.{Program}
 use Rattle.vert_tree.specs.declared.program.TotalDecl.{TotalDecl}
 use Rattle.vert_tree.specs.Readable.{is_total_op}
 use Rattle.vert_tree.specs.Typed.{is_typed}
