@@ -1,8 +1,8 @@
 -- The first states of machines are what the source's run says, anew and from a start.
-use Rattle.std.proofs.Common.{◌≡◌, inl, inr, ◌<◌, ◌+◌, ◌-◌, ℕ, Bool, true, false, List, [], ◌∷◌, length, map, refl, sym, ap, subst, ◌∙◌, None, Some, arith, ⊎_elim}
+use Rattle.std.proofs.Common.{◌≡◌, inl, inr, ◌<◌, ◌+◌, ◌-◌, ℕ, ℤ, Bool, true, false, List, [], ◌∷◌, length, map, refl, sym, ap, subst, ◌∙◌, None, Some, arith, ⊎_elim}
 use Rattle.std.specs.Prelude.{◌==◌, if◌then◌else◌, nat_le, slice_index, slice_index_or}
 use Rattle.std.specs.List.{AllByRecursion}
-use Rattle.std.proofs.lemmas.Bool.{cases_Bool, eq-eqb}
+use Rattle.std.proofs.lemmas.Bool.{cases_Bool, eq-eqb, true≢false}
 use Rattle.std.proofs.lemmas.Bool.Decides.{nat_tests}
 use Rattle.std.proofs.lemmas.List.{length-map}
 use Rattle.std.proofs.lemmas.List.FromFn.{get_or-map-range_with_len}
@@ -52,9 +52,6 @@ use Rattle.event_laws.specs.Events.{IsTrue, PushesAreHeld}
 use Rattle.event_laws.specs.Firsts.{FirstIsTrue, RestartedIsTrue}
 use Rattle.event_laws.specs.Runs.{IsSourceRun}
 use Rattle.event_laws.proofs.Takes.{all_words}
-
-clash : true ≡ false → ⊥
-clash e = cc
 
 no_way : (b : Bool) → (if b then false else false) ≡ true → ⊥
 no_way true e = cc
@@ -113,7 +110,10 @@ module _ (job : Job) (split : Split) (m : ℕ) (machine : m < length job.graph.e
     -- a first row in an environment
     abbrev row_in : Program → Env → Row
     row_in p env =
-        let row : Row = record { words = record { items = map (λ d. value_of d.value env) p.fields.items }; active = false }
+        let row : Row = record {
+          words = record { items = map (λ d. value_of d.value env) p.fields.items };
+          active = false;
+        }
         in
         record row { active = is_set (value_of p.start (with_row row env)) }
 
@@ -161,7 +161,7 @@ module _ (job : Job) (split : Split) (m : ℕ) (machine : m < length job.graph.e
       ideal = first_ideal;
       begun = inl refl;
       has = tt;
-      knows = λ e behind. absurd (clash (sym e));
+      knows = λ e behind. absurd (true≢false (sym e));
       pushes = λ there. tt;
     }
 
@@ -197,7 +197,8 @@ module _ (job : Job) (split : Split) (m : ℕ) (machine : m < length job.graph.e
     ideal_told : body_at_start start ≡ ideal_body resumed name
     ideal_told = ap (λ x. verdict_body (record { ruling = x.ruling; totals = x.totals })) (sym stand_is)
 
-    bodies_are : (b : Bool) → AllByRecursion (λ l. HoldsBody l.name.kind resumed restarted.at l) (if b then [] else verdict ∷ [])
+    bodies_are : (b : Bool) →
+        AllByRecursion (λ l. HoldsBody l.name.kind resumed restarted.at l) (if b then [] else verdict ∷ [])
     bodies_are true = tt
     bodies_are false = (ideal_told, tt)
 
@@ -229,6 +230,12 @@ module _ (job : Job) (split : Split) (m : ℕ) (machine : m < length job.graph.e
     early : (round : ℕ) → round + 1 ≡ q → nat_le q round ≡ false
     early round e = grind (arith, nat_tests, e)
 
+    abbrev came : ℕ → ℕ → ℕ → List ℤ
+    came v = came_words resumed m restarted.at restarted.held v
+
+    none : (v place key : ℕ) → came v place key ≡ []
+    none = closes.bare_words resumed m q restarted.held (bare (m == 0)) (stand resumed q).ruling
+
     restarted_ideal : IsIdeal resumed m restarted
     restarted_ideal = record {
       part = refl;
@@ -239,10 +246,9 @@ module _ (job : Job) (split : Split) (m : ℕ) (machine : m < length job.graph.e
       bodies = bodies_are (m == 0);
       many = length-map own (λ v. empty_partials split);
       partials = λ v lies.
-          subst (λ qs. AreFilled 0 (partial_ops split) (came_words resumed m restarted.at restarted.held v) (keys_below resumed) qs)
+          subst (AreFilled 0 (partial_ops split) (came v) (keys_below resumed))
           (sym (made_at (λ x. empty_partials split) [] v lies))
-          (closes.empty_filled 0 (partial_ops split) (came_words resumed m restarted.at restarted.held v) (keys_below resumed)
-          (λ place key. closes.bare_words resumed m q restarted.held (bare (m == 0)) (stand resumed q).ruling v place key));
+          (closes.empty_filled 0 (partial_ops split) (came v) (keys_below resumed) (none v));
       ring = λ carries.
           map_same (λ v. fresh split) (ring_held resumed m restarted.at) own
           (all_true _ (λ v. sym (closes.no_ring resumed m q v)) own);
@@ -269,7 +275,7 @@ module _ (job : Job) (split : Split) (m : ℕ) (machine : m < length job.graph.e
       ideal = restarted_ideal;
       begun = inr (omega arith);
       has = run.base;
-      knows = λ e behind. absurd (clash behind);
+      knows = λ e behind. absurd (true≢false behind);
       pushes = λ there. pushes_are (m == 0);
     }
 

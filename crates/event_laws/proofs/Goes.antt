@@ -1,8 +1,8 @@
 -- What a ready machine does, by its spot.
-use Rattle.std.proofs.Common.{◌≡◌, ◌≢◌, ◌⊎◌, inl, inr, ◌<◌, ◌≤◌, ◌+◌, ◌-◌, ◌^◌, ℕ, Bool, true, false, List, [], ◌∷◌, refl, sym, ap, subst, ◌∙◌, Option, None, Some, arith, ⊎_elim}
+use Rattle.std.proofs.Common.{◌≡◌, ◌≢◌, ◌⊎◌, inl, inr, ◌<◌, ◌≤◌, ◌+◌, ◌-◌, ◌^◌, ℕ, Bool, true, false, List, [], ◌∷◌, refl, sym, ap, subst, ◌∙◌, Some, arith, ⊎_elim}
 use Rattle.std.specs.Prelude.{◌==◌, if◌then◌else◌, is_some, map, nat_le, nat_lt}
 use Rattle.std.specs.List.{AllByRecursion, range_with_len}
-use Rattle.std.proofs.lemmas.Bool.{and_parts, eq-eqb, eqb-true, leb-true, ltb-true, cases_lt}
+use Rattle.std.proofs.lemmas.Bool.{and_parts, cases_lt, eq-eqb, eqb-true, leb-true, ltb-true, true≢false}
 use Rattle.std.proofs.lemmas.Bool.Decides.{nat_tests}
 use Rattle.vert_base.specs.declared.message.Name.{Name}
 use Rattle.vert_base.specs.declared.message.NameKind.TheVariants as kind
@@ -53,13 +53,10 @@ use Rattle.work_laws.specs.Sound.{core_sound}
 use Rattle.event_laws.specs.Events.{GoesOn, IsTrue, PushesAreHeld}
 use Rattle.event_laws.specs.Runs.{IsSourceRun}
 use Rattle.event_laws.proofs.Counts.{counted_round}
-use Rattle.event_laws.proofs.DenseRounds.{dense_round, runs_sparse}
+use Rattle.event_laws.proofs.DenseRounds.{some_of, dense_round, runs_sparse}
 use Rattle.event_laws.proofs.Onward.{onward}
 use Rattle.event_laws.proofs.SourceSees.{runs, sends_words_all, splits}
 use Rattle.event_laws.proofs.Stands.{few}
-
-clash : true ≡ false → ⊥
-clash e = cc
 
 -- what a ready machine needs is held
 all_there : (xs : List Name) (held : List Letter) → waiting_for (first_missing xs held) ≡ Ready → (x : Name) →
@@ -68,10 +65,6 @@ all_there [] held ready x has = absurd has
 all_there (y ∷ ys) held ready x (inl e) =
     subst (λ z. is_some (found z held) ≡ true) e (ready_one y ys held ready)
 all_there (y ∷ ys) held ready x (inr has) = all_there ys held (ready_rest y ys held ready) x has
-
-some_of : {X : Type 0} (o : Option X) → is_some o ≡ true → (x : X) × (o ≡ Some x)
-some_of None e = cc
-some_of (Some x) e = (x, refl)
 
 -- what a machine does: it is true behind its act, and sends ideal messages
 abbrev Acts : Source → ℕ → State → Type 0
@@ -117,7 +110,7 @@ module _ (src : Source) (run : IsSourceRun src) (m : ℕ) (machine : m < machine
       by true zero_machine ideal =
           onward src m (stood Tell 0) (record { spot = Judge 0; round = 0 })
           (ap (λ b. standing_at 0 (if b then Judge 0 else Begin 1)) zero_machine) holds refl ideal (omega arith)
-          (eqb-true m 0 zero_machine) (inr (inr (refl, refl, λ e. absurd (clash (sym e)))))
+          (eqb-true m 0 zero_machine) (inr (inr (refl, refl, λ e. absurd (true≢false (sym e)))))
       by false other ideal =
           onward src m (stood Tell 0) (record { spot = Begin 1; round = 1 })
           (ap (λ b. standing_at 0 (if b then Judge 0 else Begin 1)) other) holds refl ideal (omega arith)
@@ -327,12 +320,12 @@ module _ (src : Source) (run : IsSourceRun src) (m : ℕ) (machine : m < machine
           onward src m (stood (Close r dense) r) (record { spot = Judge r; round = r })
           (ap (λ b. standing_at r (if b then Judge r else Begin (r + 1))) zero_machine) holds refl
           (to_judge r dense holds.ideal rows reads zero_is)
-          (omega arith) zero_is (inr (inr (refl, refl, λ e. absurd (clash (sym e)))))
+          (omega arith) zero_is (inr (inr (refl, refl, λ e. absurd (true≢false (sym e)))))
       by false other =
           onward src m (stood (Close r dense) r) (record { spot = Begin (r + 1); round = r + 1 })
           (ap (λ b. standing_at r (if b then Judge r else Begin (r + 1))) other) holds refl
           (closes_and_goes_on src m r dense (stood (Close r dense) r)
-          (λ e. clash (sym (eq-eqb m 0 e) ∙ other)) holds.ideal refl rows reads)
+          (λ e. true≢false (sym (eq-eqb m 0 e) ∙ other)) holds.ideal refl rows reads)
           (omega arith) (omega arith) (inl refl)
 
   close_dense : (r : ℕ) → IsTrue src m (stood (Close r true) r) → core_sound (stood (Close r true) r) →

@@ -2,6 +2,7 @@
 use Rattle.std.proofs.Common.{◌≡◌, ◌⊎◌, inl, inr, ◌≤◌, ◌-◌, ℕ, Bool, true, false, List, [], ◌∷◌, refl, sym, ap, subst, ◌∙◌, arith, ⊎_elim}
 use Rattle.std.specs.Prelude.{◌==◌, ◌&&◌, if◌then◌else◌, is_some, nat_le, nat_lt, not}
 use Rattle.std.specs.List.{AllByRecursion}
+use Rattle.std.proofs.lemmas.Bool.{true≢false}
 use Rattle.vert_base.specs.declared.message.Name.{Name}
 use Rattle.vert_base.specs.declared.message.NameKind.TheVariants as kind
 use Rattle.vert_base.specs.declared.value.Ruling.TheVariants as ruling
@@ -26,9 +27,6 @@ use Rattle.round_laws.proofs.FoldScanHeld.{name_stays}
 use Rattle.work_laws.proofs.Moves.{acted_part, go_held}
 use Rattle.event_laws.specs.Events.{IsTrue, PushesAreHeld, ring_in}
 use Rattle.event_laws.proofs.Stands.{IsBegun}
-
-clash : true ≡ false → ⊥
-clash e = cc
 
 -- ---- spots
 begin_awaits : (x : Spot) → is_begin x ≡ true → awaits_begin x ≡ true
@@ -129,13 +127,13 @@ module _ (src : Source) (m : ℕ) (s : State) (next : Standing) (goes : (core_go
   }
     where
       knows : Leads s next → is_open next.spot ≡ true → awaits_begin next.spot ≡ false → known (core_go s) ≡ true
-      knows (inl begins) is_going behind = absurd (clash (sym (begin_awaits next.spot begins) ∙ behind))
-      knows (inr (inl over)) is_going behind = absurd (clash (sym is_going ∙ over_shut next.spot over))
+      knows (inl begins) is_going behind = absurd (true≢false (sym (begin_awaits next.spot begins) ∙ behind))
+      knows (inr (inl over)) is_going behind = absurd (true≢false (sym is_going ∙ over_shut next.spot over))
       knows (inr (inr on)) is_going behind = known_on on.0 on.1 ∙ on.2 is_going
 
       pushes : Leads s next → is_over next.spot ≡ false → PushesAreHeld src m (core_go s).at.round (core_go s).held
       pushes (inl begins) there =
           subst (PushesAreHeld src m (core_go s).at.round)
           (sym (held_none (core_go s).at.spot (acted s s.at.spot).held (ap (λ a. is_begin a.spot) goes ∙ begins))) tt
-      pushes (inr (inl over)) there = absurd (clash (sym over ∙ there))
+      pushes (inr (inl over)) there = absurd (true≢false (sym over ∙ there))
       pushes (inr (inr on)) there = pushes_on on.0 on.1 (holds.pushes going)

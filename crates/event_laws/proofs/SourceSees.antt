@@ -169,7 +169,8 @@ module _ (src : Source) (run : IsSourceRun src) (round : ℕ) (small : round < 2
       send_is u src.job.program.sparse
       ∙ ap (λ p. sends_at p.sparse (sender_at sc (slot_ops src.job.program) u)) (sym run.program)
 
-  sender_has : (u : ℕ) → u < n → HasKinds (field_kinds (program_of src.split)) (sender_at sc (slot_ops src.job.program) u)
+  sender_has : (u : ℕ) → u < n →
+      HasKinds (field_kinds (program_of src.split)) (sender_at sc (slot_ops src.job.program) u)
   sender_has u lt =
       subst (λ p. HasKinds (field_kinds p) (sender_at sc (slot_ops src.job.program) u)) (sym run.program)
       (env_has (field_kinds src.job.program) sc u (no_values (slot_ops src.job.program)) has_words (low u lt)
@@ -242,12 +243,14 @@ module _ (src : Source) (run : IsSourceRun src) (round : ℕ) (small : round < 2
     pub states_fit : (v c : ℕ) → v < n → (count : ℕ) → IsLoopState src.split (state_at src round v c count)
     states_fit v c lt zero =
         subst (λ (x : RingState). IsLoopState src.split (told_state (width_of src.split) x))
-        (sym (ap (ring_with src round v c 0) block ∙ before_all (is_set (value_of d.when_test (block_env src round v)))))
+        (sym (ap (ring_with src round v c 0) block
+        ∙ before_all (is_set (value_of d.when_test (block_env src round v)))))
         (fresh_fits src.split)
     states_fit v c lt (suc count) =
         let one : count + 1 ≡ suc count = omega arith in
         subst (λ k. IsLoopState src.split (state_at src round v c k)) one
-        (subst (IsLoopState src.split) (scan_is v c lt count).0 (step_fits v c lt count (states_fit v c lt count)).state)
+        (subst (IsLoopState src.split) (scan_is v c lt count).0
+        (step_fits v c lt count (states_fit v c lt count)).state)
 
     scan_fits : (v c : ℕ) → v < n → (step : ℕ) →
         ScanFits src.split (length (step_members src v c step)) (scan v c step)
@@ -287,7 +290,8 @@ module _ (src : Source) (run : IsSourceRun src) (round : ℕ) (small : round < 2
         (map (λ v. ideal_sent src round v m step) (updated_list src m k h))
     suits m k h step = (
       length-map (updated_list src m k h) (λ v. ideal_sent src round v m step),
-      all_map (IsSent (slot_count src.split) (length (reduced_in src.split.dense))) (λ v. ideal_sent src round v m step) (updated_list src m k h)
+      all_map (IsSent (slot_count src.split) (length (reduced_in src.split.dense)))
+          (λ v. ideal_sent src round v m step) (updated_list src m k h)
           (all_filter (λ v. IsSent (slot_count src.split) (length (reduced_in src.split.dense))
           (ideal_sent src round v m step)) _ _
           (all_filter (λ v. IsSent (slot_count src.split) (length (reduced_in src.split.dense))

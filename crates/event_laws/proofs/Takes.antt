@@ -1,8 +1,8 @@
 -- A machine that takes an ideal message in its turn, by the message's kind.
-use Rattle.std.proofs.Common.{◌≡◌, ◌≢◌, inl, inr, ◌<◌, ◌≤◌, ◌+◌, ◌-◌, ◌*◌, ◌^◌, ℕ, zero, suc, ℤ, true, false, List, [], ◌∷◌, refl, sym, ap, subst, ◌∙◌, FitsSigned, w64, Option, None, Some, arith, ⊎_elim}
+use Rattle.std.proofs.Common.{◌≡◌, ◌≢◌, inl, inr, ◌<◌, ◌≤◌, ◌+◌, ◌-◌, ◌*◌, ◌^◌, ℕ, zero, suc, ℤ, true, false, List, [], ◌∷◌, refl, sym, ap, subst, ◌∙◌, FitsSigned, w64, Some, arith, ⊎_elim}
 use Rattle.std.specs.Prelude.{◌==◌, ◌&&◌, is_some, nat_le, nat_lt}
 use Rattle.std.specs.List.{AllByRecursion, Contains}
-use Rattle.std.proofs.lemmas.Bool.{and_parts, cases_Bool, eq-eqb, eqb-true, leb-true, ltb-true}
+use Rattle.std.proofs.lemmas.Bool.{and_parts, cases_Bool, eq-eqb, eqb-true, leb-true, ltb-true, true≢false}
 use Rattle.vert_base.specs.declared.message.Name.{Name}
 use Rattle.vert_base.specs.declared.message.NameKind.{NameKind}
 use Rattle.vert_base.specs.declared.message.NameKind.TheVariants as kind
@@ -40,17 +40,10 @@ use Rattle.work_laws.specs.Sound.{core_sound}
 use Rattle.work_laws.proofs.Held.{planned_apart, shape_parts}
 use Rattle.event_laws.specs.Events.{IsInTurn, IsTrue, TakesOn, ring_in}
 use Rattle.event_laws.specs.Runs.{IsSourceRun}
-use Rattle.event_laws.proofs.DenseRounds.{runs_sparse}
+use Rattle.event_laws.proofs.DenseRounds.{some_of, runs_sparse}
 use Rattle.event_laws.proofs.SourceSees.{runs, sends_words_all, splits, suits}
 use Rattle.event_laws.proofs.Stands.{few, stands_in_words, total_length}
 use Rattle.event_laws.proofs.Took.{took_on}
-
-clash : true ≡ false → ⊥
-clash e = cc
-
-some_of : {X : Type 0} (o : Option X) → is_some o ≡ true → (x : X) × (o ≡ Some x)
-some_of None e = cc
-some_of (Some x) e = (x, refl)
 
 pub all_words : (words : List ℤ) → ((i : ℕ) → FitsSigned w64 (word_at words i)) → AllByRecursion (FitsSigned w64) words
 all_words [] each = tt
@@ -112,16 +105,18 @@ module _ (src : Source) (run : IsSourceRun src) (m : ℕ) (machine : m < machine
 
       other : x.from ≢ m
       other e =
-          clash (sym (eq-eqb x.from x.to (e ∙ sym can.here)) ∙ (planned_apart src.split p m x planned).2)
+          true≢false (sym (eq-eqb x.from x.to (e ∙ sym can.here)) ∙ (planned_apart src.split p m x planned).2)
 
       -- it has no more to do than to become ideal, unless the message is a push
-      stays : (k : NameKind) → x.kind ≡ k → (k ≡ kind.Push → ⊥) → IsIdeal src m (core_take s l) → IsTrue src m (core_take s l)
+      stays : (k : NameKind) → x.kind ≡ k → (k ≡ kind.Push → ⊥) → IsIdeal src m (core_take s l) →
+          IsTrue src m (core_take s l)
       stays k is no_push ideal =
           took_on src m s l holds can.going ideal (λ e. absurd (no_push (sym is ∙ e)))
 
       -- the round takes place
       module _ (k : NameKind) (is : x.kind ≡ k)
-          (range : is_in_range (program_of src.split).limit k x.round ≡ true → (1 ≤ x.round) × (x.round ≤ (program_of src.split).limit)) where
+          (range : is_in_range (program_of src.split).limit k x.round ≡ true →
+          (1 ≤ x.round) × (x.round ≤ (program_of src.split).limit)) where
         placed : (1 ≤ r) × (r ≤ (program_of src.split).limit)
         placed =
             subst (λ q. (1 ≤ q) × (q ≤ (program_of src.split).limit)) can.round
@@ -293,7 +288,7 @@ module _ (src : Source) (run : IsSourceRun src) (m : ℕ) (machine : m < machine
               waits unknown =
                   ⊎_elim (λ (yes : awaits_begin state.at.spot ≡ true). yes)
                   (λ (no : awaits_begin state.at.spot ≡ false).
-                  absurd (clash (sym (holds.knows going no) ∙ unknown)))
+                  absurd (true≢false (sym (holds.knows going no) ∙ unknown)))
                   (cases_Bool (awaits_begin state.at.spot))
 
       -- ---- a verdict

@@ -2,6 +2,7 @@
 use Rattle.std.proofs.Common.{◌≡◌, ◌⊎◌, inl, inr, ℕ, Bool, true, false, [], refl, sym, ap, subst, ◌∙◌}
 use Rattle.std.specs.Prelude.{◌==◌, ◌||◌, if◌then◌else◌, is_some, nat_le}
 use Rattle.std.specs.List.{AllByRecursion}
+use Rattle.std.proofs.lemmas.Bool.{true≢false}
 use Rattle.vert_base.specs.declared.message.Name.{Name}
 use Rattle.vert_base.specs.declared.message.NameKind.{NameKind}
 use Rattle.vert_base.specs.declared.message.NameKind.TheVariants as kind
@@ -27,9 +28,6 @@ use Rattle.round_laws.proofs.Held.{all_placed}
 use Rattle.work_laws.proofs.Moves.{taken_at, taken_held, taken_part}
 use Rattle.event_laws.specs.Events.{IsTrue, PushesAreHeld, ring_in}
 use Rattle.event_laws.proofs.Stands.{IsBegun}
-
-clash : true ≡ false → ⊥
-clash e = cc
 
 over_is : (x : Spot) → is_over x ≡ true → x ≡ Over
 over_is Tell e = cc
@@ -131,4 +129,4 @@ module _ (src : Source) (m : ℕ) (s : State) (l : Letter) where
           known_stays (holds.knows (ap (λ a. is_open a.spot) (sym e) ∙ is_going)
           (ap (λ a. awaits_begin a.spot) (sym e) ∙ behind))
       knows (inr e) is_going behind =
-          absurd (clash (sym is_going ∙ ap is_open (over_is (core_take s l).at.spot e.1)))
+          absurd (true≢false (sym is_going ∙ ap is_open (over_is (core_take s l).at.spot e.1)))

@@ -1,9 +1,9 @@
--- The begin of a sparse round leaves a machine as the source's run says: it works its own sends, and then each push that
--- it kept.
+-- The begin of a sparse round leaves a machine as the source's run says: it works its own sends, and then each push
+-- that it kept.
 use Rattle.std.proofs.Common.{◌≡◌, ◌≢◌, ◌⊎◌, inl, inr, ◌<◌, ◌≤◌, ◌-◌, ℕ, ℤ, Bool, true, false, List, [], ◌∷◌, ◌++◌, length, map, refl, sym, ap, subst, ◌∙◌, Option, None, Some, arith, ⊎_elim}
 use Rattle.std.specs.Prelude.{◌==◌, ◌&&◌, ◌||◌, if◌then◌else◌, is_some, nat_le, option_map, slice_index, slice_index_or}
 use Rattle.std.specs.List.{AllByRecursion}
-use Rattle.std.proofs.lemmas.Bool.{eq-eqb, eqb-true, ne_eqb}
+use Rattle.std.proofs.lemmas.Bool.{eq-eqb, eqb-true, ne_eqb, true≢false}
 use Rattle.std.proofs.lemmas.List.FromFn.{length-range_with_len}
 use Rattle.vert_base.specs.declared.message.Name.{Name}
 use Rattle.vert_base.specs.declared.message.NameKind.{NameKind}
@@ -50,9 +50,6 @@ use Rattle.round_laws.proofs.FoldPushLists.{all_told, lies_by_owner, owner_is}
 use Rattle.round_laws.proofs.FoldPushWalk.{worked_filled, worked_length}
 use Rattle.round_laws.proofs.FoldPushes.{push_starts}
 use Rattle.round_laws.proofs.FoldScanHeld.{found_emptied, found_holds, still_ahead, still_whole}
-
-clash : true ≡ false → ⊥
-clash e = cc
 
 neither : (b : Bool) → (b && false) ≡ false
 neither true = refl
@@ -128,7 +125,7 @@ module _ (src : Source) (sparse : Sparse) (most m round : ℕ) (state : State) (
             ((if b then is_some (taken k) else came u) ≡ is_some (taken (owner_of ends u))) ⊎ Has ks (owner_of ends u)
         by true its g = inl (ap (λ j. is_some (taken j)) (sym (eqb-true (owner_of ends u) k its)))
         by false other (inl is) = inl is
-        by false other (inr (inl e)) = absurd (clash (sym (eq-eqb (owner_of ends u) k (sym e)) ∙ other))
+        by false other (inr (inl e)) = absurd (true≢false (sym (eq-eqb (owner_of ends u) k (sym e)) ∙ other))
         by false other (inr (inr has)) = inr has
 
     abbrev first : ℕ → Bool
@@ -173,7 +170,7 @@ module _ (src : Source) (sparse : Sparse) (most m round : ℕ) (state : State) (
             (λ has. (has_others_cases p m k runs.machine has).1 (eqb-true k m mine))
             ∙ ap (λ b. if b then true else is_worked (taken k)) mine)
         by false other =
-            let differ : k ≢ m = λ e. clash (sym (eq-eqb k m e) ∙ other) in
+            let differ : k ≢ m = λ e. true≢false (sym (eq-eqb k m e) ∙ other) in
             let has : Has others k = has_others p m k runs.machine low differ in
             ap (λ b. if b then true else is_worked (found (of k) (emptied names state.held))) other
             ∙ all_emptied k has ∙ sym (after_in others own u (inr has))
@@ -209,8 +206,8 @@ module _ (src : Source) (sparse : Sparse) (most m round : ℕ) (state : State) (
             ((u : ℕ) → u < n → (came u && new u) ≡ false) → ((u : ℕ) → u < n → both u ≡ (came u || new u)) →
             place < length all → Filled came all → Filled both (worked s round sends s.part.push all)
         grown sends came new both all told apart union lt filled =
-            worked_filled src sparse most m s runs (begins.stands src sparse most m round state runs is knows) v lies sends
-            came new both all (push_starts ends src.job.graph.edges m) told apart union lt filled
+            worked_filled src sparse most m s runs (begins.stands src sparse most m round state runs is knows) v lies
+            sends came new both all (push_starts ends src.job.graph.edges m) told apart union lt filled
 
         -- where nothing is sent what came is the same
         idle : (sends : ℕ → Option (List ℤ)) (came both : ℕ → Bool) (all : List (List Partial)) →
@@ -242,7 +239,8 @@ module _ (src : Source) (sparse : Sparse) (most m round : ℕ) (state : State) (
           moves some ahead body =
               subst (λ x. Filled (next k came) (worked s round (told_sends s k x) s.part.push all)) (sym body)
               (grown (told_sends s k (ideal_body src (of k))) came (lies_in ends k) (next k came) all
-              (all_told src most m k runs.ends runs.machine low other round s (words k low other)) apart union lt filled)
+              (all_told src most m k runs.ends runs.machine low other round s (words k low other)) apart
+              union lt filled)
             where
               lies_is : (u : ℕ) → u < n → lies_in ends k u ≡ (owner_of ends u == k)
               lies_is u small = lies_by_owner most ends runs.ends k u low (subst (λ x. u < x) runs.sized small)
@@ -282,7 +280,8 @@ module _ (src : Source) (sparse : Sparse) (most m round : ℕ) (state : State) (
                   sized false bytes =
                       ⊎_elim
                       (λ (empty : body_of (taken k) ≡ []).
-                      absurd (clash (sym (ap (λ (b : List ℕ). length b == 0) (sym (ap body_of there) ∙ empty)) ∙ bytes)))
+                      let none : l.body ≡ [] = sym (ap body_of there) ∙ empty in
+                      absurd (true≢false (sym (ap (λ (b : List ℕ). length b == 0) none) ∙ bytes)))
                       (λ (body : body_of (taken k) ≡ ideal_body src (of k)).
                       moves some (ap is_worked there ∙ bytes) body)
                       (holds k some)
@@ -313,13 +312,14 @@ module _ (src : Source) (sparse : Sparse) (most m round : ℕ) (state : State) (
             (step k one.0 one.1 came all (before k (inl refl)) lt filled)
 
         mine_first : (u : ℕ) → u < n → (owner_of ends u == m) ≡ lies_in ends m u
-        mine_first u small = sym (lies_by_owner most ends runs.ends m u runs.machine (subst (λ x. u < x) runs.sized small))
+        mine_first u small =
+            sym (lies_by_owner most ends runs.ends m u runs.machine (subst (λ x. u < x) runs.sized small))
 
         own_filled : (all : List (List Partial)) → place < length all → Filled first all →
             Filled own (worked s round (sends_from s round) s.part.push all)
         own_filled all lt filled =
-            grown (sends_from s round) first (lies_in ends m) own all (all_true _ (λ e. sent (source e)) s.part.push) apart
-            union lt filled
+            grown (sends_from s round) first (lies_in ends m) own all
+            (all_true _ (λ e. sent (source e)) s.part.push) apart union lt filled
           where
             sent : (u : ℕ) → sends_from s round u ≡ (if lies_in ends m u then ideal_send src round u else None)
             sent u = by (lies_in ends m u) refl
@@ -386,7 +386,8 @@ module _ (src : Source) (sparse : Sparse) (most m round : ℕ) (state : State) (
             ∙ ap (λ j. is_worked (taken j)) its)
             (subst (λ x. place < x) (sym length_own) size)
             (own_filled state.partials size
-            (subst (λ ws. AreFilled 0 (partial_ops src.split) ws (keys_below src) (slice_index_or state.partials place []))
+            (subst
+            (λ ws. AreFilled 0 (partial_ops src.split) ws (keys_below src) (slice_index_or state.partials place []))
             (λ i q key. came_first q key i) (is.partials v lies)))
 
         filled_last : AreFilled 0 (partial_ops src.split) (came_words src m closing (emptied names state.held) v)
@@ -442,7 +443,8 @@ module _ (src : Source) (sparse : Sparse) (most m round : ℕ) (state : State) (
       held_on kind.Verdict l empty h = h
 
       is_push : (x : Name) → has_name x names ≡ true → x.kind ≡ kind.Push
-      is_push x named = let one = has_map_cases of others x (has_from_name x names named) in sym (ap (λ z. z.kind) one.2)
+      is_push x named =
+          let one = has_map_cases of others x (has_from_name x names named) in sym (ap (λ z. z.kind) one.2)
 
       is_named : (x : Name) → IsPushName src m round x → has_name x names ≡ true
       is_named x push =
@@ -463,7 +465,7 @@ module _ (src : Source) (sparse : Sparse) (most m round : ℕ) (state : State) (
               subst (λ q. HoldsBody q src closing (let w : Letter = record y { body = [] } in w))
               (sym (is_push y.name is)) (inl refl)
           by false is =
-              held_on y.name.kind y (λ e. absurd (clash (sym (is_named y.name (named.0 e)) ∙ is))) all.0
+              held_on y.name.kind y (λ e. absurd (true≢false (sym (is_named y.name (named.0 e)) ∙ is))) all.0
 
       same_ring : (v : ℕ) → ring_held src m at v ≡ ring_held src m closing v
       same_ring v =

@@ -98,7 +98,8 @@ none_at (suc a) b (suc place) = none_at a b place
 
 module _ (src : Source) (d : Dense) (most m : ℕ) (state : State) (given : Letter) (runs : RunsDense src d)
     (are : AreEnds most src.job.graph.ends) (sized : src.job.graph.vertices ≡ vertices_of src.job.graph.ends)
-    (machine : m < machines_of src) (split : (v : ℕ) → v < src.job.graph.vertices → IsSplit src.job.program d (block_env src state.at.round v))
+    (machine : m < machines_of src)
+    (split : (v : ℕ) → v < src.job.graph.vertices → IsSplit src.job.program d (block_env src state.at.round v))
     (u : IsUpdate src m state given) where
   abbrev ends : List ℕ
   ends = src.job.graph.ends
@@ -202,7 +203,8 @@ module _ (src : Source) (d : Dense) (most m : ℕ) (state : State) (given : Lett
         by true some = beside_is (unsent src.split) ideal list v (among true in_half ∙ some)
         by false none =
             beside_none (unsent src.split) list v (map ideal list) (among true in_half ∙ none)
-            ∙ idle v (subst (λ x. v < x) (sym sized) (lies_within most ends are m v machine lies)) (ap (λ n. members_with ends k (ins_of n edges v)) sized
+            ∙ idle v (subst (λ x. v < x) (sym sized) (lies_within most ends are m v machine lies))
+            (ap (λ n. members_with ends k (ins_of n edges v)) sized
             ∙ no_members (members_at ends edges k v) none)
 
     -- ---- halves

@@ -35,7 +35,8 @@ use Rattle.round_laws.proofs.Sums.{length-each, steps_are_machines, sum_none, su
 
 module _ (src : Source) (most round : ℕ) (are : AreEnds most src.job.graph.ends)
     (sized : src.job.graph.vertices ≡ vertices_of src.job.graph.ends)
-    (split : (d : Dense) (v : ℕ) → v < src.job.graph.vertices → src.job.program.dense ≡ Some d → IsSplit src.job.program d (block_env src round v))
+    (split : (d : Dense) (v : ℕ) → v < src.job.graph.vertices → src.job.program.dense ≡ Some d →
+    IsSplit src.job.program d (block_env src round v))
   where
     abbrev ends : List ℕ
     ends = src.job.graph.ends
@@ -63,7 +64,11 @@ module _ (src : Source) (most round : ℕ) (are : AreEnds most src.job.graph.end
       all = members_of src.job.graph v
 
       small : v < src.job.graph.vertices
-      small = let top = chunk_within most ends are c chunk in let high = here.1 in let all = sized in omega (arith, top, high, all)
+      small =
+          let top = chunk_within most ends are c chunk in
+          let high = here.1 in
+          let all = sized in
+          omega (arith, top, high, all)
 
       -- what the machines of the steps read, one after another
       steps_read : (o : Option Dense) → src.job.program.dense ≡ o →
