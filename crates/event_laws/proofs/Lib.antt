@@ -3,3 +3,6 @@ pub mod Runs
 pub mod Stands
 pub mod SourceSees
 pub mod Counts
+pub mod DenseRounds
+pub mod Onward
+pub mod Goes
