@@ -1,26 +1,22 @@
 -- The counts of a round fit their bytes.
-use Rattle.std.proofs.Common.{◌≡◌, ◌⊎◌, ◌<◌, ◌≤◌, ◌+◌, ◌-◌, ◌^◌, ℕ, ℤ, Bool, true, false, List, [], length, map, All, refl, sym, ap, subst, ◌∙◌, Option, None, Some, arith, mod-lt, ⊎_elim}
-use Rattle.std.specs.Prelude.{if◌then◌else◌, nat_le, slice_index, sum}
-use Rattle.std.specs.List.{AllByRecursion}
+use Rattle.std.proofs.Common.{◌≡◌, ◌<◌, ◌≤◌, ◌+◌, ◌-◌, ◌^◌, ℕ, Bool, true, false, List, [], length, map, refl, sym, ap, subst, ◌∙◌, Option, None, Some, arith, mod-lt}
+use Rattle.std.specs.Prelude.{if◌then◌else◌, nat_le, slice_index}
 use Rattle.std.proofs.lemmas.List.{length-map}
 use Rattle.vert_base.specs.declared.graph.Edge.{Edge}
 use Rattle.vert_base.specs.declared.value.Row.{Row}
 use Rattle.vert_base.specs.declared.value.Ruling.{Ruling}
 use Rattle.vert_base.specs.declared.value.Ruling.TheVariants as ruling
 use Rattle.vert_base.specs.Ends.{start_of}
-use Rattle.vert_base.specs.Neighbours.{ins_of, target}
+use Rattle.vert_base.specs.Neighbours.{ins_of}
 use Rattle.vert_tree.specs.declared.program.Dense.{Dense}
 use Rattle.vert_tree.specs.Kinds.{kinds_of}
-use Rattle.vert_tree.proofs.TypedLaws.{few_rounds}
 use Rattle.word_kinds.specs.Fits.{IsRow}
 use Rattle.value_laws.proofs.Rounds.{row_count, row_words}
 use Rattle.vert_eval.specs.Rounds.{row_at}
-use Rattle.vert_eval.specs.SourceRun.{Job}
 use Rattle.chunk_split.specs.Chunks.{vertices_of}
 use Rattle.circulant_plan.specs.Ring.{chunk_of, members_with, order_of}
 use Rattle.circulant_plan.proofs.CircleLaws.{each_ring_turns, step_of_chunk}
 use Rattle.body_shape.specs.Tally.{IsCounted, SuitsTally}
-use Rattle.symple_face.specs.CoreJudge.{counted}
 use Rattle.symple_face.specs.CoreSight.{program_of, targets_of, total_count}
 use Rattle.symple_face.specs.Ideal.{ideal_count, ideal_ran, ideal_reads, machines_of, members_in, owner_of, ran_with, reads_by}
 use Rattle.symple_face.specs.Parts.{PlainPart, chunk_vertices}
@@ -38,7 +34,6 @@ use Rattle.work_laws.proofs.Counts.{counted_suits, reads_few}
 use Rattle.work_laws.proofs.Partials.{over_range}
 use Rattle.work_laws.proofs.Sees.{within_map}
 use Rattle.std.proofs.lemmas.List.Elements.{All-filter, All-map}
-use Rattle.std.proofs.lemmas.List.FromFn.{length-range_with_len}
 use Rattle.event_laws.specs.Runs.{IsSourceRun}
 use Rattle.event_laws.proofs.SourceSees.{reads_few as source_reads_few}
 use Rattle.event_laws.proofs.Stands.{IsBegun, after_is, few, fitting, stands_in_words}

@@ -1,8 +1,8 @@
 -- What a ready machine does, by its spot.
 use Rattle.std.proofs.Common.{◌≡◌, ◌≢◌, ◌⊎◌, inl, inr, ◌<◌, ◌≤◌, ◌+◌, ◌-◌, ◌^◌, ℕ, Bool, true, false, List, [], ◌∷◌, refl, sym, ap, subst, ◌∙◌, Option, None, Some, arith, ⊎_elim}
-use Rattle.std.specs.Prelude.{◌==◌, ◌&&◌, if◌then◌else◌, is_some, map, nat_le, nat_lt}
+use Rattle.std.specs.Prelude.{◌==◌, if◌then◌else◌, is_some, map, nat_le, nat_lt}
 use Rattle.std.specs.List.{AllByRecursion, range_with_len}
-use Rattle.std.proofs.lemmas.Bool.{and_parts, cases_Bool, eq-eqb, eqb-true, leb-true, ltb-true, cases_lt}
+use Rattle.std.proofs.lemmas.Bool.{and_parts, eq-eqb, eqb-true, leb-true, ltb-true, cases_lt}
 use Rattle.std.proofs.lemmas.Bool.Decides.{nat_tests}
 use Rattle.vert_base.specs.declared.message.Name.{Name}
 use Rattle.vert_base.specs.declared.message.NameKind.TheVariants as kind
@@ -14,11 +14,10 @@ use Rattle.vert_tree.specs.declared.program.Sparse.{Sparse}
 use Rattle.vert_eval.specs.Rounds.{row_at}
 use Rattle.circulant_plan.specs.declared.spot.Spot.{Spot}
 use Rattle.circulant_plan.specs.declared.spot.Spot.TheVariants.{Tell, Judge, Begin, Scan, Close, Over}
-use Rattle.circulant_plan.specs.Deliveries.{HasSpot}
 use Rattle.circulant_plan.specs.Names.{push_name, update_name, verdict_name}
 use Rattle.circulant_plan.specs.Ring.{order_of}
 use Rattle.circulant_plan.specs.Skeleton.{may_rule}
-use Rattle.circulant_plan.specs.Standing.{Standing, first_standing, round_of, standing_at}
+use Rattle.circulant_plan.specs.Standing.{round_of, standing_at}
 use Rattle.circulant_plan.specs.Table.{after_begin, after_judge, others_of, updates_to}
 use Rattle.circulant_plan.proofs.Members.{Has, has_flat_map, has_map, has_others, has_range}
 use Rattle.symple_face.specs.declared.action.Action.TheVariants.{Ready}
@@ -27,7 +26,6 @@ use Rattle.symple_face.specs.CoreJudge.{core_judge}
 use Rattle.symple_face.specs.CoreSight.{known, program_of}
 use Rattle.symple_face.specs.CoreWork.{core_go}
 use Rattle.symple_face.specs.Ideal.{ideal_reads, machines_of}
-use Rattle.symple_face.specs.Lawful.{is_begin}
 use Rattle.symple_face.specs.Parts.{chunk_vertices}
 use Rattle.symple_face.specs.Plans.{blocks_of}
 use Rattle.symple_face.specs.PartsOf.{part_of}

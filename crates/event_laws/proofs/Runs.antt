@@ -1,10 +1,10 @@
 -- The parts of a graph that can run a program have a run of the source.
-use Rattle.std.proofs.Common.{◌≡◌, ◌<◌, ◌≤◌, ◌+◌, ◌^◌, ℕ, zero, suc, List, length, map, All, refl, sym, ap, subst, ◌∙◌, arith, ⊎_elim}
+use Rattle.std.proofs.Common.{◌≡◌, ◌<◌, ◌≤◌, ◌+◌, ℕ, zero, suc, List, length, map, All, refl, ap, subst, ◌∙◌, arith, ⊎_elim}
 use Rattle.std.specs.List.{AllByRecursion, range_with_len}
 use Rattle.std.proofs.lemmas.Bool.{cases_lt}
 use Rattle.std.proofs.lemmas.List.{length-map}
 use Rattle.std.proofs.lemmas.List.Elements.{recursion_from_All}
-use Rattle.vert_eval.specs.SourceRun.{Job, first_rows, standing_after}
+use Rattle.vert_eval.specs.SourceRun.{Job}
 use Rattle.chunk_split.specs.Chunks.{vertices_of}
 use Rattle.word_kinds.specs.Fits.{IsSized}
 use Rattle.value_laws.proofs.WholeRuns.{begins_in_words, edges_sized}
@@ -13,9 +13,7 @@ use Rattle.symple_face.specs.Cluster.{IsOneRun}
 use Rattle.symple_face.specs.Lawful.{CanRun}
 use Rattle.symple_face.specs.Parts.{PlainPart}
 use Rattle.symple_face.specs.PartsOf.{part_of}
-use Rattle.symple_face.specs.Restarts.{IsStart}
 use Rattle.symple_face.specs.Source.{job_of}
-use Rattle.symple_face.specs.Work.{PlainStart}
 use Rattle.work_laws.proofs.Sights.{all_fit_at}
 use Rattle.event_laws.specs.Runs.{FreshIsARun, ResumedIsARun}
 
@@ -28,21 +26,21 @@ each_made P f a (suc n) all m low high =
     (cases_lt a m)
 
 module _ (split : Split) (parts : List PlainPart) (one : IsOneRun parts) (all : All (λ part. CanRun part split) parts)
-    where
-  abbrev job : Job
-  job = job_of split one.ends one.draws one.edges
+  where
+    abbrev job : Job
+    job = job_of split one.ends one.draws one.edges
 
-  can_run : (m : ℕ) → m < length one.ends → CanRun (part_of one.ends one.draws one.edges m) split
-  can_run m lt =
-      each_made (λ part. CanRun part split) (part_of one.ends one.draws one.edges) 0 (length one.ends)
-      (recursion_from_All (λ part. CanRun part split) _ (subst (All (λ part. CanRun part split)) one.parts_are all)) m
-      (omega arith) (omega (arith, lt))
+    can_run : (m : ℕ) → m < length one.ends → CanRun (part_of one.ends one.draws one.edges m) split
+    can_run m lt =
+        each_made (λ part. CanRun part split) (part_of one.ends one.draws one.edges) 0 (length one.ends)
+        (recursion_from_All (λ part. CanRun part split) _ (subst (All (λ part. CanRun part split)) one.parts_are all)) m
+        (omega arith) (omega (arith, lt))
 
-  sized : IsSized job.graph
-  sized =
-      let within = one.within in
-      let few = one.few in
-      edges_sized job.graph (omega (arith, within)) (omega (arith, few)) one.below one.weights
+    sized : IsSized job.graph
+    sized =
+        let within = one.within in
+        let few = one.few in
+        edges_sized job.graph (omega (arith, within)) (omega (arith, few)) one.below one.weights
 
 pub fresh_is_a_run : FreshIsARun
 fresh_is_a_run split parts one all =

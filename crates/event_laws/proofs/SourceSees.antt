@@ -1,13 +1,13 @@
 -- What the source's run does in a round are words, since it is what a machine does that sees the source's rows.
-use Rattle.std.proofs.Common.{◌≡◌, ◌<◌, ◌≤◌, ◌+◌, ◌-◌, ◌^◌, ℕ, zero, suc, ℤ, Bool, true, false, List, [], ◌∷◌, length, map, All, refl, sym, ap, subst, ◌∙◌, Option, None, Some, option_map, FitsSigned, w64, pos, arith}
-use Rattle.std.specs.Prelude.{◌&&◌, ◌==◌, if◌then◌else◌, replicate}
-use Rattle.std.specs.List.{AllByRecursion, filter, list_any, range_with_len}
+use Rattle.std.proofs.Common.{◌≡◌, ◌<◌, ◌≤◌, ◌+◌, ◌^◌, ℕ, zero, suc, ℤ, Bool, true, false, List, [], ◌∷◌, length, map, All, refl, sym, ap, subst, ◌∙◌, Option, None, Some, option_map, FitsSigned, w64, arith}
+use Rattle.std.specs.Prelude.{◌&&◌, ◌==◌, if◌then◌else◌}
+use Rattle.std.specs.List.{AllByRecursion, filter}
 use Rattle.std.proofs.lemmas.Option.{same_Some}
 use Rattle.std.proofs.lemmas.List.{length-map}
 use Rattle.std.proofs.lemmas.List.Elements.{All-filter}
 use Rattle.vert_base.specs.declared.graph.Edge.{Edge}
 use Rattle.vert_base.specs.declared.value.ValueType.{ValueType}
-use Rattle.vert_base.specs.Neighbours.{ins_of, source, target}
+use Rattle.vert_base.specs.Neighbours.{source, target}
 use Rattle.vert_base.proofs.Orders.{All-in_order}
 use Rattle.vert_tree.specs.declared.program.Dense.{Dense}
 use Rattle.vert_tree.specs.declared.program.Sparse.{Sparse}
@@ -37,8 +37,8 @@ use Rattle.symple_face.specs.CoreScan.{Scanned, scanned}
 use Rattle.symple_face.specs.CoreSight.{program_of}
 use Rattle.symple_face.specs.CoreSparse.{sends_at}
 use Rattle.symple_face.specs.CoreTakes.{slot_count}
-use Rattle.symple_face.specs.Ideal.{block_env, ideal_ran, ideal_send, ideal_sent, machines_of, members_in, ring_with, send_with, state_at, told_state}
-use Rattle.symple_face.specs.Parts.{push_list, refresh_list}
+use Rattle.symple_face.specs.Ideal.{block_env, ideal_ran, ideal_send, ideal_sent, members_in, ring_with, send_with, state_at, told_state}
+use Rattle.symple_face.specs.Parts.{push_list}
 use Rattle.symple_face.specs.Ring.{RingState, Fresh}
 use Rattle.symple_face.specs.Shapes.{reduced_in}
 use Rattle.symple_face.specs.Sight.{Sight}

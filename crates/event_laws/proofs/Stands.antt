@@ -1,19 +1,12 @@
 -- What stands before each round of a run: words, totals of their number, and what follows of its rows.
-use Rattle.std.proofs.Common.{◌≡◌, ◌⊎◌, inl, inr, ◌<◌, ◌≤◌, ◌+◌, ◌-◌, ◌*◌, ◌^◌, ℕ, zero, suc, ℤ, Bool, true, false, List, length, map, refl, sym, ap, subst, ◌∙◌, arith, ⊎_elim}
-use Rattle.std.specs.Prelude.{if◌then◌else◌, nat_le, sum}
-use Rattle.std.specs.List.{All}
+use Rattle.std.proofs.Common.{◌≡◌, ◌⊎◌, inl, inr, ◌<◌, ◌≤◌, ◌+◌, ◌-◌, ◌^◌, ℕ, zero, suc, length, refl, sym, ap, subst, ◌∙◌, arith, ⊎_elim}
 use Rattle.std.proofs.lemmas.Bool.{cases_lt}
 use Rattle.std.proofs.lemmas.List.{length-map}
-use Rattle.std.proofs.lemmas.List.FromFn.{length-range_with_len}
-use Rattle.vert_base.specs.declared.value.Row.{Row}
-use Rattle.vert_tree.specs.Kinds.{kinds_of}
 use Rattle.vert_tree.proofs.TypedLaws.{few_rounds}
-use Rattle.word_kinds.specs.Fits.{IsFitting, IsRow, StandsInWords}
+use Rattle.word_kinds.specs.Fits.{IsFitting, StandsInWords}
 use Rattle.value_laws.proofs.WholeRuns.{goes_on_in_words}
-use Rattle.vert_eval.specs.Rounds.{row_after, row_at, vertices_of}
-use Rattle.vert_eval.specs.SourceRun.{next_standing, scene_before, standing_after, totals_after}
-use Rattle.symple_face.specs.CoreSight.{program_of, total_count}
-use Rattle.symple_face.specs.Ideal.{machines_of}
+use Rattle.vert_eval.specs.SourceRun.{standing_after}
+use Rattle.symple_face.specs.CoreSight.{total_count}
 use Rattle.symple_face.specs.Source.{Source, stand, stand_after}
 use Rattle.event_laws.specs.Runs.{IsSourceRun}
 

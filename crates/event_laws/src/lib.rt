@@ -3,4 +3,4 @@
 
 mod laws;
 
-pub use laws::{events_go_on, first_states_are_true, runs_of_parts};
+pub use laws::{events_go_on, runs_of_parts};

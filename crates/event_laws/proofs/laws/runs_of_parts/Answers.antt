@@ -1,7 +1,3 @@
-use Rattle.event_laws.proofs.Goes.{goes_on}
-use Rattle.event_laws.proofs.Onward.{onward}
-use Rattle.event_laws.proofs.DenseRounds.{dense_round}
-use Rattle.event_laws.proofs.Counts.{counted_round}
 use Rattle.event_laws.proofs.Runs.{fresh_is_a_run, resumed_is_a_run}
 use Rattle.event_laws.proofs.laws.runs_of_parts.Goals as goal
 
