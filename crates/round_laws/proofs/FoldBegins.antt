@@ -1,5 +1,5 @@
 -- The begin of a dense round leaves a machine as the source's run says, and what it sends of a sparse one is ideal.
-use Rattle.std.proofs.Common.{◌≡◌, ◌≢◌, ◌<◌, ◌≤◌, ◌+◌, ◌-◌, ◌*◌, ℕ, zero, suc, ℤ, Bool, true, false, List, [], ◌∷◌, ◌++◌, length, map, refl, sym, ap, subst, ◌∙◌, Option, None, Some, arith, ⊎_elim}
+use Rattle.std.proofs.Common.{◌≡◌, ◌≢◌, ◌<◌, ◌+◌, ◌-◌, ◌*◌, ℕ, zero, suc, ℤ, Bool, true, false, List, [], ◌∷◌, ◌++◌, length, map, refl, sym, ap, subst, ◌∙◌, Option, None, Some, arith, ⊎_elim}
 use Rattle.std.specs.Prelude.{◌==◌, ◌&&◌, ◌||◌, if◌then◌else◌, is_some, nat_lt, replicate, slice_index, slice_index_or}
 use Rattle.std.specs.List.{AllByRecursion}
 use Rattle.std.proofs.lemmas.Bool.{cases_Bool, ne_eqb}
@@ -37,7 +37,7 @@ use Rattle.symple_face.specs.Parts.{chunk_vertices, push_list}
 use Rattle.symple_face.specs.PartsOf.{part_of, push_of}
 use Rattle.vert_tree.specs.Places.{sends_in}
 use Rattle.symple_face.specs.Source.{Source, scene, stand}
-use Rattle.symple_face.specs.State.{State, machine}
+use Rattle.symple_face.specs.State.{State}
 use Rattle.symple_face.proofs.ChunkLaws.{lies_is}
 use Rattle.symple_face.proofs.ListLaws.{other_list}
 use Rattle.round_laws.specs.FoldBegins.{BeginsDense, SendsPushes}
@@ -74,7 +74,7 @@ untold s k u =
     (push_missing (length vertices) (length (sends_in (program_of s.split).sparse)) 0).0
     ∙ beside_nones u (length vertices) vertices
 
-unworked : (s : State) (r : ℕ) (sends : ℕ → Option (List ℤ)) → ((u : ℕ) → sends u ≡ None) → (es : List Edge)
+pub unworked : (s : State) (r : ℕ) (sends : ℕ → Option (List ℤ)) → ((u : ℕ) → sends u ≡ None) → (es : List Edge)
     (all : List (List Partial)) → worked s r sends es all ≡ all
 unworked s r sends none [] all = refl
 unworked s r sends none (e ∷ es) all =
@@ -106,16 +106,16 @@ module _ (src : Source) (m round : ℕ) (state : State) where
   abbrev ends : List ℕ
   ends = src.job.graph.ends
 
-  abbrev at : Standing
+  abbrev pub at : Standing
   at = record { spot = Begin round; round = round }
 
   abbrev scanning : Standing
   scanning = record { spot = Scan round 0 0; round = round }
 
-  abbrev s : State
+  abbrev pub s : State
   s = record state { part = part_of ends src.job.draws src.job.graph.edges m; split = src.split; at = at }
 
-  state_is : IsIdeal src m state → state.at ≡ at → state ≡ s
+  pub state_is : IsIdeal src m state → state.at ≡ at → state ≡ s
   state_is is there = λ i. record state { part = is.part i; split = is.split i; at = there i }
 
   -- ---- a dense round
@@ -232,62 +232,63 @@ begins_dense src m round state lt is begins dense none =
     (subst (IsIdeal src m) (sym (goes src m round state dense none rules)) (begun src m round state dense none ideal))
 
 -- ---- what is sent in a sparse round
-module _ (src : Source) (sparse : Sparse) (most m k round : ℕ) (state : State) (runs : RunsSparse src sparse most m)
-    (receiver : k < machines_of src) (other : k ≢ m) where
-  abbrev sending : State
-  sending = s src m round state
+module _ (src : Source) (sparse : Sparse) (most m round : ℕ) (state : State) (runs : RunsSparse src sparse most m)
+  where
+    abbrev sending : State
+    sending = s src m round state
 
-  abbrev sc : Scene
-  sc = scene src round
+    abbrev sc : Scene
+    sc = scene src round
 
-  abbrev list : List ℕ
-  list = push_list src.job.graph.ends m k src.job.graph.edges
+    module _ (is : IsIdeal src m sending) (knows : known sending ≡ true) where
+      pub stands : StandsIn m sending sc
+      stands = record {
+        machine = runs.machine;
+        part = refl;
+        sized = runs.sized;
+        rows = is.rows;
+        totals = is.totals knows;
+      }
 
-  module _ (is : IsIdeal src m sending) (knows : known sending ≡ true) where
-    stands : StandsIn m sending sc
-    stands = record {
-      machine = runs.machine;
-      part = refl;
-      sized = runs.sized;
-      rows = is.rows;
-      totals = is.totals knows;
-    }
+      -- what an own vertex sends is what the source says
+      pub own_is : (u : ℕ) → lies_in src.job.graph.ends m u ≡ true → own_sends sending round u ≡ ideal_send src round u
+      own_is u lies =
+          let seen = own_are_seen most m sending sc runs.ends stands in
+          ap (sends_at (program_of src.split).sparse)
+          (seen_environment (own_sight sending round) sc u 0 (none src.split) seen.0 (seen.1 u lies))
+          ∙ ap (λ o. sends_at o (env_at sc u (none src.split))) (ap (λ x. x.sparse) runs.program ∙ runs.block)
+          ∙ sym (sends_are src sparse most m sending runs u)
 
-    -- what an own vertex sends is what the source says
-    own_is : (u : ℕ) → lies_in src.job.graph.ends m u ≡ true → own_sends sending round u ≡ ideal_send src round u
-    own_is u lies =
-        let seen = own_are_seen most m sending sc runs.ends stands in
-        ap (sends_at (program_of src.split).sparse)
-        (seen_environment (own_sight sending round) sc u 0 (none src.split) seen.0 (seen.1 u lies))
-        ∙ ap (λ o. sends_at o (env_at sc u (none src.split))) (ap (λ x. x.sparse) runs.program ∙ runs.block)
-        ∙ sym (sends_are src sparse most m sending runs u)
+      abbrev IsOwn : ℕ → Type 0
+      IsOwn u = own_sends sending round u ≡ ideal_send src round u
 
-    abbrev IsOwn : ℕ → Type 0
-    IsOwn u = own_sends sending round u ≡ ideal_send src round u
+      module _ (k : ℕ) (receiver : k < machines_of src) (other : k ≢ m) where
+        abbrev list : List ℕ
+        list = push_list src.job.graph.ends m k src.job.graph.edges
 
-    all_own : AllByRecursion IsOwn list
-    all_own =
-        let a : ℕ = start_of src.job.graph.ends m in
-        let b : ℕ = slice_index src.job.graph.ends m in
-        subst (AllByRecursion IsOwn)
-        (sym (pushed_law most src.job.graph.ends src.job.graph.edges k m runs.ends receiver runs.machine))
-        (all_filter IsOwn
-        (λ u. are_some (bucket source u (push_of src.job.graph.ends src.job.graph.edges k)))
-        (chunk_vertices src.job.graph.ends m)
-        (all_range IsOwn a (b - a)
-        (λ u low high. own_is u (lies_is a b u low (omega (arith, low, high))))))
+        all_own : AllByRecursion IsOwn list
+        all_own =
+            let a : ℕ = start_of src.job.graph.ends m in
+            let b : ℕ = slice_index src.job.graph.ends m in
+            subst (AllByRecursion IsOwn)
+            (sym (pushed_law most src.job.graph.ends src.job.graph.edges k m runs.ends receiver runs.machine))
+            (all_filter IsOwn
+            (λ u. are_some (bucket source u (push_of src.job.graph.ends src.job.graph.edges k)))
+            (chunk_vertices src.job.graph.ends m)
+            (all_range IsOwn a (b - a)
+            (λ u low high. own_is u (lies_is a b u low (omega (arith, low, high))))))
 
-    push_ideal : sent_at sending (Begin round) (push_name round m k) ≡ ideal_body src (push_name round m k)
-    push_ideal =
-        ap (λ us. push_body (map (own_sends sending round) us))
-        (other_list (machines_of src) m k (λ j. push_list src.job.graph.ends m j src.job.graph.edges) receiver
-        (ne_eqb k m other))
-        ∙ ap push_body (map_same (own_sends sending round) (ideal_send src round) list all_own)
+        push_ideal : sent_at sending (Begin round) (push_name round m k) ≡ ideal_body src (push_name round m k)
+        push_ideal =
+            ap (λ us. push_body (map (own_sends sending round) us))
+            (other_list (machines_of src) m k (λ j. push_list src.job.graph.ends m j src.job.graph.edges) receiver
+            (ne_eqb k m other))
+            ∙ ap push_body (map_same (own_sends sending round) (ideal_send src round) list all_own)
 
 pub sends_pushes : SendsPushes
 sends_pushes src sparse most m k round state runs receiver other is begins =
     let t : State = s src m round state in
     let same : state ≡ t = state_is src m round state is begins.spot in
     subst (λ x. sent_at x x.at.spot (push_name round m k) ≡ ideal_body src (push_name round m k)) (sym same)
-    (push_ideal src sparse most m k round state runs receiver other (subst (IsIdeal src m) same is)
-    (ap known (sym same) ∙ begins.knows))
+    (push_ideal src sparse most m round state runs (subst (IsIdeal src m) same is)
+    (ap known (sym same) ∙ begins.knows) k receiver other)

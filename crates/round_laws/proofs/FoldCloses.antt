@@ -1,18 +1,19 @@
 -- The close of a round leaves a machine other than 0 as the source's run says.
 use Rattle.std.proofs.Common.{◌≡◌, ◌≢◌, ◌≤◌, ◌<◌, ◌+◌, ◌-◌, ◌*◌, ℕ, ℤ, Bool, true, false, List, [], ◌∷◌, map, refl, sym, ap, subst, ◌∙◌, Option, None, Some, arith}
-use Rattle.std.specs.Prelude.{◌==◌, ◌&&◌, if◌then◌else◌, nat_le, nat_lt, slice_index}
+use Rattle.std.specs.Prelude.{◌==◌, ◌&&◌, if◌then◌else◌, is_some, nat_le, nat_lt, slice_index}
 use Rattle.std.specs.List.{flat_map}
 use Rattle.std.proofs.lemmas.Bool.{ne_eqb}
 use Rattle.std.proofs.lemmas.Bool.Decides.{nat_tests}
 use Rattle.std.proofs.Math.Nat.{mod-lt}
 use Rattle.std.proofs.lemmas.List.{length-map}
 use Rattle.std.proofs.lemmas.List.FromFn.{get_or-map-range_with_len}
+use Rattle.vert_base.specs.declared.message.Name.{Name}
 use Rattle.vert_base.specs.declared.message.NameKind.{NameKind}
 use Rattle.vert_base.specs.declared.message.NameKind.TheVariants as kind
 use Rattle.vert_base.specs.declared.value.Combine.{Combine}
 use Rattle.vert_base.specs.declared.value.Ruling.{Ruling}
 use Rattle.vert_base.specs.declared.value.Ruling.TheVariants as ruling
-use Rattle.vert_base.specs.Letters.{Letter}
+use Rattle.vert_base.specs.Letters.{Letter, found}
 use Rattle.vert_base.specs.Neighbours.{source, turn_of}
 use Rattle.vert_tree.specs.declared.program.Sparse.{Sparse}
 use Rattle.slot_merge.specs.Combine.{words_for}
@@ -22,7 +23,8 @@ use Rattle.slot_merge.proofs.FillLaws.{begins_empty}
 use Rattle.vert_eval.specs.Rounds.{emitted_over, env_at, members_of, row_at, slot_ops}
 use Rattle.graph_table.proofs.FilterLaws.{all_true, all_weaker, filter_none, map_same}
 use Rattle.circulant_plan.specs.declared.spot.Spot.TheVariants.{Begin, Close, Judge}
-use Rattle.circulant_plan.specs.Ring.{chunk_of, lies_in}
+use Rattle.circulant_plan.specs.Names.{push_name, update_name}
+use Rattle.circulant_plan.specs.Ring.{chunk_of, lies_in, order_of}
 use Rattle.vert_base.specs.Ends.{start_of}
 use Rattle.circulant_plan.specs.Standing.{Standing, standing_at}
 use Rattle.circulant_plan.proofs.ReadingLaws.{not_below}
@@ -40,7 +42,7 @@ use Rattle.symple_face.specs.Source.{Source, scene, stand}
 use Rattle.symple_face.specs.State.{State}
 use Rattle.symple_face.proofs.ChunkLaws.{lies_high, lies_low}
 use Rattle.round_laws.specs.FoldCloses.{ClosesAndGoesOn, ClosesToJudge, DenseReadsAreIdeal, SparseReadsAreIdeal}
-use Rattle.round_laws.specs.IsIdeal.{HoldsBody, IsIdeal, came_words, half_at, is_dense, is_past, keys_below, reads_held, ring_held, sends_came, sparse_words, step_came, words_by}
+use Rattle.round_laws.specs.IsIdeal.{HoldsBody, IsIdeal, came_words, half_at, is_dense, is_past, is_worked, keys_below, reads_held, ring_held, sends_came, sparse_words, step_came, words_by}
 use Rattle.round_laws.specs.Partials.{partial_ops, sent_words}
 use Rattle.round_laws.proofs.FoldScanHeld.{still_ahead}
 use Rattle.round_laws.proofs.IdealClose.{half_low}
@@ -75,28 +77,39 @@ module _ (src : Source) (m round : ℕ) where
   nothing_past : (step h : ℕ) → is_past begin step h ≡ false
   nothing_past step h = not_below (256 * round + (1 + 2 * step + h)) (256 * round + 0) (omega arith)
 
-  no_step : (v key : ℕ) → step_came src m begin [] v key ≡ false
-  no_step v key =
-      neither (nat_lt (key + 1) (machines_of src)) (key + 1 == machines_of src) (is_past begin key (half_at src m v))
-      (nothing_past key (half_at src m v))
+  -- and no words came where of messages the verdict alone was taken
+  module _ (held : List Letter) (bare : (x : Name) → (x.kind ≡ kind.Verdict → ⊥) → found x held ≡ None) where
+    no_step : (v key : ℕ) → step_came src m begin held v key ≡ false
+    no_step v key =
+        ap (λ o. if nat_lt (key + 1) (machines_of src) then is_some o
+        else key + 1 == machines_of src && is_past begin key (half_at src m v))
+        (bare (update_name round key (half_at src m v) (order_of m key (machines_of src)) m) (λ e. cc))
+        ∙ neither (nat_lt (key + 1) (machines_of src)) (key + 1 == machines_of src)
+        (is_past begin key (half_at src m v)) (nothing_past key (half_at src m v))
 
-  no_sends : (u : ℕ) → sends_came src m begin [] u ≡ false
-  no_sends u = no_way (owner_of src.job.graph.ends u == m)
+    no_sends : (u : ℕ) → sends_came src m begin held u ≡ false
+    no_sends u =
+        ap (λ o. if owner_of src.job.graph.ends u == m then false else is_worked o)
+        (bare (push_name round (owner_of src.job.graph.ends u) m) (λ e. cc))
+        ∙ no_way (owner_of src.job.graph.ends u == m)
 
-  no_pushes : (o : Option Sparse) (v place key : ℕ) → sparse_words o src m begin [] v place key ≡ []
-  no_pushes None v place key = refl
-  no_pushes (Some sparse) v place key =
-      ap (λ es. words_for place (flat_map (emitted_over (scene src round) (slot_ops (program_of src.split)) sparse
-      (env_at (scene src round) v (none src.split))) es))
-      (filter_none _ (members_of (scene src round).graph v)
-      (all_true _ (λ e. and_none (key_of src.job.graph.vertices (turn_of src.job.graph.ends v) (source e) == key)
-      (sends_came src m begin [] (source e)) (no_sends (source e))) (members_of (scene src round).graph v)))
+    no_pushes : (o : Option Sparse) (v place key : ℕ) → sparse_words o src m begin held v place key ≡ []
+    no_pushes None v place key = refl
+    no_pushes (Some sparse) v place key =
+        ap (λ es. words_for place (flat_map (emitted_over (scene src round) (slot_ops (program_of src.split)) sparse
+        (env_at (scene src round) v (none src.split))) es))
+        (filter_none _ (members_of (scene src round).graph v)
+        (all_true _ (λ e. and_none (key_of src.job.graph.vertices (turn_of src.job.graph.ends v) (source e) == key)
+        (sends_came src m begin held (source e)) (no_sends (source e))) (members_of (scene src round).graph v)))
+
+    pub bare_words : (q : Ruling) (v place key : ℕ) → words_by q src m begin held v place key ≡ []
+    bare_words ruling.Stop v place key = refl
+    bare_words ruling.Dense v place key =
+        ap (λ b. if b then sent_words (ideal_sent src round v m key) place else []) (no_step v key)
+    bare_words ruling.Sparse v place key = no_pushes (program_of src.split).sparse v place key
 
   pub no_words : (q : Ruling) (v place key : ℕ) → words_by q src m begin [] v place key ≡ []
-  no_words ruling.Stop v place key = refl
-  no_words ruling.Dense v place key =
-      ap (λ b. if b then sent_words (ideal_sent src round v m key) place else []) (no_step v key)
-  no_words ruling.Sparse v place key = no_pushes (program_of src.split).sparse v place key
+  no_words = bare_words [] (λ x other. refl)
 
   pub no_ring : (v : ℕ) → ring_held src m begin v ≡ fresh src.split
   no_ring v =

@@ -11,9 +11,8 @@ use Rattle.symple_face.specs.CoreSight.{is_within}
 use Rattle.symple_face.specs.Ideal.{owner_of}
 use Rattle.symple_face.specs.Shapes.{half_in}
 use Rattle.symple_face.specs.Source.{Source}
-use Rattle.symple_face.proofs.ChunkLaws.{chunk_rises, lies_high, lies_is, lies_low}
+use Rattle.symple_face.proofs.ChunkLaws.{chunk_rises, lies_high, lies_is, lies_low, lies_not_above, lies_not_below}
 use Rattle.round_laws.specs.IsIdeal.{half_at}
-use Rattle.round_laws.proofs.Vertices.{not_above, not_below}
 
 half_zero : (w : Bool) → w ≡ ((if w then 0 else 1) == 0)
 half_zero true = refl
@@ -30,12 +29,12 @@ module _ (src : Source) (c v : ℕ) (lies : lies_in src.job.graph.ends c v ≡ t
       let cut : ℕ = cut_of (start_of ends c) (slice_index ends c) in
       ⊎_elim
       (λ (below : v < cut).
-      not_below cut (slice_index ends c) v below
+      lies_not_below cut (slice_index ends c) v below
       ∙ ap (λ b. (if b then 0 else 1) == 1)
       (sym (lies_is (start_of ends c) cut v (lies_low ends c v lies) below) ∙ is))
       (λ (above : cut ≤ v).
       lies_is cut (slice_index ends c) v above (lies_high ends c v lies)
-      ∙ ap (λ b. (if b then 0 else 1) == 1) (sym (not_above (start_of ends c) cut v above) ∙ is))
+      ∙ ap (λ b. (if b then 0 else 1) == 1) (sym (lies_not_above (start_of ends c) cut v above) ∙ is))
       (cases_lt v cut)
 
   pub in_half : (h : ℕ) → h ≤ 1 → is_within (half_in ends c h) v ≡ (half_at src c v == h)

@@ -31,7 +31,7 @@ use Rattle.symple_face.specs.Plans.{loop_carry}
 use Rattle.symple_face.specs.Shapes.{half_in, size_of}
 use Rattle.symple_face.specs.Source.{Source, scene, stand}
 use Rattle.symple_face.specs.State.{State, action_of}
-use Rattle.symple_face.proofs.ChunkLaws.{lies_is}
+use Rattle.symple_face.proofs.ChunkLaws.{lies_is, lies_within}
 use Rattle.round_laws.specs.FoldScan.{IsDenseRound}
 use Rattle.round_laws.specs.IdealScans.{IsIdealScan}
 use Rattle.round_laws.specs.IsIdeal.{HoldsBody, IsIdeal}
@@ -154,5 +154,7 @@ module _ (src : Source) (d : Dense) (most m round step h : ℕ) (state : State)
         × (is_some (loop_carry src.split.dense) ≡ true →
         (scanned_at at_scan round step h v).state ≡ state_at src round v c (step + 1))
     scans_at v inside =
-        machine_scans_ideal src d most m round step h v at_scan fits.runs fits.ends (fits.split v) holds
+        machine_scans_ideal src d most m round step h v at_scan fits.runs fits.ends
+        (fits.split v (subst (λ x. v < x) (sym fits.sized)
+        (lies_within most ends fits.ends c v chunk_low (in_chunk v inside)))) holds
         (in_chunk v inside) inside

@@ -34,7 +34,7 @@ use Rattle.symple_face.specs.PartsOf.{part_of}
 use Rattle.symple_face.specs.Shapes.{half_in, reduced_in}
 use Rattle.symple_face.specs.Source.{Source, scene, stand}
 use Rattle.symple_face.specs.State.{State}
-use Rattle.symple_face.proofs.ChunkLaws.{lies_high, lies_low}
+use Rattle.symple_face.proofs.ChunkLaws.{lies_high, lies_low, lies_within}
 use Rattle.symple_face.proofs.ListLaws.{other_list}
 use Rattle.round_laws.specs.FoldUpdates.{IsUpdate, TakesUpdates, updated_list}
 use Rattle.round_laws.specs.IdealScans.{RunsDense, step_members}
@@ -98,7 +98,8 @@ none_at (suc a) b (suc place) = none_at a b place
 
 module _ (src : Source) (d : Dense) (most m : ℕ) (state : State) (given : Letter) (runs : RunsDense src d)
     (are : AreEnds most src.job.graph.ends) (sized : src.job.graph.vertices ≡ vertices_of src.job.graph.ends)
-    (machine : m < machines_of src) (split : (v : ℕ) → IsSplit src.job.program d (block_env src state.at.round v))
+    (machine : m < machines_of src)
+    (split : (v : ℕ) → v < src.job.graph.vertices → IsSplit src.job.program d (block_env src state.at.round v))
     (u : IsUpdate src m state given) where
   abbrev ends : List ℕ
   ends = src.job.graph.ends
@@ -156,12 +157,12 @@ module _ (src : Source) (d : Dense) (most m : ℕ) (state : State) (given : Lett
       (update_back (length list) (slot_count src.split) (length (reduced_in src.split.dense)) (map ideal list) u.suits)
 
   -- of a vertex without members with the sender nothing is sent
-  idle : (v : ℕ) → step_members src v m u.step ≡ [] → unsent src.split ≡ ideal v
-  idle v none =
+  idle : (v : ℕ) → v < src.job.graph.vertices → step_members src v m u.step ≡ [] → unsent src.split ≡ ideal v
+  idle v small none =
       let g = own_sight s r in
       let sees : Sees g (scene src r) v (step_members src v m u.step) = subst (Sees g (scene src r) v) (sym none) tt in
       ap (λ ms. (scanned src.split d g 0 ms v (state_at src r v m u.step)).sent) (sym none)
-      ∙ (scans_ideal src d g r v m u.step 0 runs (split v) sees).1.sent
+      ∙ (scans_ideal src d g r v m u.step 0 runs (split v small) sees).1.sent
 
   module _ (v : ℕ) (lies : lies_in ends m v ≡ true) where
     low : start_of ends m ≤ v
@@ -202,7 +203,8 @@ module _ (src : Source) (d : Dense) (most m : ℕ) (state : State) (given : Lett
         by true some = beside_is (unsent src.split) ideal list v (among true in_half ∙ some)
         by false none =
             beside_none (unsent src.split) list v (map ideal list) (among true in_half ∙ none)
-            ∙ idle v (ap (λ n. members_with ends k (ins_of n edges v)) sized
+            ∙ idle v (subst (λ x. v < x) (sym sized) (lies_within most ends are m v machine lies))
+            (ap (λ n. members_with ends k (ins_of n edges v)) sized
             ∙ no_members (members_at ends edges k v) none)
 
     -- ---- halves

@@ -102,7 +102,8 @@ module _ (src : Source) (d : Dense) (most m round : ℕ) (state : State) (dense 
   abbrev s : State
   s = record state { part = part_of ends src.job.draws src.job.graph.edges m; split = src.split; at = at }
 
-  module _ (split : (v : ℕ) → IsSplit (program_of src.split) d (block_env run round v)) (is : IsIdeal run m s)
+  module _ (split : (v : ℕ) → v < src.job.graph.vertices → IsSplit (program_of src.split) d (block_env run round v))
+      (is : IsIdeal run m s)
       (closing : ClosesDenseRound run m round s) where
     stands : StandsIn m s sc
     stands = record { machine = machine; part = refl; sized = sized; rows = is.rows; totals = is.totals closing.knows }
@@ -126,12 +127,15 @@ module _ (src : Source) (d : Dense) (most m round : ℕ) (state : State) (dense 
       high : v < slice_index ends m
       high = lies_high ends m v lies
 
+      small : v < src.job.graph.vertices
+      small = subst (λ n. v < n) (sym sized) (lies_within most ends are m v machine lies)
+
       sent_is : (key : ℕ) → ideal_sent run round v m key ≡ sent_by_segment src.split d (ran key)
       sent_is key =
           let ran_is : ideal_ran run round v m key ≡ ran key = ap (ran_with run round v m key) dense in
           λ i. record {
             values = slot_values 0 (slot_ops (program_of src.split)) (ran_is i).emitted;
-            operands = operands (reduced_are src.split d env (split v) i) (ran_is i).env;
+            operands = operands (reduced_are src.split d env (split v small) i) (ran_is i).env;
           }
 
       -- all words of the steps came, and no others
@@ -217,14 +221,14 @@ module _ (src : Source) (d : Dense) (most m round : ℕ) (state : State) (dense 
       row_closed =
           let seen = own_are_seen most m s sc are stands in
           ap (λ o. closed_row src.split (own_sight s round) (with_tail o s round v) v) dense
-          ∙ closes_dense src.split d (own_sight s round) sc p m v (own_partials s v) (ring_at s v) (split v) seen.0
-          (seen.1 v lies)
+          ∙ closes_dense src.split d (own_sight s round) sc p m v (own_partials s v) (ring_at s v) (split v small)
+          seen.0 (seen.1 v lies)
           upto machine (low, high) filled ring_or
 
       row_stands : row_after (program_of src.split) ruling.Dense sc v ≡ row_at (stand run (round + 1)).rows v
       row_stands =
           row_next run round v ruling.Dense closing.begun closing.dense
-          (subst (λ n. v < n) (sym sized) (lies_within most ends are m v machine lies))
+          small
 
     rows_closed : closed_rows s round true ≡ map (row_at (stand run (round + 1)).rows) (chunk_vertices ends m)
     rows_closed =
@@ -237,7 +241,8 @@ module _ (src : Source) (d : Dense) (most m round : ℕ) (state : State) (dense 
         lies_is (start_of ends m) (slice_index ends m) v lo (omega (arith, hi, lo)) in
         row_closed v lies ∙ row_stands v lies))
 
-  of_state : ((v : ℕ) → IsSplit (program_of src.split) d (block_env run round v)) → IsIdeal run m state →
+  of_state : ((v : ℕ) → v < src.job.graph.vertices → IsSplit (program_of src.split) d (block_env run round v)) →
+      IsIdeal run m state →
       ClosesDenseRound run m round state →
       closed_rows state round true ≡ map (row_at (stand run (round + 1)).rows) (chunk_vertices ends m)
   of_state split is closing =
@@ -250,7 +255,8 @@ pub dense_rows_ideal : DenseRowsAreIdeal
 dense_rows_ideal src d most m round s runs are few sized machine =
     subst
     (λ program. (let of : Source = with_program src program in
-    ((v : ℕ) → IsSplit program d (block_env of round v)) → IsIdeal of m s → ClosesDenseRound of m round s →
+    ((v : ℕ) → v < src.job.graph.vertices → IsSplit program d (block_env of round v)) → IsIdeal of m s →
+    ClosesDenseRound of m round s →
     closed_rows s round true ≡ map (row_at (stand of (round + 1)).rows) (chunk_vertices src.job.graph.ends m)))
     runs.program
     (of_state src d most m round s (ap (λ p. p.dense) runs.program ∙ runs.dense) are few sized machine)

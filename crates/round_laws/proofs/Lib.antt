@@ -38,11 +38,12 @@
 -- FoldPushEdges: edges in turn, each under its key; all members of a key have one source, so their sends come at once.
 -- FoldPushWalk: the edges that a machine works fill the buckets of each own vertex. FoldPushLists: what a push tells of
 -- the sources of these edges. FoldPushes: a push that is worked when it is taken, and one that is kept. FoldBegins: the
--- begin of a dense round, and the pushes sent at that of a sparse one.
+-- begin of a dense round, and the pushes sent at that of a sparse one. FoldBeginsSparse: the begin of a sparse round.
 pub mod Chunks
 pub mod DenseClose
 pub mod DenseRound
 pub mod FoldBegins
+pub mod FoldBeginsSparse
 pub mod FoldCloses
 pub mod FoldJudge
 pub mod FoldScan

@@ -23,7 +23,7 @@ use Rattle.instrument.specs.Continued.{IsSplit, whole}
 use Rattle.symple_face.specs.Ideal.{block_env, ideal_ran, ideal_reads, machines_of, members_in, owner_of, ran_with, reads_by}
 use Rattle.symple_face.specs.Ring.{machine_ran}
 use Rattle.symple_face.specs.Source.{Source, scene, stand}
-use Rattle.symple_face.proofs.ChunkLaws.{lies_high, lies_low}
+use Rattle.symple_face.proofs.ChunkLaws.{chunk_within, lies_high, lies_low}
 use Rattle.round_laws.specs.ReadsCounted.{ReadsAreCounted}
 use Rattle.round_laws.specs.Sums.{each}
 use Rattle.round_laws.proofs.Chunks.{ends_reach}
@@ -35,7 +35,8 @@ use Rattle.round_laws.proofs.Sums.{length-each, steps_are_machines, sum_none, su
 
 module _ (src : Source) (most round : ℕ) (are : AreEnds most src.job.graph.ends)
     (sized : src.job.graph.vertices ≡ vertices_of src.job.graph.ends)
-    (split : (d : Dense) (v : ℕ) → src.job.program.dense ≡ Some d → IsSplit src.job.program d (block_env src round v))
+    (split : (d : Dense) (v : ℕ) → v < src.job.graph.vertices → src.job.program.dense ≡ Some d →
+    IsSplit src.job.program d (block_env src round v))
   where
     abbrev ends : List ℕ
     ends = src.job.graph.ends
@@ -62,6 +63,13 @@ module _ (src : Source) (most round : ℕ) (are : AreEnds most src.job.graph.end
       abbrev all : List Edge
       all = members_of src.job.graph v
 
+      small : v < src.job.graph.vertices
+      small =
+          let top = chunk_within most ends are c chunk in
+          let high = here.1 in
+          let all = sized in
+          omega (arith, top, high, all)
+
       -- what the machines of the steps read, one after another
       steps_read : (o : Option Dense) → src.job.program.dense ≡ o →
           flat_map (λ step. (ran_with src round v c step o).reads) steps ≡ (dense_part sc o all env).reads
@@ -75,7 +83,7 @@ module _ (src : Source) (most round : ℕ) (are : AreEnds most src.job.graph.end
               flat_map (λ step. (if b then machine_ran sc d env ends p c (members_in src v) step else leaves env).reads)
               steps ≡ (if b then dense_block sc d all env else leaves env).reads
           by true =
-              sym (by_machines sc d env src.job.program (split d v some) ends p c p (members_in src v)).reads
+              sym (by_machines sc d env src.job.program (split d v small some) ends p c p (members_in src v)).reads
               ∙ ap (λ l. (whole sc d env l).reads)
               (reads_in_turn src.job.graph.vertices p c v ends src.job.graph.edges upto chunk here)
               ∙ sym (append-nil looped.reads)

@@ -19,7 +19,7 @@ use Rattle.round_laws.specs.Sums.{ChunksCover, CountsByChunks, StepsAreMachines,
 use Rattle.symple_face.proofs.ChunkLaws.{chunk_rises}
 
 -- ---- lists of numbers
-sum-cons : (x : ℕ) (xs : List ℕ) → sum (x ∷ xs) ≡ x + sum xs
+pub sum-cons : (x : ℕ) (xs : List ℕ) → sum (x ∷ xs) ≡ x + sum xs
 sum-cons x xs = sum_by-cons (λ y. y) x xs
 
 sum-append : (xs ys : List ℕ) → sum (xs ++ ys) ≡ sum xs + sum ys

@@ -4,11 +4,9 @@ use Rattle.std.specs.Prelude.{fold, get_or, if◌then◌else◌}
 use Rattle.std.specs.List.{AllByRecursion, filter, list_all, range_with_len}
 use Rattle.std.proofs.lemmas.Bool.{and_parts}
 use Rattle.std.proofs.lemmas.List.{length-map}
-use Rattle.std.proofs.lemmas.List.Sums.{sum_by-cons}
 use Rattle.vert_base.specs.declared.value.Combine.{Combine}
 use Rattle.vert_base.specs.declared.value.Combine.TheVariants.{First}
 use Rattle.vert_base.specs.declared.value.Row.{Row}
-use Rattle.vert_tree.specs.declared.program.Program.{Program}
 use Rattle.vert_tree.specs.declared.program.TotalDecl.{TotalDecl}
 use Rattle.vert_tree.specs.Readable.{is_total_op}
 use Rattle.vert_tree.specs.Typed.{is_typed}
@@ -27,41 +25,38 @@ use Rattle.symple_face.specs.Parts.{chunk_vertices}
 use Rattle.symple_face.specs.Source.{Source, stand}
 use Rattle.round_laws.specs.Sums.{each}
 use Rattle.round_laws.specs.Tallies.{TalliesAreSummed, source_count}
-use Rattle.round_laws.proofs.Sums.{counts_by_chunks, sums_by_chunks, total_alone, totals_by_chunks}
-
-sum-more : (x : ℕ) (xs : List ℕ) → sum (x ∷ xs) ≡ x + sum xs
-sum-more x xs = sum_by-cons (λ y. y) x xs
+use Rattle.round_laws.proofs.Sums.{counts_by_chunks, sum-cons, sums_by_chunks, total_alone, totals_by_chunks}
 
 -- ---- counts joined, field by field
 all_active : (ts : List TotalDecl) (a : Counted) (f : ℕ → Counted) (ks : List ℕ) →
     (all_joined ts a (map f ks)).active ≡ sum (a.active ∷ map (λ k. (f k).active) ks)
-all_active ts a f [] = let none : a.active ≡ a.active + 0 = omega arith in none ∙ sym (sum-more a.active [])
+all_active ts a f [] = let none : a.active ≡ a.active + 0 = omega arith in none ∙ sym (sum-cons a.active [])
 all_active ts a f (k ∷ ks) =
     let rest : List ℕ = map (λ k. (f k).active) ks in
     let together : (a.active + (f k).active) + sum rest ≡ a.active + ((f k).active + sum rest) = omega arith in
     all_active ts (joined ts a (f k)) f ks
-    ∙ sum-more (a.active + (f k).active) rest ∙ together
-    ∙ ap (λ n. a.active + n) (sym (sum-more (f k).active rest)) ∙ sym (sum-more a.active ((f k).active ∷ rest))
+    ∙ sum-cons (a.active + (f k).active) rest ∙ together
+    ∙ ap (λ n. a.active + n) (sym (sum-cons (f k).active rest)) ∙ sym (sum-cons a.active ((f k).active ∷ rest))
 
 all_edges : (ts : List TotalDecl) (a : Counted) (f : ℕ → Counted) (ks : List ℕ) →
     (all_joined ts a (map f ks)).edges ≡ sum (a.edges ∷ map (λ k. (f k).edges) ks)
-all_edges ts a f [] = let none : a.edges ≡ a.edges + 0 = omega arith in none ∙ sym (sum-more a.edges [])
+all_edges ts a f [] = let none : a.edges ≡ a.edges + 0 = omega arith in none ∙ sym (sum-cons a.edges [])
 all_edges ts a f (k ∷ ks) =
     let rest : List ℕ = map (λ k. (f k).edges) ks in
     let together : (a.edges + (f k).edges) + sum rest ≡ a.edges + ((f k).edges + sum rest) = omega arith in
     all_edges ts (joined ts a (f k)) f ks
-    ∙ sum-more (a.edges + (f k).edges) rest ∙ together
-    ∙ ap (λ n. a.edges + n) (sym (sum-more (f k).edges rest)) ∙ sym (sum-more a.edges ((f k).edges ∷ rest))
+    ∙ sum-cons (a.edges + (f k).edges) rest ∙ together
+    ∙ ap (λ n. a.edges + n) (sym (sum-cons (f k).edges rest)) ∙ sym (sum-cons a.edges ((f k).edges ∷ rest))
 
 all_reads : (ts : List TotalDecl) (a : Counted) (f : ℕ → Counted) (ks : List ℕ) →
     (all_joined ts a (map f ks)).reads ≡ sum (a.reads ∷ map (λ k. (f k).reads) ks)
-all_reads ts a f [] = let none : a.reads ≡ a.reads + 0 = omega arith in none ∙ sym (sum-more a.reads [])
+all_reads ts a f [] = let none : a.reads ≡ a.reads + 0 = omega arith in none ∙ sym (sum-cons a.reads [])
 all_reads ts a f (k ∷ ks) =
     let rest : List ℕ = map (λ k. (f k).reads) ks in
     let together : (a.reads + (f k).reads) + sum rest ≡ a.reads + ((f k).reads + sum rest) = omega arith in
     all_reads ts (joined ts a (f k)) f ks
-    ∙ sum-more (a.reads + (f k).reads) rest ∙ together
-    ∙ ap (λ n. a.reads + n) (sym (sum-more (f k).reads rest)) ∙ sym (sum-more a.reads ((f k).reads ∷ rest))
+    ∙ sum-cons (a.reads + (f k).reads) rest ∙ together
+    ∙ ap (λ n. a.reads + n) (sym (sum-cons (f k).reads rest)) ∙ sym (sum-cons a.reads ((f k).reads ∷ rest))
 
 -- totals told by a function of the total
 totals_both : (f g : TotalDecl → ℤ) (ts : List TotalDecl) →
@@ -105,12 +100,12 @@ pub sum-passing : {X : Type 0} (test : X → Bool) (f : X → ℕ) (xs : List X)
 sum-passing test f [] = refl
 sum-passing test f (x ∷ xs) =
     by (test x) (sum-passing test f xs)
-    ∙ sym (sum-more (if test x then f x else 0) (map (λ x. if test x then f x else 0) xs))
+    ∙ sym (sum-cons (if test x then f x else 0) (map (λ x. if test x then f x else 0) xs))
   where
     by : (b : Bool) → sum (map f (filter test xs)) ≡ sum (map (λ x. if test x then f x else 0) xs) →
         sum (map f (cond b (x ∷ filter test xs) (filter test xs))) ≡
         (if b then f x else 0) + sum (map (λ x. if test x then f x else 0) xs)
-    by true rest = sum-more (f x) (map f (filter test xs)) ∙ ap (λ n. f x + n) rest
+    by true rest = sum-cons (f x) (map f (filter test xs)) ∙ ap (λ n. f x + n) rest
     by false rest =
         let none : sum (map f (filter test xs)) ≡ 0 + sum (map f (filter test xs)) = omega arith in
         none ∙ ap (λ n. 0 + n) rest

@@ -1,9 +1,8 @@
 -- Which vertices two machines speak of, and which degrees a machine knows.
 use Rattle.std.proofs.Common.{◌≡◌, ℕ, ◌+◌, ◌-◌, ◌<◌, ◌≤◌, Bool, true, false, cond, ◌&&◌, List, [], ◌++◌, length, refl, ap, sym, ◌∙◌, arith, ⊎_elim}
-use Rattle.std.specs.Prelude.{◌==◌, if◌then◌else◌, nat_le, nat_lt, slice_index}
+use Rattle.std.specs.Prelude.{◌==◌, if◌then◌else◌, slice_index}
 use Rattle.std.specs.List.{AllByRecursion, filter, list_any, range_with_len}
 use Rattle.std.proofs.lemmas.Bool.{cases_Bool, eqb-true}
-use Rattle.std.proofs.lemmas.Bool.Decides.{nat_tests}
 use Rattle.std.proofs.lemmas.List.{append-nil}
 use Rattle.std.proofs.lemmas.List.Elements.{filter-append}
 use Rattle.vert_base.specs.declared.graph.Edge.{Edge}
@@ -17,7 +16,7 @@ use Rattle.graph_table.proofs.FilterLaws.{all_filter, all_passes, all_range, all
 use Rattle.symple_face.specs.Parts.{chunk_vertices, edges_between, push_list, refresh_list}
 use Rattle.symple_face.specs.PartsOf.{known_of, push_of}
 use Rattle.round_laws.specs.Vertices.{KnowsOwn, KnowsWorked, PushedMeet, RefreshedMeet, are_some, members_at}
-use Rattle.symple_face.proofs.ChunkLaws.{chunk_rises, chunk_within, lies_high, lies_is, lies_low, lies_within}
+use Rattle.symple_face.proofs.ChunkLaws.{chunk_rises, chunk_within, lies_high, lies_is, lies_low, lies_not_above, lies_not_below, lies_within}
 use Rattle.round_laws.proofs.Lists.{any-filter, any-flat_map, any_and, any_kept, any_more, any_range, any_same, some-filter, some-in_order}
 use Rattle.round_laws.proofs.Sums.{chunks_cover}
 
@@ -66,12 +65,6 @@ at_source lies t end v =
     none false true false = refl
     none false false c = refl
 
-pub not_below : (a b v : ℕ) → v < a → (nat_le a v && nat_lt v b) ≡ false
-not_below a b v low = grind (arith, nat_tests)
-
-pub not_above : (a b v : ℕ) → b ≤ v → (nat_le a v && nat_lt v b) ≡ false
-not_above a b v high = grind (arith, nat_tests)
-
 module _ (most : ℕ) (ends : List ℕ) (are : AreEnds most ends) where
   abbrev n : ℕ
   n = vertices_of ends
@@ -90,13 +83,13 @@ module _ (most : ℕ) (ends : List ℕ) (are : AreEnds most ends) where
       ∙ ap (λ l. range_with_len 0 a ++ l) (range_split (b - a) (n - b) a b (omega arith)) in
       let low : filter (lies_in ends k) (range_with_len 0 a) ≡ [] =
       filter_none (lies_in ends k) (range_with_len 0 a)
-      (all_range (λ v. lies_in ends k v ≡ false) 0 a (λ v l h. not_below a b v (omega arith))) in
+      (all_range (λ v. lies_in ends k v ≡ false) 0 a (λ v l h. lies_not_below a b v (omega arith))) in
       let own : filter (lies_in ends k) (range_with_len a (b - a)) ≡ range_with_len a (b - a) =
       filter_all (lies_in ends k) (range_with_len a (b - a))
       (all_range (λ v. lies_in ends k v ≡ true) a (b - a) (λ v l h. lies_is a b v l (omega arith))) in
       let high : filter (lies_in ends k) (range_with_len b (n - b)) ≡ [] =
       filter_none (lies_in ends k) (range_with_len b (n - b))
-      (all_range (λ v. lies_in ends k v ≡ false) b (n - b) (λ v l h. not_above a b v l)) in
+      (all_range (λ v. lies_in ends k v ≡ false) b (n - b) (λ v l h. lies_not_above a b v l)) in
       ap (filter (lies_in ends k)) parts
       ∙ filter-append (lies_in ends k) (range_with_len 0 a) (range_with_len a (b - a) ++ range_with_len b (n - b))
       ∙ ap (λ l. l ++ filter (lies_in ends k) (range_with_len a (b - a) ++ range_with_len b (n - b))) low

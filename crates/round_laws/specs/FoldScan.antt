@@ -26,7 +26,7 @@ pub record IsDenseRound (src : Source) (d : Dense) (most round : ℕ) : Type 0 w
   pub few : most ≤ 64
   pub sized : src.job.graph.vertices ≡ vertices_of src.job.graph.ends
   pub dense : (stand src round).ruling ≡ ruling.Dense
-  pub split : (v : ℕ) → IsSplit src.job.program d (block_env src round v)
+  pub split : (v : ℕ) → v < src.job.graph.vertices → IsSplit src.job.program d (block_env src round v)
   pub rows : (v : ℕ) → v < src.job.graph.vertices →
       HasFields (field_count src.split) (plain_row (row_at (stand src round).rows v))
   pub bools : ℕ

@@ -46,5 +46,5 @@ TakesUpdates =
     (src : Source) (d : Dense) (most m : ℕ) (s : State) (l : Letter) → RunsDense src d →
     AreEnds most src.job.graph.ends →
     src.job.graph.vertices ≡ vertices_of src.job.graph.ends → m < machines_of src →
-    ((v : ℕ) → IsSplit src.job.program d (block_env src s.at.round v)) →
+    ((v : ℕ) → v < src.job.graph.vertices → IsSplit src.job.program d (block_env src s.at.round v)) →
     IsIdeal src m s → IsUpdate src m s l → l.body ≡ ideal_body src l.name → IsIdeal src m (core_take s l)

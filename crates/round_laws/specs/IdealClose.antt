@@ -33,7 +33,7 @@ DenseRowsAreIdeal =
     (src : Source) (d : Dense) (most m round : ℕ) (s : State) → RunsDense src d → AreEnds most src.job.graph.ends →
     most ≤ 64 →
     src.job.graph.vertices ≡ vertices_of src.job.graph.ends → m < machines_of src →
-    ((v : ℕ) → IsSplit src.job.program d (block_env src round v)) →
+    ((v : ℕ) → v < src.job.graph.vertices → IsSplit src.job.program d (block_env src round v)) →
     IsIdeal src m s → ClosesDenseRound src m round s →
     closed_rows s round true ≡ map (row_at (stand src (round + 1)).rows) (chunk_vertices src.job.graph.ends m)
 

@@ -1,6 +1,6 @@
 ghost use Rattle.round_laws.specs.DenseClose.{ClosesDense};
 ghost use Rattle.round_laws.specs.DenseRound.{RoundByMachines};
-ghost use Rattle.round_laws.specs.FoldBegins.{BeginsDense, SendsPushes};
+ghost use Rattle.round_laws.specs.FoldBegins.{BeginsDense, BeginsSparse, SendsPushes};
 ghost use Rattle.round_laws.specs.FoldCloses.{ClosesAndGoesOn, ClosesToJudge, DenseReadsAreIdeal, SparseReadsAreIdeal};
 ghost use Rattle.round_laws.specs.FoldJudge.{JudgesAndGoesOn};
 ghost use Rattle.round_laws.specs.FoldScan.{ScansAndGoesOn};
@@ -148,9 +148,10 @@ pub fn reads_are_counted()
     ensures { ReadsAreCounted }
 {}
 
-/// The law that a machine that begins a dense round still holds what the source's run says, and that the pushes which
-/// it sends at the begin of a sparse one are ideal. It does nothing.
+/// The law that a machine that begins a round still holds what the source's run says, and that the pushes which it
+/// sends at the begin of a sparse one are ideal. It does nothing.
 pub fn begins_go_on()
     ensures dense { BeginsDense }
+    ensures sparse { BeginsSparse }
     ensures pushes { SendsPushes }
 {}

@@ -1,0 +1,9 @@
+use Rattle.event_laws.proofs.Goes.{goes_on}
+use Rattle.event_laws.proofs.Takes.{takes_on}
+use Rattle.event_laws.proofs.laws.events_go_on.Goals as goal
+
+pub returns-clause-go : goal.returns-clause-go
+returns-clause-go c = goes_on
+
+pub returns-clause-take : goal.returns-clause-take
+returns-clause-take c = takes_on

@@ -1,0 +1,8 @@
+use Rattle.event_laws.proofs.Firsts.{first_is_true, restarted_is_true}
+use Rattle.event_laws.proofs.laws.first_states_are_true.Goals as goal
+
+pub returns-clause-first : goal.returns-clause-first
+returns-clause-first c = first_is_true
+
+pub returns-clause-restarted : goal.returns-clause-restarted
+returns-clause-restarted c = restarted_is_true
