@@ -1,4 +1,7 @@
 pub mod LineLaws
+pub mod OneLaws
+pub mod PairLaws
 pub mod PlainLaws
-pub mod TakeLaws
 pub mod ReadLaws
+pub mod RecordLaws
+pub mod TakeLaws

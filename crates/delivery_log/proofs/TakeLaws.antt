@@ -1,6 +1,6 @@
 -- The lines of an event at the front of a text.
-use Rattle.std.proofs.Common.{◌≡◌, ◌≢◌, ℕ, ◌<◌, ◌≤◌, ◌^◌, Bool, true, false, List, [], ◌∷◌, ◌++◌, length, get_or, refl, ap, sym, subst, ◌∙◌, arith, append_assoc, ⊎_elim, inl, inr}
-use Rattle.std.specs.Prelude.{◌==◌, ◌⊎◌, if◌then◌else◌, Option, Some, None, codes, decimal}
+use Rattle.std.proofs.Common.{◌≡◌, ◌≢◌, ℕ, ◌<◌, ◌^◌, Bool, true, false, List, [], ◌∷◌, ◌++◌, get_or, refl, ap, sym, subst, ◌∙◌, append_assoc, ⊎_elim, inl, inr}
+use Rattle.std.specs.Prelude.{◌==◌, ◌⊎◌, if◌then◌else◌, Option, Some, None}
 use Rattle.std.proofs.lemmas.Bool.{cases_Bool, eq-eqb, ne_eqb, eqb-true}
 use Rattle.vert_base.specs.declared.message.Name.{Name}
 use Rattle.vert_base.specs.declared.message.Event.{Event}
@@ -9,7 +9,7 @@ use Rattle.vert_base.specs.NameTexts.{IsName}
 use Rattle.delivery_log.specs.declared.form.Form.{Form}
 use Rattle.delivery_log.specs.declared.form.Form.TheVariants.{Whole, Roundless}
 use Rattle.delivery_log.specs.LineReading.{IsHeader, IsLine, IsRoundFor, TellsRound}
-use Rattle.delivery_log.specs.ScheduleTexts.{IsEvent, event_lines, text_of, go_line, round_line, round_lines, take_line, take_lines, header_line}
+use Rattle.delivery_log.specs.ScheduleTexts.{IsEvent, event_lines, text_of, go_line, round_line, round_lines, take_line, take_lines}
 use Rattle.delivery_log.proofs.LineLaws.{same_line}
 use Rattle.delivery_log.proofs.PlainLaws.{go_is_line, round_is_line, take_is_line}
 
@@ -183,7 +183,7 @@ held_found form held x line behind rest r is plain found none e =
     absurd (none_some r x.round none (found x.round is.round told.told)))
     (take_cases form held x line behind rest is plain e)
 
-told_not_held : (form : Form) (held round : ℕ) (x : Name) (line : List ℕ) → TellsRound form held round line →
+pub told_not_held : (form : Form) (held round : ℕ) (x : Name) (line : List ℕ) → TellsRound form held round line →
     line ≡ take_line form x → ⊥
 told_not_held Whole held round x line told e = told
 told_not_held Roundless held round x line told e = round_not_take line round Roundless x told.1 e

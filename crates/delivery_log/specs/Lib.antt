@@ -1,3 +1,5 @@
 pub mod ScheduleTexts
 pub mod Says
 pub mod LineReading
+pub mod Records
+pub mod Laws

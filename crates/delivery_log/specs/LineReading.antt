@@ -1,5 +1,5 @@
 -- What the readers of lines say of the parts of a text.
-use Rattle.std.specs.Prelude.{◌≡◌, ◌≢◌, ◌≤◌, ◌==◌, ℕ, Bool, List, [], ◌∷◌, ⊤}
+use Rattle.std.specs.Prelude.{◌≡◌, ◌≢◌, ◌≤◌, ◌==◌, ℕ, Bool, List, ⊤}
 use Rattle.std.specs.List.{AllByRecursion}
 use Rattle.vert_base.specs.declared.message.Name.{Name}
 use Rattle.delivery_log.specs.declared.form.Form.{Form}

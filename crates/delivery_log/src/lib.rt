@@ -3,9 +3,14 @@
 
 mod fault;
 mod form;
+mod laws;
 mod line;
 mod read;
+mod recorder;
+mod spelling;
 
-pub use fault::ScheduleFault;
+pub use fault::{RecordFault, ScheduleFault};
 pub use form::{Form, Schedule};
+pub use laws::schedules_read_back;
 pub use read::read_schedule;
+pub use recorder::Recorder;

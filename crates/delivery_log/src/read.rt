@@ -36,7 +36,7 @@ pub fn read_schedule(alloc: Global, text: &[u8]) -> Result<Schedule, ScheduleFau
 }
 
 // The round that is held behind an event.
-fn round_after(held: u32, event: Event) -> u32
+pub(crate) fn round_after(held: u32, event: Event) -> u32
     ensures { result ≡ round_after held event }
 {
     match event {

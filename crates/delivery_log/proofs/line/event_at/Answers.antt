@@ -1,4 +1,4 @@
-use Rattle.std.proofs.Common.{◌≡◌, ◌∙◌, ◌++◌, ◌∷◌, [], ap, sym}
+use Rattle.std.proofs.Common.{◌∙◌, ◌++◌, ◌∷◌, [], ap, sym}
 use Rattle.vert_base.specs.declared.message.Event.TheVariants.{Go, Take}
 use Rattle.delivery_log.specs.ScheduleTexts.{go_line}
 use Rattle.delivery_log.proofs.ReadLaws.{left_small}

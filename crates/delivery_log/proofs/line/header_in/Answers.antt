@@ -1,4 +1,4 @@
-use Rattle.std.proofs.Common.{◌≡◌, sym, subst, None, Some, refl}
+use Rattle.std.proofs.Common.{◌≡◌, sym, subst, None, refl}
 use Rattle.delivery_log.specs.LineReading.{IsHeader}
 use Rattle.delivery_log.specs.declared.form.Form.TheVariants.{Whole, Roundless}
 use Rattle.delivery_log.proofs.TakeLaws.{no_header, not_whole, one_form, some_same}

@@ -1,4 +1,3 @@
-use Rattle.std.proofs.Common.{◌≡◌}
 use Rattle.delivery_log.specs.ScheduleTexts.{take_line}
 use Rattle.delivery_log.proofs.PlainLaws.{take_is_line}
 use Rattle.delivery_log.proofs.TakeLaws.{held_found, some_name, told_found}
