@@ -1,6 +1,7 @@
 //! Schedules as text: the machines of a run and the events played, in their order.
 #![tactic(auto)]
 
+mod chooser;
 mod fault;
 mod form;
 mod laws;
@@ -9,6 +10,7 @@ mod read;
 mod recorder;
 mod spelling;
 
+pub use chooser::{Chooser, plain};
 pub use fault::{RecordFault, ScheduleFault};
 pub use form::{Form, Schedule};
 pub use laws::schedules_read_back;
