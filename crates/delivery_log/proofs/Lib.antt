@@ -1,3 +1,4 @@
+pub mod DrawnLaws
 pub mod LineLaws
 pub mod OneLaws
 pub mod PairLaws

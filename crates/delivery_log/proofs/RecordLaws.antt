@@ -67,6 +67,7 @@ record_added recording machines events e before lines text held round is view li
 
 -- a fault handed on is the fault that came
 pub same_fault : (result : Result (Unit {0}) RecordFault) (came sought : RecordFault) →
-    IsErrAnd result (λ fault. fault ≡ came) → result ≡ Err sought → ◌≡◌ {A = Result (Unit {0}) RecordFault} (Err came) (Err sought)
+    IsErrAnd result (λ fault. fault ≡ came) → result ≡ Err sought →
+    ◌≡◌ {A = Result (Unit {0}) RecordFault} (Err came) (Err sought)
 same_fault (Ok done) came sought is e = absurd is
 same_fault (Err fault) came sought is e = ap Err (sym is) ∙ e

@@ -1,10 +1,11 @@
 // Which of the possible events comes next.
-ghost use Rattle.std.specs.Prelude.{◌≡◌, ◌↔◌, IfSome, None, true, false};
-ghost use Rattle.symple_face.specs.Cluster.{finished, plain_of};
+ghost use Rattle.std.specs.Prelude.{◌≡◌, ◌<◌, ◌≤◌, ◌^◌, ◌↔◌, IfSome, None, true, false, length, slice_get};
+ghost use Rattle.symple_face.specs.Cluster.{choices_of, finished, plain_of};
 ghost use Rattle.cluster_run.specs.Faults.{fault_of};
-ghost use Rattle.delivery_log.specs.Choosers.{behind_word, drawn_of, generator_of};
+ghost use Rattle.delivery_log.specs.Choosers.{NumbersFit, behind_word, drawn_of, generator_of};
+ghost use Rattle.delivery_log.specs.ScheduleTexts.{IsEvent};
 
-use cluster_run::Cluster;
+use cluster_run::{Cluster, choices_are_in_order, worlds_are_in_order};
 use rand_core::utils::NextWord;
 use rand_pcg::Lcg64Xsh32;
 use std::marker::Model;
@@ -17,9 +18,51 @@ pub fn plain<S: Site, const CAP: usize>(cluster: &Cluster<S, CAP>) -> Option<Eve
     ensures is { result ≡ plain_of cluster.now.world }
     ensures none { (result ≡ None) ↔ (finished cluster.now.world ≡ true) }
     ensures played { IfSome result (λ event. fault_of cluster.now.world event ≡ None) }
+    ensures spelled { IfSome result IsEvent }
 {
-    cluster.choice(0)
+    chosen(cluster, 0)
 }
+
+// A possible event, which a text can tell.
+fn chosen<S: Site, const CAP: usize>(cluster: &Cluster<S, CAP>, k: u32) -> Option<Event>
+    requires { cluster.now.ended ≡ false }
+    ensures is { result ≡ slice_get (choices_of cluster.now.world) k }
+    ensures none { (result ≡ None) ↔ (length (choices_of cluster.now.world) ≤ k) }
+    ensures first { k ≡ 0 → (result ≡ None) ↔ (finished cluster.now.world ≡ true) }
+    ensures played { IfSome result (λ event. fault_of cluster.now.world event ≡ None) }
+    ensures spelled { IfSome result IsEvent }
+{
+    cluster.tells_reached();
+    worlds_are_in_order::<S>();
+    choices_are_in_order::<S>();
+    match cluster.choice(k) {
+        None => None,
+        Some(event) => {
+            numbers_fit(&event);
+            Some(event)
+        }
+    }
+}
+
+// The numbers of an event have the sizes of their types.
+fn numbers_fit(event: &Event)
+    ensures { NumbersFit event.now }
+{
+    match event {
+        Event::Go(machine) => {
+            let _machine = *machine;
+        }
+        Event::Take(name) => sizes(name.round, name.step, name.half, name.from, name.to),
+    }
+}
+
+fn sizes(round: u32, step: u8, half: u8, from: u8, to: u8)
+    ensures round { round < 2 ^ 32 }
+    ensures step { step < 256 }
+    ensures half { half < 256 }
+    ensures from { from < 256 }
+    ensures to { to < 256 }
+{}
 
 /// Draws each event from the possible ones, by the words of a generator.
 #[derive(Drop)]
@@ -51,6 +94,7 @@ impl Chooser {
         ensures is { result ≡ drawn_of self.old cluster.now.world }
         ensures none { (result ≡ None) ↔ (finished cluster.now.world ≡ true) }
         ensures played { IfSome result (λ event. fault_of cluster.now.world event ≡ None) }
+        ensures spelled { IfSome result IsEvent }
         ensures drawn { IfSome result (λ event. self.new ≡ behind_word self.old) }
         ensures kept { result ≡ None → self.new ≡ self.old }
     {
@@ -59,6 +103,6 @@ impl Chooser {
             return None;
         }
         let word = self.generator.next_word();
-        cluster.choice(word % choices)
+        chosen(cluster, word % choices)
     }
 }

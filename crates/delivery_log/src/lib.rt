@@ -13,6 +13,6 @@ mod spelling;
 pub use chooser::{Chooser, plain};
 pub use fault::{RecordFault, ScheduleFault};
 pub use form::{Form, Schedule};
-pub use laws::schedules_read_back;
+pub use laws::{chosen_runs_are_complete, schedules_read_back};
 pub use read::read_schedule;
 pub use recorder::Recorder;

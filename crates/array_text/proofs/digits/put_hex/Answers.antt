@@ -17,8 +17,9 @@ returns-in_err-put_piece g c =
     let front = c.loop-rest.invariant.0 in
     let piece = c.split_at.result.0.now in
     let behind = c.split_at.result.1.now in
-    writes_same (hex_more front piece behind c.loop-rest.rest.now c.args.bytes.now 256 c.split_at.ensures.front c.split_at.ensures.back
-    c.loop-rest.invariant.1)
+    writes_same
+    (hex_more front piece behind c.loop-rest.rest.now c.args.bytes.now 256 c.split_at.ensures.front
+    c.split_at.ensures.back c.loop-rest.invariant.1)
     (writes_failed (encode_lower behind) c.from_residual.result c.from_residual.ensures.0
     (writes_then _ c.loop-rest.invariant.2 c.in_err-put_piece.ensures))
 
@@ -26,11 +27,10 @@ pub loop-rest-preserved : goal.loop-rest-preserved
 loop-rest-preserved g c =
     let front = c.loop-rest.invariant.0 in
     let piece = c.split_at.result.0.now in
-    let behind = c.split_at.result.1.now in (
+    let behind = c.split_at.result.1.now in
+    let cut = parts piece behind c.loop-rest.rest.now 256 c.split_at.ensures.front c.split_at.ensures.back in (
       front ++ piece,
-      append_assoc front piece behind
-          ∙ (ap (λ (t : List ℕ). front ++ t) (parts piece behind c.loop-rest.rest.now 256 c.split_at.ensures.front c.split_at.ensures.back)
-          ∙ c.loop-rest.invariant.1),
+      append_assoc front piece behind ∙ (ap (λ (t : List ℕ). front ++ t) cut ∙ c.loop-rest.invariant.1),
       writes_same (sym (hex-append front piece)) (writes_then _ c.loop-rest.invariant.2 c.in_ok-put_piece.ensures),
     )
 

@@ -7,7 +7,8 @@ use Rattle.array_text.proofs.event.put_message.Goals as goal
 pub returns-in_err-put_hex : goal.returns-in_err-put_hex
 returns-in_err-put_hex g c =
     let body = c.as_slice-body.result.now in
-    writes_same (message_is c.header_of-header.result c.as_slice-body.result.now c.args.message.now c.header_of-header.ensures c.as_slice-body.ensures.value)
+    writes_same (message_is c.header_of-header.result body c.args.message.now c.header_of-header.ensures
+    c.as_slice-body.ensures.value)
     (writes_failed (encode_lower body ++ codes "\n") c.from_residual-in_err-put_hex.result
     c.from_residual-in_err-put_hex.ensures.0 (writes_then _ c.in_ok-put_all.ensures c.in_err-put_hex.ensures))
 

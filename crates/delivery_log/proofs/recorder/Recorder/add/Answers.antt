@@ -16,8 +16,9 @@ returns-in_err-append-clause-long c = λ machines events is fault.
     ∙ ap (λ (t : List ℕ). t ++ text_of (event_lines Roundless c.self.inside.held e)) c.clear.ensures.items in
     let whole = text_added c.args.self.now machines events e before lines (before ++ lines) c.self.inside.held is
     c.self.view_is line refl in
-    let long : SCHEDULE_BYTES < length (before ++ lines) = c.in_err-append.ensures.long (same_fault c.from_residual-in_err-append.result c.in_err-append.field-0.0 TooLong c.from_residual-in_err-append.ensures.1 fault) in
-    subst (λ (t : List ℕ). SCHEDULE_BYTES < length t) whole long
+    let came = same_fault c.from_residual-in_err-append.result c.in_err-append.field-0.0 TooLong
+    c.from_residual-in_err-append.ensures.1 fault in
+    subst (λ (t : List ℕ). SCHEDULE_BYTES < length t) whole (c.in_err-append.ensures.long came)
 
 pub returns-clause-added : goal.returns-clause-added
 returns-clause-added c = λ machines events is.
