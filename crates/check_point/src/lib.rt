@@ -1,0 +1,14 @@
+//! Images: what a run begins with at a round, as bytes with a key of what is run, and back.
+#![tactic(auto)]
+
+mod fault;
+mod head;
+mod judge;
+mod keys;
+mod read;
+mod write;
+
+pub use fault::ImageFault;
+pub use keys::key;
+pub use read::read_image;
+pub use write::write_image;
