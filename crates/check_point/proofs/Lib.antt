@@ -1,2 +1,4 @@
+pub mod BackLaws
 pub mod ReadLaws
+pub mod ReadyLaws
 pub mod WriteLaws

@@ -1,17 +1,12 @@
 -- What is read, one row more, and the numbers of an image that is a run's own.
-use Rattle.std.proofs.Common.{◌≡◌, ℕ, suc, ◌+◌, ◌*◌, ◌<◌, ◌≤◌, ◌^◌, true, false, List, [], ◌∷◌, ◌++◌, length, map, take, drop, ap, ◌∙◌, arith, nat_le}
-use Rattle.std.specs.Prelude.{◌==◌}
-use Rattle.std.proofs.lemmas.Bool.{and_parts, leb-true}
+use Rattle.std.proofs.Common.{◌≡◌, ℕ, suc, ◌+◌, ◌*◌, ◌<◌, ◌≤◌, false, List, [], ◌∷◌, ◌++◌, length, map, take, drop, ap, ◌∙◌, arith}
 use Rattle.std.proofs.lemmas.List.{length-drop, length-map, take_more, get_or-map}
 use Rattle.vert_base.specs.declared.value.Row.{Row}
 use Rattle.body_shape.specs.Refresh.{PlainRow, row_at, row_of, rows_read}
 use Rattle.body_shape.proofs.RefreshLaws.{refresh_in_place}
 use Rattle.body_shape.proofs.RowLaws.{length-rows_in}
 use Rattle.dep_layout.specs.Judgement.{rows_in}
-use Rattle.circulant_plan.specs.Skeleton.{Blocks}
 use Rattle.symple_face.specs.CoreSight.{told_row}
-use Rattle.check_point.specs.declared.head.Head.{Head}
-use Rattle.check_point.specs.Judgement.{goes_on}
 
 pub rows_count : (width count : ℕ) (body : List ℕ) → length (rows_read width count body) ≡ count
 rows_count width count body =
@@ -30,16 +25,6 @@ told_more width count i body below =
     ∙ ap (λ (r : Row). take i (map told_row rows) ++ r ∷ [])
     (get_or-map told_row rows i none (told_row none) within
     ∙ ap told_row (refresh_in_place count width i body none below))
-
--- the next round is one
-pub late_of : (blocks : Blocks) (vertices : ℕ) (head : Head) → goes_on blocks vertices head ≡ true →
-    blocks.limit ≤ 10000 → head.ended + 1 < 2 ^ 32
-late_of blocks vertices head on most =
-    let a = and_parts (head.count == vertices) _ on in
-    let b = and_parts (nat_le 1 head.ended) _ a.1 in
-    let c = and_parts (nat_le (head.ended + 1) blocks.limit) _ b.1 in
-    let within = leb-true (head.ended + 1) blocks.limit c.0 in
-    omega (arith, within, most)
 
 -- the rows stand behind the head
 pub rows_there : (rows totals : ℕ) (bytes behind : List ℕ) → length bytes ≡ 61 + rows + 8 * totals + 32 →

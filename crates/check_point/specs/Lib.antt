@@ -1,3 +1,4 @@
 pub mod Keys
 pub mod Images
 pub mod Judgement
+pub mod Laws

@@ -5,10 +5,12 @@ mod fault;
 mod head;
 mod judge;
 mod keys;
+mod laws;
 mod read;
 mod write;
 
 pub use fault::ImageFault;
 pub use keys::key;
+pub use laws::images_read_back;
 pub use read::read_image;
 pub use write::write_image;

@@ -2,7 +2,7 @@ use Rattle.std.proofs.Common.{ap, length, arith}
 use Rattle.symple_face.specs.Plans.{blocks_of}
 use Rattle.vert_tree.proofs.TypedLaws.{few_fields, few_rounds, few_totals}
 use Rattle.check_point.specs.Images.{head_in}
-use Rattle.check_point.proofs.ReadLaws.{late_of}
+use Rattle.check_point.proofs.ReadyLaws.{head_goes_on}
 use Rattle.check_point.proofs.read.read_image.Goals as goal
 
 pub is_whole-requires-clause-fields : goal.is_whole-requires-clause-fields
@@ -28,5 +28,6 @@ start_of-requires-clause-totals c =
 pub start_of-requires-clause-late : goal.start_of-requires-clause-late
 start_of-requires-clause-late c =
     let few = few_rounds c.args.split.now.program.program c.args.split.now.program.typed in
-    late_of (blocks_of c.args.split.now) c.args.vertices (head_in c.args.bytes.now)
-    (c.is_own.ensures.0 c.if-not-is_own.false).head few
+    let on = head_goes_on (blocks_of c.args.split.now) c.args.vertices (head_in c.args.bytes.now)
+    (c.is_own.ensures.0 c.if-not-is_own.false).head in
+    omega (arith, on.within, few)
