@@ -32,11 +32,23 @@ fn front_of(alloc: Global, key: &[u8; 32], start: &Start) -> Result<Vec<u8>, Wan
     requires rows { length start.now.rows.items < 2 ^ 32 }
     ensures { IfOk result (λ bytes. bytes.items ≡ front_bytes key.now (plain_start start.now)) }
 {
-    let mut bytes = Vec::new(alloc);
+    let mut bytes = Vec::with_capacity(alloc, room_for(start))?;
     put_head(&mut bytes, key, start)?;
     put_rows(&mut bytes, start.rows.as_slice())?;
     put_totals(&mut bytes, start.totals.as_slice())?;
     Ok(bytes)
+}
+
+// How many bytes an image takes, so that memory is taken once: where rows are as wide as the first
+// one, and totals are few.
+fn room_for(start: &Start) -> usize
+    requires { length start.now.rows.items < 2 ^ 32 }
+{
+    let words = match start.rows.first() {
+        Some(row) => row.words.len() + 1,
+        None => 0,
+    };
+    128 + 8 * words * start.rows.len()
 }
 
 fn put_head(bytes: &mut Vec<u8>, key: &[u8; 32], start: &Start) -> Result<(), Want>
