@@ -1,3 +1,4 @@
+pub mod Events
 pub mod Reads
 pub mod Rounds
 pub mod Tables

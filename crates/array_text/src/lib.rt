@@ -1,12 +1,15 @@
 //! The texts of the output, put piece by piece into a sink.
 #![tactic(auto)]
 
+mod digits;
+mod event;
 mod header;
 mod put;
 mod reads;
 mod round;
 mod row;
 
+pub use event::write_event;
 pub use header::write_header;
 pub use put::{put_all, put_pieces};
 pub use reads::{write_read_head, write_reads};
