@@ -1,0 +1,5 @@
+pub mod Laws
+pub mod Layout
+pub mod OutputText
+pub mod Texts
+pub mod TrueWorlds

@@ -1,0 +1,22 @@
+ghost use Rattle.schedule_laws.specs.Laws.{EveryLaterLog, EveryLaterSchedule, EveryLaterWorldIsTrue};
+ghost use Rattle.schedule_laws.specs.Laws.{EveryLog, EverySchedule, EveryWorldIsTrue};
+
+/// The law that whatever events are possible in turn, in whatever order, each machine holds what the source's run says
+/// and each message under way has its ideal body, from either first world. It does nothing.
+pub fn worlds_are_true()
+    ensures whole { EveryWorldIsTrue }
+    ensures later { EveryLaterWorldIsTrue }
+{}
+
+/// The law that a complete run prints the rounds and the table of the source's run, whatever its schedule is, and
+/// under `--log` the ideal bodies of the messages taken. It does nothing.
+pub fn every_schedule()
+    ensures whole { EverySchedule }
+    ensures log { EveryLog }
+{}
+
+/// The same law of a run that goes on from a start. It does nothing.
+pub fn every_later_schedule()
+    ensures whole { EveryLaterSchedule }
+    ensures log { EveryLaterLog }
+{}

@@ -1,0 +1,6 @@
+//! Whatever the schedule, a run by cores holds and prints what the source's run says.
+#![tactic(auto)]
+
+mod laws;
+
+pub use laws::{every_later_schedule, every_schedule, worlds_are_true};
