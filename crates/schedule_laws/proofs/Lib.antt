@@ -9,6 +9,8 @@
 -- Printed: an event prints the first lines of what is still to come: only a judge of machine 0 does, when all others
 -- stand at the next begin. Printing: so a list of events prints all of it, and at the end the table.
 -- Saying: the same by the events and the skeleton, with the line of each event. Whole: from either first world.
+-- CountedRuns: a complete run is one of the skeleton, by the rulings that its judges make, and so has its counts.
+pub mod CountedRuns
 pub mod Firsts
 pub mod Follows
 pub mod Parts

@@ -1,3 +1,4 @@
+pub mod CountedRuns
 pub mod Laws
 pub mod Layout
 pub mod OutputText

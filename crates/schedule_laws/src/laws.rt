@@ -1,5 +1,8 @@
+ghost use Rattle.schedule_laws.specs.CountedRuns.{CompleteRunsAreCounted};
 ghost use Rattle.schedule_laws.specs.Laws.{EveryLaterLog, EveryLaterSchedule, EveryLaterWorldIsTrue};
 ghost use Rattle.schedule_laws.specs.Laws.{EveryLog, EverySchedule, EveryWorldIsTrue};
+
+use symple_face::Site;
 
 /// The law that whatever events are possible in turn, in whatever order, each machine holds what the source's run says
 /// and each message under way has its ideal body, from either first world. It does nothing.
@@ -19,4 +22,10 @@ pub fn every_schedule()
 pub fn every_later_schedule()
     ensures whole { EveryLaterSchedule }
     ensures log { EveryLaterLog }
+{}
+
+/// The law of how many events a complete run by machines of any kind has, by the rulings that its judges make. It does
+/// nothing.
+pub fn runs_are_counted<S: Site>()
+    ensures { CompleteRunsAreCounted S.work }
 {}
