@@ -106,7 +106,7 @@ module _ (lines : Lines) (src : Source) (parts : List PlainPart) (one : IsOneRun
       abbrev w' : World
       w' = cluster.go_at core_work w 0 (Some s)
 
-      f' : Follows src parts w' k'
+      pub f' : Follows src parts w' k'
       f' = gone_follows src parts one run same_ends w k f 0 s at ready
 
       abbrev before : SettledState
@@ -137,7 +137,7 @@ module _ (lines : Lines) (src : Source) (parts : List PlainPart) (one : IsOneRun
           ∙ it_stands core_work core_sound core_lawful src.split parts
           (few src parts one run same_ends) w' k' f'.alike f'.reached j t there)
 
-      there_zero : slice_get w'.sites 0 ≡ Some (core_go s)
+      pub there_zero : slice_get w'.sites 0 ≡ Some (core_go s)
       there_zero = zero_there w.sites at
         where
           zero_there : (ss : List State) → slice_get ss 0 ≡ Some s →
@@ -145,7 +145,7 @@ module _ (lines : Lines) (src : Source) (parts : List PlainPart) (one : IsOneRun
           zero_there [] e = cc
           zero_there (x ∷ xs) e = refl
 
-      goes_to : (core_go s).at ≡ standing_at (r + 1) (after_judge r (core_work.judge s))
+      pub goes_to : (core_go s).at ≡ standing_at (r + 1) (after_judge r (core_work.judge s))
       goes_to = zero_judges src parts one run same_ends w k f 0 s at ready refl r spot
 
       round_is : s.at.round ≡ r
@@ -165,7 +165,7 @@ module _ (lines : Lines) (src : Source) (parts : List PlainPart) (one : IsOneRun
           ∙ (let none : 256 * (r + 1) + 0 ≡ 256 * (r + 1) = omega arith in none)
 
       -- every machine has the rows behind the round
-      rows_are : (j : ℕ) (t : State) → slice_get w'.sites j ≡ Some t → r + 1 ≡ rows_before t.at
+      pub rows_are : (j : ℕ) (t : State) → slice_get w'.sites j ≡ Some t → r + 1 ≡ rows_before t.at
       rows_are j t there =
           elim (set_cases w.sites 0 (core_go s) j t there) as (λ _. r + 1 ≡ rows_before t.at) [
             | same here now ↦

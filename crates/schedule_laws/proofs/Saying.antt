@@ -36,7 +36,7 @@ use Rattle.schedule_laws.proofs.Printing.{all_print, next_by, next_follows}
 use Rattle.schedule_laws.proofs.RunLaws.{rest, run_at}
 
 -- ---- where no lines are asked for
-abbrev quiet : Lines
+abbrev pub quiet : Lines
 quiet = record { rounds = false; reads = false; log = false }
 
 quiet_told : (b : Bool) (t : Told) → (if b then told_lines quiet t else []) ≡ []

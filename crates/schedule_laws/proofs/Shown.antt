@@ -87,7 +87,7 @@ module _ (src : Source) (w : World) (has : HasParts src w) where
           ∙ ap (λ rs. row_in (part_of ends src.job.draws src.job.graph.edges c) rs v) (held c site.0 site.1)
           ∙ row_of_own rows ends c v lies
 
-      rows_shown : map (layout.row_in core_work w) (vertices_in w) ≡ rows
+      pub rows_shown : map (layout.row_in core_work w) (vertices_in w) ≡ rows
       rows_shown =
           ap (map (layout.row_in core_work w)) vertices_are
           ∙ map_same (layout.row_in core_work w) (row_at rows) (range_with_len 0 n)

@@ -44,12 +44,12 @@ module _ (split : Split) (parts : List PlainPart) (one : IsOneRun parts) (fits :
   can_run : All (λ part. CanRun part split) parts
   can_run = parts_run split parts one fits
 
-  run : IsSourceRun (whole_run split parts one)
-  run = fresh_is_a_run split parts one can_run
+  pub whole_is_a_run : IsSourceRun (whole_run split parts one)
+  whole_is_a_run = fresh_is_a_run split parts one can_run
 
-  follows : Follows (whole_run split parts one) parts (first_world core_work split parts)
+  pub whole_follows : Follows (whole_run split parts one) parts (first_world core_work split parts)
       (first_skeleton (length parts))
-  follows = first_follows split parts one can_run run
+  whole_follows = first_follows split parts one can_run whole_is_a_run
 
   -- the first machine begins before the first round
   first_site : (s : State) × (slice_get (first_world core_work split parts).sites 0 ≡ Some s) × (s.at.round ≡ 0)
@@ -64,8 +64,8 @@ module _ (split : Split) (parts : List PlainPart) (one : IsOneRun parts) (fits :
       IsTrueWorld (whole_run split parts one) (after core_work (first_world core_work split parts) es)
   first_worlds_true es can =
       let behind =
-      all_follow (whole_run split parts one) parts one run refl (first_world core_work split parts)
-      (first_skeleton (length parts)) follows es can in
+      all_follow (whole_run split parts one) parts one whole_is_a_run refl (first_world core_work split parts)
+      (first_skeleton (length parts)) whole_follows es can in
       is_true (whole_run split parts one) parts (after core_work (first_world core_work split parts) es) behind.0
       behind.1
 
@@ -74,8 +74,8 @@ module _ (split : Split) (parts : List PlainPart) (one : IsOneRun parts) (fits :
       text_of core_work lines (first_world core_work split parts) es ≡
       output_text lines (whole_run split parts one) (first_skeleton (length parts)) es
   first_text_says lines es complete =
-      text_says lines (whole_run split parts one) parts one run refl
-      (first_world core_work split parts) (first_skeleton (length parts)) follows first_site.0 first_site.1
+      text_says lines (whole_run split parts one) parts one whole_is_a_run refl
+      (first_world core_work split parts) (first_skeleton (length parts)) whole_follows first_site.0 first_site.1
       (ap (λ n. if nat_le 1 n then n else 1) first_site.2) es complete
 
   pub first_text_runs : (lines : Lines) (es : List Event) →
@@ -83,8 +83,8 @@ module _ (split : Split) (parts : List PlainPart) (one : IsOneRun parts) (fits :
       text_of core_work lines (first_world core_work split parts) es ≡
       text_of_run lines split.program.program (source_run (job_of split one.ends one.draws one.edges))
   first_text_runs lines es complete none =
-      text_runs lines (whole_run split parts one) parts one run refl
-      (first_world core_work split parts) (first_skeleton (length parts)) follows first_site.0 first_site.1
+      text_runs lines (whole_run split parts one) parts one whole_is_a_run refl
+      (first_world core_work split parts) (first_skeleton (length parts)) whole_follows first_site.0 first_site.1
       (ap (λ n. if nat_le 1 n then n else 1) first_site.2) es complete none
 
 module _ (split : Split) (parts : List PlainPart) (one : IsOneRun parts) (start : PlainStart)

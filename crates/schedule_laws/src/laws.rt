@@ -1,6 +1,7 @@
 ghost use Rattle.schedule_laws.specs.CountedRuns.{CompleteRunsAreCounted};
 ghost use Rattle.schedule_laws.specs.Laws.{EveryLaterLog, EveryLaterSchedule, EveryLaterWorldIsTrue};
 ghost use Rattle.schedule_laws.specs.Laws.{EveryLog, EverySchedule, EveryWorldIsTrue};
+ghost use Rattle.schedule_laws.specs.Starts.{EveryRestIsPrinted, EveryStartIsTold};
 
 use symple_face::Site;
 
@@ -22,6 +23,13 @@ pub fn every_schedule()
 pub fn every_later_schedule()
     ensures whole { EveryLaterSchedule }
     ensures log { EveryLaterLog }
+{}
+
+/// The law that behind the judge of a round the machines tell what stands before the next one in the source's run, and
+/// that a run that goes on from there prints the rest of what the whole run prints. It does nothing.
+pub fn starts_are_told()
+    ensures told { EveryStartIsTold }
+    ensures rest { EveryRestIsPrinted }
 {}
 
 /// The law of how many events a complete run by machines of any kind has, by the rulings that its judges make. It does

@@ -3,4 +3,6 @@
 
 mod laws;
 
-pub use laws::{every_later_schedule, every_schedule, runs_are_counted, worlds_are_true};
+pub use laws::{
+    every_later_schedule, every_schedule, runs_are_counted, starts_are_told, worlds_are_true,
+};
