@@ -138,12 +138,7 @@ module _ (lines : Lines) (src : Source) (parts : List PlainPart) (one : IsOneRun
           (few src parts one run same_ends) w' k' f'.alike f'.reached j t there)
 
       pub there_zero : slice_get w'.sites 0 ≡ Some (core_go s)
-      there_zero = zero_there w.sites at
-        where
-          zero_there : (ss : List State) → slice_get ss 0 ≡ Some s →
-              slice_get (slice_set ss 0 (core_go s)) 0 ≡ Some (core_go s)
-          zero_there [] e = cc
-          zero_there (x ∷ xs) e = refl
+      there_zero = set_here w.sites 0 (core_go s) (slice_get_within w.sites 0 s at)
 
       pub goes_to : (core_go s).at ≡ standing_at (r + 1) (after_judge r (core_work.judge s))
       goes_to = zero_judges src parts one run same_ends w k f 0 s at ready refl r spot
