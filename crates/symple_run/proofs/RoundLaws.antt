@@ -12,7 +12,8 @@ use Rattle.plain_run.specs.Told.{told_of}
 use Rattle.std.specs.declared.alloc.Global.{Global}
 use Rattle.std.specs.declared.vec.Vec.{Vec}
 use Rattle.symple_run.proofs.NumberedLaws.{AreNumbered}
-use Rattle.symple_run.specs.Outputs.{AreFew, IsFew, read_line, read_lines, told_lines, told_run}
+use Rattle.schedule_laws.specs.Texts.{read_line, read_lines, told_lines, told_run}
+use Rattle.symple_run.specs.Outputs.{AreFew, IsFew}
 use Rattle.symple_words.specs.declared.line.Lines.{Lines}
 use Rattle.vert_base.specs.declared.graph.VertexId.{VertexId}
 use Rattle.vert_base.specs.declared.value.Row.{Row}

@@ -3,7 +3,8 @@ ghost use Rattle.std.specs.List.{All};
 ghost use Rattle.array_text.specs.Writes.{Writes};
 ghost use Rattle.plain_run.specs.Lists.{id_lists_of, ids_of};
 ghost use Rattle.plain_run.specs.Told.{told_of};
-ghost use Rattle.symple_run.specs.Outputs.{IsFew, read_line, read_lines, told_lines, told_text};
+ghost use Rattle.schedule_laws.specs.Texts.{read_line, read_lines, told_lines, told_text};
+ghost use Rattle.symple_run.specs.Outputs.{IsFew};
 
 use array_text::{put_all, write_read_head, write_reads, write_round};
 use outside::{Sink, SinkFault};

@@ -2,7 +2,8 @@ ghost use Rattle.std.specs.Prelude.{◌<◌, ◌^◌, length, map};
 ghost use Rattle.array_text.specs.Tables.{rows_text, table_text};
 ghost use Rattle.array_text.specs.Writes.{Writes};
 ghost use Rattle.plain_run.specs.Told.{told_of};
-ghost use Rattle.symple_run.specs.Outputs.{AreFew, told_run};
+ghost use Rattle.schedule_laws.specs.Texts.{told_run};
+ghost use Rattle.symple_run.specs.Outputs.{AreFew};
 ghost use Rattle.symple_run.specs.States.{sink_state};
 ghost use Rattle.symple_run.specs.Walks.{HandsOn};
 

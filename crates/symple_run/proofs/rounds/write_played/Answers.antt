@@ -2,7 +2,7 @@ use Rattle.std.proofs.Common.{[]}
 use Rattle.std.specs.Prelude.{if◌then◌else◌}
 use Rattle.plain_run.specs.Lists.{id_lists_of}
 use Rattle.array_text.proofs.WritesLaws.{writes_failed, writes_then}
-use Rattle.symple_run.specs.Outputs.{read_lines}
+use Rattle.schedule_laws.specs.Texts.{read_lines}
 use Rattle.symple_run.proofs.rounds.write_played.Goals as goal
 
 pub returns : goal.returns

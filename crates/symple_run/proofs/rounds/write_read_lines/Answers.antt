@@ -1,7 +1,7 @@
 use Rattle.std.proofs.Common.{◌+◌, List, ℕ, drop, ap, arith, ◌∙◌}
 use Rattle.plain_run.specs.Lists.{ids_of}
 use Rattle.array_text.proofs.WritesLaws.{writes_same, writes_failed, writes_then}
-use Rattle.symple_run.specs.Outputs.{read_line}
+use Rattle.schedule_laws.specs.Texts.{read_line}
 use Rattle.symple_run.proofs.NumberedLaws.{numbered_more, numbered_split}
 use Rattle.symple_run.proofs.RoundLaws.{held_line, held_lines, reads_numbered}
 use Rattle.vert_base.specs.declared.graph.VertexId.{VertexId}

@@ -1,7 +1,7 @@
 use Rattle.std.proofs.Common.{take, map, Ok}
 use Rattle.array_text.specs.Writes.{Writes}
 use Rattle.plain_run.specs.Lists.{ids_of}
-use Rattle.symple_run.specs.Outputs.{read_lines}
+use Rattle.schedule_laws.specs.Texts.{read_lines}
 use Rattle.symple_run.proofs.rounds.write_read_lines.Given as goal
 
 -- the lines of the vertices so far are written

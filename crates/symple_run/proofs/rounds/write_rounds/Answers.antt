@@ -1,7 +1,7 @@
 use Rattle.std.proofs.Common.{List, ℕ, ap, arith}
 use Rattle.plain_run.specs.declared.rounds.PlayedRound.{PlayedRound}
 use Rattle.plain_run.specs.Told.{told_of}
-use Rattle.symple_run.specs.Outputs.{told_lines}
+use Rattle.schedule_laws.specs.Texts.{told_lines}
 use Rattle.symple_run.proofs.TextLaws.{one_failed, one_more}
 use Rattle.symple_run.proofs.rounds.write_rounds.Goals as goal
 

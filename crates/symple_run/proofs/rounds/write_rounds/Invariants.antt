@@ -1,7 +1,7 @@
 use Rattle.std.proofs.Common.{take, flat_map, Ok}
 use Rattle.array_text.specs.Writes.{Writes}
 use Rattle.plain_run.specs.Told.{told_of}
-use Rattle.symple_run.specs.Outputs.{told_lines}
+use Rattle.schedule_laws.specs.Texts.{told_lines}
 use Rattle.symple_run.proofs.rounds.write_rounds.Given as goal
 
 -- the lines of the rounds so far are written
