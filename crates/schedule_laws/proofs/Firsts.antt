@@ -25,9 +25,9 @@ use Rattle.cluster_run.proofs.FirstWorlds.{first_tied, restarted_tied}
 use Rattle.cluster_run.proofs.PartsAt.{part_at, parts_few, parts_some}
 use Rattle.cluster_run.proofs.Restarted.{is_restarted}
 use Rattle.cluster_run.proofs.Sites.{map_get_back}
-use Rattle.event_laws.specs.Events.{IsTrue}
-use Rattle.event_laws.specs.Runs.{IsSourceRun}
-use Rattle.event_laws.proofs.Firsts.{first_is_true, restarted_is_true}
+use Rattle.schedule_laws.specs.Events.{IsTrue}
+use Rattle.schedule_laws.specs.Runs.{IsSourceRun}
+use Rattle.schedule_laws.proofs.FirstStates.{first_is_true, restarted_is_true}
 use Rattle.schedule_laws.proofs.Follows.{Follows}
 
 -- at first round 1 is the next one that is judged

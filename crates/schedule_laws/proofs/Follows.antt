@@ -46,10 +46,10 @@ use Rattle.cluster_run.proofs.Worlds.{IsMachine, IsSkeletonOf, it_keeps, it_stan
 use Rattle.round_laws.proofs.FoldCloses.{at_most}
 use Rattle.round_laws.proofs.FoldScanHeld.{found_holds}
 use Rattle.round_laws.proofs.Held as held
-use Rattle.event_laws.specs.Events.{IsInTurn, IsTrue, ring_in}
-use Rattle.event_laws.specs.Runs.{IsSourceRun}
-use Rattle.event_laws.proofs.Goes.{goes_on}
-use Rattle.event_laws.proofs.Takes.{takes_on}
+use Rattle.schedule_laws.specs.Events.{IsInTurn, IsTrue, ring_in}
+use Rattle.schedule_laws.specs.Runs.{IsSourceRun}
+use Rattle.schedule_laws.proofs.Goes.{goes_on}
+use Rattle.schedule_laws.proofs.Takes.{takes_on}
 use Rattle.schedule_laws.specs.OutputText.{rulings_of}
 use Rattle.schedule_laws.proofs.Shown.{there_at}
 

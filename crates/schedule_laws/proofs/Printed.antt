@@ -39,9 +39,9 @@ use Rattle.round_laws.specs.IsIdeal.{rows_before, rows_round}
 use Rattle.round_laws.specs.Tallies.{source_count}
 use Rattle.round_laws.proofs.FoldCloses.{at_most}
 use Rattle.round_laws.proofs.ReadsCounted.{reads_are_counted}
-use Rattle.event_laws.specs.Runs.{IsSourceRun}
-use Rattle.event_laws.proofs.SourceSees.{splits}
-use Rattle.event_laws.proofs.Stands.{few as few_rounds}
+use Rattle.schedule_laws.specs.Runs.{IsSourceRun}
+use Rattle.schedule_laws.proofs.SourceSees.{splits}
+use Rattle.schedule_laws.proofs.Stands.{few as few_rounds}
 use Rattle.schedule_laws.specs.Layout.{gone_lines, judged_lines, reads_in, round_lines, told_in, vertices_in}
 use Rattle.schedule_laws.specs.OutputText.{lines_at}
 use Rattle.schedule_laws.specs.Texts.{told_lines}

@@ -34,9 +34,9 @@ use Rattle.cluster_run.proofs.PartsAt.{parts_some}
 use Rattle.cluster_run.proofs.Worlds.{it_keeps, it_stands}
 use Rattle.round_laws.specs.IsIdeal.{rows_round}
 use Rattle.round_laws.proofs.FoldCloses.{at_most}
-use Rattle.event_laws.specs.Events.{ring_in}
-use Rattle.event_laws.specs.Runs.{IsSourceRun}
-use Rattle.event_laws.proofs.Stands.{few as few_rounds, stands_in_words}
+use Rattle.schedule_laws.specs.Events.{ring_in}
+use Rattle.schedule_laws.specs.Runs.{IsSourceRun}
+use Rattle.schedule_laws.proofs.Stands.{few as few_rounds, stands_in_words}
 use Rattle.schedule_laws.specs.Layout.{lines_of, round_lines, table_of, taken_in}
 use Rattle.schedule_laws.specs.OutputText.{rulings_of}
 use Rattle.schedule_laws.proofs.Follows.{Follows, few, gone_follows, gone_is, gone_to, judged_next, took_follows, took_is, took_to}

@@ -26,7 +26,7 @@ use Rattle.work_laws.specs.Sound.{core_sound}
 use Rattle.work_laws.proofs.Whole.{core_lawful}
 use Rattle.cluster_run.proofs.Worlds.{it_stands}
 use Rattle.round_laws.proofs.FoldScanHeld.{found_holds}
-use Rattle.event_laws.specs.Runs.{IsSourceRun}
+use Rattle.schedule_laws.specs.Runs.{IsSourceRun}
 use Rattle.schedule_laws.specs.Layout.{event_lines, gone_lines, judged_lines, lines_of, round_lines, table_of, taken_in, text_of, told_in}
 use Rattle.schedule_laws.specs.OutputText.{ended_lines, ideal_taken, lines_at, output_text, played_lines, run_of, schedule_lines, standing_lines}
 use Rattle.schedule_laws.specs.Texts.{text_of_run, told_lines}

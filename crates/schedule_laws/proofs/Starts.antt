@@ -18,8 +18,8 @@ use Rattle.symple_face.specs.Source.{Source, stand}
 use Rattle.symple_face.specs.State.{State, Sums, machine}
 use Rattle.work_laws.specs.Sound.{FitsSpot}
 use Rattle.work_laws.proofs.Whole.{core_lawful}
-use Rattle.event_laws.specs.Runs.{IsSourceRun}
-use Rattle.event_laws.proofs.Stands.{few as few_rounds, stands_in_words}
+use Rattle.schedule_laws.specs.Runs.{IsSourceRun}
+use Rattle.schedule_laws.proofs.Stands.{few as few_rounds, stands_in_words}
 use Rattle.schedule_laws.specs.Laws.{whole_run}
 use Rattle.schedule_laws.specs.Layout.{row_in, vertices_in}
 use Rattle.schedule_laws.specs.Starts.{EveryStartIsTold, ahead_with, start_at, start_by, start_told, start_with}

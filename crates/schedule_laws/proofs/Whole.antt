@@ -20,8 +20,8 @@ use Rattle.symple_face.specs.Work.{PlainStart}
 use Rattle.cluster_run.proofs.FirstWorlds.{all_at}
 use Rattle.cluster_run.proofs.PartsAt.{part_at, parts_some}
 use Rattle.cluster_run.proofs.Sites.{map_get}
-use Rattle.event_laws.specs.Runs.{IsSourceRun}
-use Rattle.event_laws.proofs.Runs.{fresh_is_a_run, resumed_is_a_run}
+use Rattle.schedule_laws.specs.Runs.{IsSourceRun}
+use Rattle.schedule_laws.proofs.Runs.{fresh_is_a_run, resumed_is_a_run}
 use Rattle.schedule_laws.specs.Laws.{EveryLaterLog, EveryLaterSchedule, EveryLaterWorldIsTrue, EveryLog, EverySchedule, EveryWorldIsTrue, later_run, whole_run}
 use Rattle.schedule_laws.specs.Layout.{text_of}
 use Rattle.schedule_laws.specs.OutputText.{output_text, run_of}

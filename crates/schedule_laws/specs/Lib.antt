@@ -1,7 +1,10 @@
 pub mod CountedRuns
+pub mod Events
+pub mod Firsts
 pub mod Laws
 pub mod Layout
 pub mod OutputText
+pub mod Runs
 pub mod Starts
 pub mod Texts
 pub mod TrueWorlds

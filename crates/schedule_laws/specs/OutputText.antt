@@ -16,7 +16,7 @@ use Rattle.circulant_plan.specs.Skeleton.{Skeleton, step_of}
 use Rattle.circulant_plan.specs.Standing.{Standing}
 use Rattle.symple_face.specs.Ideal.{ideal_body}
 use Rattle.symple_face.specs.Source.{Source, stand}
-use Rattle.event_laws.specs.Events.{ring_in}
+use Rattle.schedule_laws.specs.Events.{ring_in}
 use Rattle.schedule_laws.specs.Texts.{told_lines}
 
 -- the rounds of a source from its first one on

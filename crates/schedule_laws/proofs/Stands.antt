@@ -8,7 +8,7 @@ use Rattle.value_laws.proofs.WholeRuns.{goes_on_in_words}
 use Rattle.vert_eval.specs.SourceRun.{standing_after}
 use Rattle.symple_face.specs.CoreSight.{total_count}
 use Rattle.symple_face.specs.Source.{Source, stand, stand_after}
-use Rattle.event_laws.specs.Runs.{IsSourceRun}
+use Rattle.schedule_laws.specs.Runs.{IsSourceRun}
 
 -- the round is one behind which the source's run says what stands
 abbrev pub IsBegun : Source → ℕ → Type 0

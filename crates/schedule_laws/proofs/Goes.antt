@@ -50,13 +50,13 @@ use Rattle.round_laws.proofs.SentBegin.{begin_sends_ideal}
 use Rattle.round_laws.proofs.SentScan.{scan_sends_ideal}
 use Rattle.round_laws.proofs.SentTallies.{close_sends_ideal, judge_sends_ideal, tell_sends_ideal}
 use Rattle.work_laws.specs.Sound.{core_sound}
-use Rattle.event_laws.specs.Events.{GoesOn, IsTrue, PushesAreHeld}
-use Rattle.event_laws.specs.Runs.{IsSourceRun}
-use Rattle.event_laws.proofs.Counts.{counted_round}
-use Rattle.event_laws.proofs.DenseRounds.{some_of, dense_round, runs_sparse}
-use Rattle.event_laws.proofs.Onward.{onward}
-use Rattle.event_laws.proofs.SourceSees.{runs, sends_words_all, splits}
-use Rattle.event_laws.proofs.Stands.{few}
+use Rattle.schedule_laws.specs.Events.{GoesOn, IsTrue, PushesAreHeld}
+use Rattle.schedule_laws.specs.Runs.{IsSourceRun}
+use Rattle.schedule_laws.proofs.Counts.{counted_round}
+use Rattle.schedule_laws.proofs.DenseRounds.{some_of, dense_round, runs_sparse}
+use Rattle.schedule_laws.proofs.Onward.{onward}
+use Rattle.schedule_laws.proofs.SourceSees.{runs, sends_words_all, splits}
+use Rattle.schedule_laws.proofs.Stands.{few}
 
 -- what a ready machine needs is held
 all_there : (xs : List Name) (held : List Letter) → waiting_for (first_missing xs held) ≡ Ready → (x : Name) →

@@ -22,7 +22,7 @@ use Rattle.round_laws.specs.FoldBegins.{IsPushName}
 use Rattle.round_laws.specs.IsIdeal.{IsIdeal, awaits_begin, is_open}
 use Rattle.round_laws.specs.Sent.{SendsIdeal}
 use Rattle.work_laws.specs.Sound.{core_sound}
-use Rattle.event_laws.specs.Runs.{IsSourceRun}
+use Rattle.schedule_laws.specs.Runs.{IsSourceRun}
 
 -- the ring of a run
 abbrev pub ring_in : Source → Ring

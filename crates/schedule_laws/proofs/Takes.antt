@@ -38,12 +38,12 @@ use Rattle.round_laws.proofs.FoldUpdates.{takes_updates}
 use Rattle.round_laws.proofs.FoldVerdicts.{takes_verdicts}
 use Rattle.work_laws.specs.Sound.{core_sound}
 use Rattle.work_laws.proofs.Held.{planned_apart, shape_parts}
-use Rattle.event_laws.specs.Events.{IsInTurn, IsTrue, TakesOn, ring_in}
-use Rattle.event_laws.specs.Runs.{IsSourceRun}
-use Rattle.event_laws.proofs.DenseRounds.{some_of, runs_sparse}
-use Rattle.event_laws.proofs.SourceSees.{runs, sends_words_all, splits, suits}
-use Rattle.event_laws.proofs.Stands.{few, stands_in_words, total_length}
-use Rattle.event_laws.proofs.Took.{took_on}
+use Rattle.schedule_laws.specs.Events.{IsInTurn, IsTrue, TakesOn, ring_in}
+use Rattle.schedule_laws.specs.Runs.{IsSourceRun}
+use Rattle.schedule_laws.proofs.DenseRounds.{some_of, runs_sparse}
+use Rattle.schedule_laws.proofs.SourceSees.{runs, sends_words_all, splits, suits}
+use Rattle.schedule_laws.proofs.Stands.{few, stands_in_words, total_length}
+use Rattle.schedule_laws.proofs.Took.{took_on}
 
 pub all_words : (words : List ℤ) → ((i : ℕ) → FitsSigned w64 (word_at words i)) → AllByRecursion (FitsSigned w64) words
 all_words [] each = tt

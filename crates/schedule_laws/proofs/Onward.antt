@@ -25,8 +25,8 @@ use Rattle.round_laws.specs.FoldBegins.{IsPushName}
 use Rattle.round_laws.specs.IsIdeal.{IsIdeal, awaits_begin, is_open}
 use Rattle.round_laws.proofs.FoldScanHeld.{name_stays}
 use Rattle.work_laws.proofs.Moves.{acted_part, go_held}
-use Rattle.event_laws.specs.Events.{IsTrue, PushesAreHeld, ring_in}
-use Rattle.event_laws.proofs.Stands.{IsBegun}
+use Rattle.schedule_laws.specs.Events.{IsTrue, PushesAreHeld, ring_in}
+use Rattle.schedule_laws.proofs.Stands.{IsBegun}
 
 -- ---- spots
 begin_awaits : (x : Spot) → is_begin x ≡ true → awaits_begin x ≡ true

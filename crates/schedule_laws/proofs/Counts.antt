@@ -34,9 +34,9 @@ use Rattle.work_laws.proofs.Counts.{counted_suits, reads_few}
 use Rattle.work_laws.proofs.Partials.{over_range}
 use Rattle.work_laws.proofs.Sees.{within_map}
 use Rattle.std.proofs.lemmas.List.Elements.{All-filter, All-map}
-use Rattle.event_laws.specs.Runs.{IsSourceRun}
-use Rattle.event_laws.proofs.SourceSees.{reads_few as source_reads_few}
-use Rattle.event_laws.proofs.Stands.{IsBegun, after_is, few, fitting, stands_in_words}
+use Rattle.schedule_laws.specs.Runs.{IsSourceRun}
+use Rattle.schedule_laws.proofs.SourceSees.{reads_few as source_reads_few}
+use Rattle.schedule_laws.proofs.Stands.{IsBegun, after_is, few, fitting, stands_in_words}
 
 module _ (src : Source) (run : IsSourceRun src) (round : ℕ) (within : round ≤ src.job.program.limit) where
   abbrev ends : List ℕ

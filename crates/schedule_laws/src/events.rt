@@ -1,6 +1,6 @@
-ghost use Rattle.event_laws.specs.Events.{GoesOn, TakesOn};
-ghost use Rattle.event_laws.specs.Firsts.{FirstIsTrue, RestartedIsTrue};
-ghost use Rattle.event_laws.specs.Runs.{FreshIsARun, ResumedIsARun};
+ghost use Rattle.schedule_laws.specs.Events.{GoesOn, TakesOn};
+ghost use Rattle.schedule_laws.specs.Firsts.{FirstIsTrue, RestartedIsTrue};
+ghost use Rattle.schedule_laws.specs.Runs.{FreshIsARun, ResumedIsARun};
 
 /// The law that the parts of a graph and a program have a run of the source. It does nothing.
 pub fn runs_of_parts()

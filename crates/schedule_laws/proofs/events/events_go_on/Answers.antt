@@ -1,6 +1,6 @@
-use Rattle.event_laws.proofs.Goes.{goes_on}
-use Rattle.event_laws.proofs.Takes.{takes_on}
-use Rattle.event_laws.proofs.laws.events_go_on.Goals as goal
+use Rattle.schedule_laws.proofs.Goes.{goes_on}
+use Rattle.schedule_laws.proofs.Takes.{takes_on}
+use Rattle.schedule_laws.proofs.events.events_go_on.Goals as goal
 
 pub returns-clause-go : goal.returns-clause-go
 returns-clause-go c = goes_on

@@ -26,8 +26,8 @@ use Rattle.round_laws.specs.FoldBegins.{IsPushName}
 use Rattle.round_laws.specs.IsIdeal.{IsIdeal, awaits_begin, is_open}
 use Rattle.round_laws.proofs.Held.{all_placed}
 use Rattle.work_laws.proofs.Moves.{taken_at, taken_held, taken_part}
-use Rattle.event_laws.specs.Events.{IsTrue, PushesAreHeld, ring_in}
-use Rattle.event_laws.proofs.Stands.{IsBegun}
+use Rattle.schedule_laws.specs.Events.{IsTrue, PushesAreHeld, ring_in}
+use Rattle.schedule_laws.proofs.Stands.{IsBegun}
 
 over_is : (x : Spot) → is_over x ≡ true → x ≡ Over
 over_is Tell e = cc

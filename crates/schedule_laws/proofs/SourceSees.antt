@@ -55,8 +55,8 @@ use Rattle.work_laws.proofs.Scans.{ScanFits, SentFits, fresh_fits, scanned_fits}
 use Rattle.work_laws.proofs.Sights.{SightFits}
 use Rattle.work_laws.proofs.Sparse.{sends_fit}
 use Rattle.work_laws.proofs.Words.{MayFit, words_fit}
-use Rattle.event_laws.specs.Runs.{IsSourceRun}
-use Rattle.event_laws.proofs.Stands.{fitting, stands_in_words}
+use Rattle.schedule_laws.specs.Runs.{IsSourceRun}
+use Rattle.schedule_laws.proofs.Stands.{fitting, stands_in_words}
 
 -- ---- sends
 -- so many words, where there are some

@@ -23,9 +23,9 @@ use Rattle.symple_face.proofs.ChunkLaws.{chunk_within, lies_high}
 use Rattle.round_laws.specs.FoldPushes.{RunsSparse}
 use Rattle.round_laws.specs.FoldScan.{IsDenseRound}
 use Rattle.work_laws.proofs.Words.{words_fit}
-use Rattle.event_laws.specs.Runs.{IsSourceRun}
-use Rattle.event_laws.proofs.SourceSees.{runs, splits, states_fit}
-use Rattle.event_laws.proofs.Stands.{fitting, stands_in_words}
+use Rattle.schedule_laws.specs.Runs.{IsSourceRun}
+use Rattle.schedule_laws.proofs.SourceSees.{runs, splits, states_fit}
+use Rattle.schedule_laws.proofs.Stands.{fitting, stands_in_words}
 
 -- a block that there is
 pub some_of : {X : Type 0} (o : Option X) → is_some o ≡ true → (x : X) × (o ≡ Some x)

@@ -48,10 +48,10 @@ use Rattle.round_laws.proofs.FoldCloses as closes
 use Rattle.round_laws.proofs.Seen.{seen_environment}
 use Rattle.round_laws.proofs.Sights.{degree_known}
 use Rattle.round_laws.proofs.Vertices.{own_law}
-use Rattle.event_laws.specs.Events.{IsTrue, PushesAreHeld}
-use Rattle.event_laws.specs.Firsts.{FirstIsTrue, RestartedIsTrue}
-use Rattle.event_laws.specs.Runs.{IsSourceRun}
-use Rattle.event_laws.proofs.Takes.{all_words}
+use Rattle.schedule_laws.specs.Events.{IsTrue, PushesAreHeld}
+use Rattle.schedule_laws.specs.Firsts.{FirstIsTrue, RestartedIsTrue}
+use Rattle.schedule_laws.specs.Runs.{IsSourceRun}
+use Rattle.schedule_laws.proofs.Takes.{all_words}
 
 no_way : (b : Bool) → (if b then false else false) ≡ true → ⊥
 no_way true e = cc

@@ -6,8 +6,8 @@ use Rattle.symple_face.specs.CoreFirst.{core_first, core_restarted}
 use Rattle.symple_face.specs.PartsOf.{part_of}
 use Rattle.symple_face.specs.Source.{fresh_source, resumed_source}
 use Rattle.symple_face.specs.Work.{PlainStart}
-use Rattle.event_laws.specs.Events.{IsTrue}
-use Rattle.event_laws.specs.Runs.{IsSourceRun}
+use Rattle.schedule_laws.specs.Events.{IsTrue}
+use Rattle.schedule_laws.specs.Runs.{IsSourceRun}
 
 -- that of a whole run
 abbrev pub FirstIsTrue : Type 0

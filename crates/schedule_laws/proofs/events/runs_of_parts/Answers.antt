@@ -1,5 +1,5 @@
-use Rattle.event_laws.proofs.Runs.{fresh_is_a_run, resumed_is_a_run}
-use Rattle.event_laws.proofs.laws.runs_of_parts.Goals as goal
+use Rattle.schedule_laws.proofs.Runs.{fresh_is_a_run, resumed_is_a_run}
+use Rattle.schedule_laws.proofs.events.runs_of_parts.Goals as goal
 
 pub returns-clause-fresh : goal.returns-clause-fresh
 returns-clause-fresh c = fresh_is_a_run

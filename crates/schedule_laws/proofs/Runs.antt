@@ -15,7 +15,7 @@ use Rattle.symple_face.specs.Parts.{PlainPart}
 use Rattle.symple_face.specs.PartsOf.{part_of}
 use Rattle.symple_face.specs.Source.{job_of}
 use Rattle.work_laws.proofs.Sights.{all_fit_at}
-use Rattle.event_laws.specs.Runs.{FreshIsARun, ResumedIsARun}
+use Rattle.schedule_laws.specs.Runs.{FreshIsARun, ResumedIsARun}
 
 each_made : {X : Type 0} (P : X → Type 0) (f : ℕ → X) (a n : ℕ) → AllByRecursion P (map f (range_with_len a n)) →
     (m : ℕ) → a ≤ m → m < a + n → P (f m)
