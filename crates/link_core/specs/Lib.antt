@@ -1,0 +1,2 @@
+pub mod LinkTexts
+pub mod LinkRecords
