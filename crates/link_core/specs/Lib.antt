@@ -1,2 +1,4 @@
 pub mod LinkTexts
 pub mod LinkRecords
+pub mod LinkLines
+pub mod LinkSays

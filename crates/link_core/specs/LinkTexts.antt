@@ -47,3 +47,7 @@ pub record IsLinkSchedule (machines : ℕ) (events : List LinkEvent) : Type 0 wh
   pub some : 1 ≤ machines
   pub few : machines ≤ 64
   pub each : AllByRecursion IsLinkEvent events
+
+-- the line without its line feed
+abbrev pub event_front : LinkEvent → List ℕ
+event_front event = word_text event ++ event_text event

@@ -11,3 +11,10 @@ pub enum LinkEvent {
     Ack(Name),
     Drop(Name),
 }
+
+/// The machines of a run over links, and its events in order.
+#[derive(Debug, Drop)]
+pub struct LinkSchedule {
+    pub machines: u8,
+    pub events: Vec<LinkEvent>,
+}

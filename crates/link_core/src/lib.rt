@@ -3,9 +3,12 @@
 
 mod event;
 mod fault;
+mod line;
+mod read;
 mod recorder;
 mod spelling;
 
-pub use event::LinkEvent;
-pub use fault::LinkRecordFault;
+pub use event::{LinkEvent, LinkSchedule};
+pub use fault::{LinkRecordFault, LinkTextFault};
+pub use read::read_links;
 pub use recorder::LinkRecorder;
