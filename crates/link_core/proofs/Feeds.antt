@@ -1,6 +1,5 @@
 -- The first line feed of a text.
-use Rattle.std.proofs.Common.{◌≡◌, ◌≢◌, Bor, IfSome, None, Option, Some, ℕ, suc, ◌+◌, false, List, [], ◌∷◌, ◌++◌, length, take, drop, refl, ap, sym, ◌∙◌}
-use Rattle.std.specs.Prelude.{◌==◌}
+use Rattle.std.proofs.Common.{◌≡◌, ◌≢◌, Bor, IfSome, None, Option, Some, ℕ, suc, false, List, [], ◌∷◌, ◌++◌, length, take, drop, refl, ap, sym, ◌∙◌}
 use Rattle.std.specs.Option.{IsSomeAnd, MatchOption}
 use Rattle.std.specs.List.{position_or_len}
 use Rattle.std.proofs.Math.Numerals.{one-add}
@@ -8,7 +7,8 @@ use Rattle.std.proofs.lemmas.Bool.{ne_eqb}
 use Rattle.std.proofs.lemmas.List.{drop_at, take_at}
 use Rattle.link_core.specs.LinkLines.{IsLine, is_feed}
 
-goes_on : (c : ℕ) (cs : List ℕ) → is_feed c ≡ false → position_or_len is_feed (c ∷ cs) ≡ suc (position_or_len is_feed cs)
+goes_on : (c : ℕ) (cs : List ℕ) → is_feed c ≡ false →
+    position_or_len is_feed (c ∷ cs) ≡ suc (position_or_len is_feed cs)
 goes_on c cs goes = rw goes (one-add (position_or_len is_feed cs))
 
 -- it stands behind a line

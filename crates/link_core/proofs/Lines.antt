@@ -1,5 +1,5 @@
 -- The lines of events have no line feed, and begin with the letters of their words.
-use Rattle.std.proofs.Common.{◌≡◌, ◌≢◌, ℕ, ◌<◌, ◌≤◌, ◌^◌, Bool, true, false, List, [], ◌∷◌, ◌++◌, refl, arith, rules}
+use Rattle.std.proofs.Common.{◌≢◌, ℕ, ◌<◌, ◌≤◌, ◌^◌, Bool, true, false, List, [], ◌∷◌, ◌++◌, arith, rules}
 use Rattle.std.specs.Prelude.{if◌then◌else◌, codes, decimal}
 use Rattle.std.specs.List.{AllByRecursion}
 use Rattle.std.specs.Char.{digit_value}
@@ -55,12 +55,12 @@ letters [] all = tt
 letters (b ∷ bs) all = (λ e. let h = all.0 in omega (arith, h, e), letters bs all.1)
 
 kind_plain : (kind : NameKind) → IsLine (kind_text kind)
-kind_plain Refresh = letters (codes "refresh") (omega arith, (omega arith, (omega arith, (omega arith, (omega arith, (omega arith, (omega arith, tt)))))))
-kind_plain Dep = letters (codes "dep") (omega arith, (omega arith, (omega arith, tt)))
-kind_plain Update = letters (codes "update") (omega arith, (omega arith, (omega arith, (omega arith, (omega arith, (omega arith, tt))))))
-kind_plain Push = letters (codes "push") (omega arith, (omega arith, (omega arith, (omega arith, tt))))
-kind_plain Tally = letters (codes "tally") (omega arith, (omega arith, (omega arith, (omega arith, (omega arith, tt)))))
-kind_plain Verdict = letters (codes "verdict") (omega arith, (omega arith, (omega arith, (omega arith, (omega arith, (omega arith, (omega arith, tt)))))))
+kind_plain Refresh = letters (codes "refresh") (search rules)
+kind_plain Dep = letters (codes "dep") (search rules)
+kind_plain Update = letters (codes "update") (search rules)
+kind_plain Push = letters (codes "push") (search rules)
+kind_plain Tally = letters (codes "tally") (search rules)
+kind_plain Verdict = letters (codes "verdict") (search rules)
 
 pub name_plain : (x : Name) → IsName x → IsLine (name_text x)
 name_plain x is =
@@ -68,12 +68,18 @@ name_plain x is =
     (numbers_plain (x.round ∷ numbers_behind x) (is.round, behind_small x is))
 
 pub event_plain : (e : LinkEvent) → IsLinkEvent e → IsLine (event_front e)
-event_plain (link.Go m) is = joined (codes "go ") (decimal m) (letters (codes "go ") (omega arith, (omega arith, (omega arith, tt)))) (decimal_plain m (wide m is))
-event_plain (link.Take x) is = joined (codes "take ") (name_text x) (letters (codes "take ") (omega arith, (omega arith, (omega arith, (omega arith, (omega arith, tt)))))) (name_plain x is)
-event_plain (link.Lose x) is = joined (codes "lose ") (name_text x) (letters (codes "lose ") (omega arith, (omega arith, (omega arith, (omega arith, (omega arith, tt)))))) (name_plain x is)
-event_plain (link.Again x) is = joined (codes "again ") (name_text x) (letters (codes "again ") (omega arith, (omega arith, (omega arith, (omega arith, (omega arith, (omega arith, tt))))))) (name_plain x is)
-event_plain (link.Ack x) is = joined (codes "ack ") (name_text x) (letters (codes "ack ") (omega arith, (omega arith, (omega arith, (omega arith, tt))))) (name_plain x is)
-event_plain (link.Drop x) is = joined (codes "drop ") (name_text x) (letters (codes "drop ") (omega arith, (omega arith, (omega arith, (omega arith, (omega arith, tt)))))) (name_plain x is)
+event_plain (link.Go m) is =
+    joined (codes "go ") (decimal m) (letters (codes "go ") (search rules)) (decimal_plain m (wide m is))
+event_plain (link.Take x) is =
+    joined (codes "take ") (name_text x) (letters (codes "take ") (search rules)) (name_plain x is)
+event_plain (link.Lose x) is =
+    joined (codes "lose ") (name_text x) (letters (codes "lose ") (search rules)) (name_plain x is)
+event_plain (link.Again x) is =
+    joined (codes "again ") (name_text x) (letters (codes "again ") (search rules)) (name_plain x is)
+event_plain (link.Ack x) is =
+    joined (codes "ack ") (name_text x) (letters (codes "ack ") (search rules)) (name_plain x is)
+event_plain (link.Drop x) is =
+    joined (codes "drop ") (name_text x) (letters (codes "drop ") (search rules)) (name_plain x is)
 
 pub header_plain : (m : ℕ) → m ≤ 64 → IsLine (codes "schedule 3 machines " ++ decimal m)
 header_plain m few =

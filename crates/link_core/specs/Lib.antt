@@ -2,3 +2,4 @@ pub mod LinkTexts
 pub mod LinkRecords
 pub mod LinkLines
 pub mod LinkSays
+pub mod LinkLaws

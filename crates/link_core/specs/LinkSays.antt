@@ -1,5 +1,5 @@
 -- What a text of form 3 says: a run over links, or one fault.
-use Rattle.std.specs.Prelude.{◌≡◌, ◌≢◌, ◌<◌, ◌≤◌, ◌+◌, ℕ, List, [], ◌∷◌, ◌++◌, length, Result, Ok, Err}
+use Rattle.std.specs.Prelude.{◌≡◌, ◌≢◌, ◌<◌, ◌≤◌, ◌+◌, ℕ, List, [], ◌++◌, length, Result, Ok, Err}
 use Rattle.vert_base.specs.declared.limits.TheConstants.{SCHEDULE_BYTES}
 use Rattle.link_core.specs.declared.event.LinkEvent.{LinkEvent}
 use Rattle.link_core.specs.declared.event.LinkSchedule.{LinkSchedule}
@@ -41,3 +41,11 @@ GivesLinks text (Err TooLong) = SCHEDULE_BYTES < length text
 GivesLinks text (Err Header) = HasNoLinkHeader text
 GivesLinks text (Err (Line number)) = HasBadLinkLine text number
 GivesLinks text (Err Want) = Unit {0}
+
+-- the result is this run, or want of memory
+abbrev pub IsLinksRead : ℕ → List LinkEvent → Result LinkSchedule LinkTextFault → Type 0
+IsLinksRead machines events (Ok schedule) = (schedule.machines ≡ machines) × (schedule.events.items ≡ events)
+IsLinksRead machines events (Err TooLong) = ⊥
+IsLinksRead machines events (Err Header) = ⊥
+IsLinksRead machines events (Err (Line number)) = ⊥
+IsLinksRead machines events (Err Want) = Unit {0}

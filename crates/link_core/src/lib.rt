@@ -3,6 +3,7 @@
 
 mod event;
 mod fault;
+mod laws;
 mod line;
 mod read;
 mod recorder;
@@ -10,5 +11,6 @@ mod spelling;
 
 pub use event::{LinkEvent, LinkSchedule};
 pub use fault::{LinkRecordFault, LinkTextFault};
+pub use laws::links_have_one_text;
 pub use read::read_links;
 pub use recorder::LinkRecorder;

@@ -1,4 +1,6 @@
-ghost use Rattle.link_core.specs.LinkSays.{GivesLinks};
+ghost use Rattle.std.specs.Prelude.{ℕ, List};
+ghost use Rattle.link_core.specs.declared.event.LinkEvent.{LinkEvent};
+ghost use Rattle.link_core.specs.LinkSays.{GivesLinks, IsLinksRead, SaysLinks};
 
 use crate::event::LinkSchedule;
 use crate::fault::LinkTextFault;
@@ -8,7 +10,11 @@ use vert_base::limits::SCHEDULE_BYTES;
 
 /// Reads a text of form 3.
 pub fn read_links(alloc: Global, text: &[u8]) -> Result<LinkSchedule, LinkTextFault>
-    ensures { GivesLinks text.now result }
+    ensures told { GivesLinks text.now result }
+
+    // What a text says is read, so it says one run.
+    ensures again { (machines : ℕ) (events : List LinkEvent) →
+        SaysLinks text.now machines events → IsLinksRead machines events result }
 {
     if text.len() as u64 > SCHEDULE_BYTES {
         return Err(LinkTextFault::TooLong);
