@@ -52,19 +52,19 @@ piece_at front piece behind bytes i n e long size =
     ap (take n) (behind_at front (piece ++ behind) bytes i e long) ∙ take_at piece behind n size
 
 -- ---- numbers
-length-four : (n : ℕ) → length (four_bytes n) ≡ 4
+pub length-four : (n : ℕ) → length (four_bytes n) ≡ 4
 unfolding four_bytes
 length-four n = refl
 
-four_back : (n : ℕ) → n < 2 ^ 32 → number_of_four (four_bytes n) ≡ n
+pub four_back : (n : ℕ) → n < 2 ^ 32 → number_of_four (four_bytes n) ≡ n
 unfolding four_bytes number_of_four
 four_back n below = from_le_bytes-to_le_bytes_4 n below
 
-length-eight : (n : ℕ) → length (number_bytes n) ≡ 8
+pub length-eight : (n : ℕ) → length (number_bytes n) ≡ 8
 unfolding number_bytes
 length-eight n = refl
 
-eight_back : (n : ℕ) → n < 2 ^ 64 → number_of (number_bytes n) ≡ n
+pub eight_back : (n : ℕ) → n < 2 ^ 64 → number_of (number_bytes n) ≡ n
 unfolding number_bytes number_of
 eight_back n below = from_le_bytes-to_le_bytes_8 n below
 
@@ -150,7 +150,7 @@ words_front (suc width) bytes rest room =
     ∙ ap (λ others. word_of (take 8 bytes) ∷ words_in width others) (drop-append-le 8 bytes rest eight)
     ∙ ap (λ others. word_of (take 8 bytes) ∷ others) (words_front width (drop 8 bytes) rest left)
 
-rows_front : (width count : ℕ) (bytes rest : List ℕ) → 8 * width * count ≤ length bytes →
+pub rows_front : (width count : ℕ) (bytes rest : List ℕ) → 8 * width * count ≤ length bytes →
     rows_in width count (bytes ++ rest) ≡ rows_in width count bytes
 rows_front width zero bytes rest room = refl
 rows_front width (suc count) bytes rest room =

@@ -1,5 +1,6 @@
 -- What is written and read.
 use Rattle.std.specs.Prelude.{◌≡◌, ◌<◌, ◌^◌, ℕ, List, length}
+use Rattle.dep_layout.specs.Laws.{AreBytes}
 use Rattle.chunk_split.specs.Chunks.{vertices_of}
 use Rattle.instrument.specs.declared.split.Split.{Split}
 use Rattle.symple_face.specs.Parts.{PlainPart}
@@ -27,3 +28,9 @@ abbrev pub StartIsReady : Type 0
 StartIsReady =
     (whole : PlainPart) (split : Split) (key bytes : List ℕ) → IsOwn split (vertices_of whole.ends) key bytes →
     IsStart whole split (told_start split (vertices_of whole.ends) bytes)
+
+-- bytes that are whole and a run's own are the image of the start that they tell, so no two images tell one start
+abbrev pub StartIsSpelled : Type 0
+StartIsSpelled =
+    (split : Split) (vertices : ℕ) (key bytes : List ℕ) → AreBytes bytes → IsWholeOf split vertices bytes →
+    IsOwn split vertices key bytes → image_bytes key (told_start split vertices bytes) ≡ bytes

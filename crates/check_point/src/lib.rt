@@ -11,6 +11,6 @@ mod write;
 
 pub use fault::ImageFault;
 pub use keys::key;
-pub use laws::images_read_back;
+pub use laws::{images_read_back, keys_tell};
 pub use read::read_image;
 pub use write::write_image;
