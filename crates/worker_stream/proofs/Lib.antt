@@ -9,3 +9,5 @@ pub mod CountLaws
 pub mod AnswerLaws
 pub mod SpelledLaws
 pub mod BackLaws
+pub mod FillLaws
+pub mod FrontLaws

@@ -5,3 +5,4 @@ pub mod Degrees
 pub mod Answers
 pub mod Numbers
 pub mod Back
+pub mod Fronts

@@ -1,4 +1,5 @@
-//! A machine's part, with the program that runs on it, as a file, and back.
+//! A machine's part, with the program that runs on it, as a file, and back; the messages of a machine from a
+//! source of bytes.
 #![tactic(auto)]
 
 mod counts;
@@ -9,6 +10,7 @@ mod numbers;
 mod order;
 mod part_file;
 mod part_numbers;
+mod reading;
 mod sections;
 mod spelling;
 
