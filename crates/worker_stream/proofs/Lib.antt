@@ -11,3 +11,4 @@ pub mod SpelledLaws
 pub mod BackLaws
 pub mod FillLaws
 pub mod FrontLaws
+pub mod SentLaws

@@ -6,3 +6,4 @@ pub mod Answers
 pub mod Numbers
 pub mod Back
 pub mod Fronts
+pub mod Sent

@@ -12,6 +12,7 @@ mod part_file;
 mod part_numbers;
 mod reading;
 mod sections;
+mod sending;
 mod spelling;
 
 pub use fault::PartFault;
