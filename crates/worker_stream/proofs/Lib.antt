@@ -1,0 +1,14 @@
+pub mod CutLaws
+pub mod UnitLaws
+pub mod StepLaws
+pub mod OrderLaws
+pub mod DegreeLaws
+pub mod SoundLaws
+pub mod FrameLaws
+pub mod CountLaws
+pub mod AnswerLaws
+pub mod SpelledLaws
+pub mod BackLaws
+pub mod FillLaws
+pub mod FrontLaws
+pub mod SentLaws

@@ -1,0 +1,15 @@
+-- One more of the ends, and then all of them.
+use Rattle.std.proofs.Common.{arith, rules}
+use Rattle.byteorder.specs.Endian.{little_number}
+use Rattle.worker_stream.proofs.UnitLaws.{units_done, units_more}
+use Rattle.worker_stream.proofs.numbers.ends.Goals as goal
+
+pub loop-unit-preserved : goal.loop-unit-preserved
+loop-unit-preserved c =
+    units_more (little_number 4) 4 c.loop-unit.rest.now c.in-Some.unit.now c.in-Some.behind.now _
+    c.loop-unit.list.items _ _
+    (omega arith) c.in-Some.ensures.cut c.loop-unit.invariant c.read_u32.ensures c.in_ok-push.ensures.items
+
+pub returns : goal.returns
+returns c =
+    units_done (little_number 4) 4 c.loop-unit.rest.now _ c.loop-unit.list.items (search rules) c.loop-unit.invariant

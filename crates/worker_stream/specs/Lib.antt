@@ -1,0 +1,9 @@
+pub mod Sections
+pub mod PartFiles
+pub mod Orders
+pub mod Degrees
+pub mod Answers
+pub mod Numbers
+pub mod Back
+pub mod Fronts
+pub mod Sent
