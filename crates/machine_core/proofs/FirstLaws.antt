@@ -7,14 +7,15 @@ use Rattle.symple_face.specs.declared.degree.Degree.{Degree}
 use Rattle.symple_face.specs.CoreSight.{degree_of, part_sight}
 use Rattle.symple_face.specs.Parts.{PlainPart}
 use Rattle.symple_face.specs.Sight.{Sight}
-use Rattle.machine_parts.specs.Entering.{IsReadyFor, with_rows}
+use Rattle.machine_parts.specs.Entering.{IsReadyFor}
+use Rattle.vert_eval.specs.SourceRun.{with_row}
 use Rattle.machine_core.specs.Firsts.{IsBlank}
 
 abbrev pub blank_sight : PlainPart → Sight
 blank_sight part = part_sight part 0 [] (λ v. empty_row)
 
 pub ready : (part : PlainPart) (env cleared : Env) (v w : ℕ) (degree : Degree) → IsBlank part env →
-    cleared ≡ with_rows empty_row env → degree ≡ degree_of part w → v ≡ w →
+    cleared ≡ with_row empty_row env → degree ≡ degree_of part w → v ≡ w →
     IsReadyFor (blank_sight part) v degree [] cleared
 ready part env cleared v w degree blank is known same =
     let here : degree ≡ degree_of part v = known ∙ ap (degree_of part) (sym same) in

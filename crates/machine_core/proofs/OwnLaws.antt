@@ -21,7 +21,8 @@ use Rattle.symple_face.specs.CoreSight.{is_within}
 use Rattle.symple_face.specs.Parts.{ends_met}
 use Rattle.machine_parts.specs.declared.spans.Span.{Span}
 use Rattle.machine_parts.specs.Counting.{own_counts, own_env}
-use Rattle.machine_parts.specs.Entering.{entered, with_rows}
+use Rattle.machine_parts.specs.Entering.{entered}
+use Rattle.vert_eval.specs.SourceRun.{with_row}
 use Rattle.machine_parts.specs.Sending.{AreSendsPlaced, own_sends}
 use Rattle.machine_parts.specs.Spans.{vertex_of}
 use Rattle.machine_parts.proofs.TotalLaws.{own_here}
@@ -48,7 +49,7 @@ module _ (sparse : Sparse) (rows : List Row) (degrees : List Degree) (start v : 
       ap (λ b. cond (b && is_set (value_of sparse.when_test at)) (Some (sent_by sparse at)) None) is
 
   module _ (at read : Env) (d : Degree) (low : start ≤ v) (inside : v - start < length degrees)
-      (read_is : read ≡ with_rows (row_at rows (v - start)) first)
+      (read_is : read ≡ with_row (row_at rows (v - start)) first)
       (entered_is : at ≡ entered v (get_or degrees (v - start) d) 0 read) where
     here : at ≡ own_env rows degrees start first (v - start)
     here =

@@ -23,7 +23,8 @@ use Rattle.symple_face.specs.CoreSparse.{key_of}
 use Rattle.symple_face.specs.Parts.{ends_met}
 use Rattle.machine_parts.specs.declared.spans.Span.{Span}
 use Rattle.machine_parts.specs.Counting.{own_counts}
-use Rattle.machine_parts.specs.Entering.{entered, with_rows}
+use Rattle.machine_parts.specs.Entering.{entered}
+use Rattle.vert_eval.specs.SourceRun.{with_row}
 use Rattle.machine_parts.specs.Neighbours.{no_degree}
 use Rattle.machine_parts.specs.Sending.{own_sends}
 use Rattle.machine_parts.specs.Spans.{IsSpan, vertex_of}
@@ -58,7 +59,7 @@ abbrev pub received_at : Receiving → Env → List ℤ → Edge → Env
 received_at r env sends e =
     let place : ℕ = target e - r.start in
     record (entered (target e) (slice_index_or r.degrees place no_degree) (key_in r e)
-    (with_rows (row_at r.rows place) env)) {
+    (with_row (row_at r.rows place) env)) {
       other = record { id = record { 0 = source e }; weight = e.weight; indeg = 0; outdeg = 0 };
       sends = record { items = sends };
     }
@@ -93,7 +94,7 @@ pub record AreSenders (n : ℕ) (edges : List Edge) (senders : List Span) : Type
 
 -- what of an environment stays when vertices are entered
 abbrev pub settled : Env → Env
-settled env = entered 0 no_degree 0 (with_rows empty_row env)
+settled env = entered 0 no_degree 0 (with_row empty_row env)
 
 -- an environment and partials with which receivers of so many sends can run
 pub record CanReceive (r : Receivers) (sends : ℕ) (env : Env) (partials : Rows Partial) : Type 0 where

@@ -11,7 +11,6 @@ ghost use Rattle.symple_face.specs.CoreFirst.{first_row_of};
 ghost use Rattle.symple_face.specs.CoreSight.{degree_of, field_count};
 ghost use Rattle.symple_face.specs.PartViews.{plain_of};
 ghost use Rattle.symple_face.specs.Parts.{chunk_vertices};
-ghost use Rattle.machine_parts.specs.Entering.{with_rows};
 ghost use Rattle.machine_core.specs.Firsts.{IsBlank, counts_with, first_row_by};
 
 use crate::ground::Ground;
@@ -58,7 +57,7 @@ fn show_row(row: &Row, env: &mut Env)
 
 /// Leaves the vertex of an environment no row.
 pub(crate) fn clear_rows(env: &mut Env)
-    ensures { env.new ≡ with_rows empty_row env.old }
+    ensures { env.new ≡ with_row empty_row env.old }
 {
     env.row.words.clear();
     env.row.active = false;
