@@ -11,7 +11,7 @@ use Rattle.symple_run.specs.States.{Held, sink_state}
 use Rattle.symple_run.specs.Walks.{Flushes, HandsOn}
 
 -- the state of a sink by its parts
-held_same : (old new : Held) (bytes : Option (List ℕ)) (faults : ℕ) → new.bytes ≡ bytes → new.faults ≡ faults →
+pub held_same : (old new : Held) (bytes : Option (List ℕ)) (faults : ℕ) → new.bytes ≡ bytes → new.faults ≡ faults →
     new ≡ record { bytes = bytes; faults = faults; spare = new.spare }
 held_same old new bytes faults same count =
     let first : new ≡ record new { bytes = bytes } = ap (λ (b : Option (List ℕ)). record new { bytes = b }) same in

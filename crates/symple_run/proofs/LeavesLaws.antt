@@ -8,6 +8,7 @@ use Rattle.program_reader.specs.declared.refusal.Refusal.{Refusal}
 use Rattle.symple_run.specs.Leaves.{CannotLoad, Gained, HasFailed, IsAbsent, IsLong, IsNone, IsProgram, IsRefused, IsThere, Leaves, Loaded, NotLoaded, NotPut, NotServed, NotStored, PutFailed, Ran, Refused, Served, Stored, TakeFailed, TryFailed, WantsAtJudging, WantsAtLoad, WantsAtPut, WantsAtRefusal, WantsAtRun, WantsAtStore, WantsAtTry, WantsToServe}
 use Rattle.symple_run.specs.Notes.{BadProgram, Fault, NoLoad, NoMemory, NoWrite}
 use Rattle.symple_run.specs.Orders.{Course, Ends, Judges, Loads, Order, Play, Puts, Refuses, Runs, Serves, Stores, Tries}
+use Rattle.symple_run.specs.SourceRuns.{NoRun}
 use Rattle.symple_run.specs.States.{Kept, Outside}
 use Rattle.symple_run.specs.Quiet.{BlamesNoWrite, IsQuiet, Spares}
 
@@ -45,6 +46,11 @@ module _ (courses others : Play → Course → Type 0) (more : (play : Play) (co
   weaker (Serves used text next) w new outcome (Served bytes left spare spared rest) = Served bytes left spare spared
       (weaker (next bytes) _ new outcome rest)
   weaker (Serves used text next) w new outcome (NotServed bytes left part why) = NotServed bytes left part why
+
+-- what is left without a run is left whatever runs are allowed
+pub unplayed : (courses : Play → Course → Type 0) (order : Order) (w new : Outside) (outcome : Option Fault) →
+    Leaves NoRun order w new outcome → Leaves courses order w new outcome
+unplayed courses = weaker NoRun courses (λ play course none. absurd none)
 
 -- the same files, count of stores and input
 pub record SameBehind (w new : Outside) : Type 0 where

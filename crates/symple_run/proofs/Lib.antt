@@ -8,6 +8,7 @@
 -- CourseLaws. Texts of rows, rounds and reads put piece by piece are the texts by definition: LineLaws, TextLaws,
 -- NumberedLaws, ReadLaws, RoundLaws.
 pub mod ComesLaws
+pub mod CoreRuns
 pub mod CourseLaws
 pub mod FlushLaws
 pub mod HeadLaws
@@ -15,7 +16,11 @@ pub mod LeavesLaws
 pub mod LineLaws
 pub mod LoadLaws
 pub mod NumberedLaws
+pub mod PartsFrom
+pub mod PlayLaws
 pub mod ReadLaws
+pub mod ReadTurns
 pub mod RoundLaws
 pub mod TextLaws
 pub mod WalkLaws
+pub mod WorldLaws

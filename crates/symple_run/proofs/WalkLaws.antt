@@ -1,18 +1,15 @@
 -- How the parts of a command make its order.
-use Rattle.std.proofs.Common.{◌≡◌, ℕ, Bool, true, false, List, Option, Some, None, Result, Ok, Err, refl, sym, ap, subst}
-use Rattle.std.specs.Prelude.{if◌then◌else◌}
+use Rattle.std.proofs.Common.{◌≡◌, ℕ, List, Option, Some, None, Result, Ok, Err, refl, sym, ap, subst}
 use Rattle.edge_reader.specs.declared.fault.EdgeFault.{EdgeFault}
 use Rattle.edge_reader.specs.EdgeList.{Graph}
 use Rattle.symple_run.specs.declared.failure.Failure.{Failure}
 use Rattle.symple_run.specs.declared.failure.Failure.TheVariants as failure
-use Rattle.symple_run.specs.Commands.{asked, asked_by, of_graph, order_of, run_order, with_graph, with_program}
+use Rattle.symple_run.specs.Commands.{asked, asked_by, of_graph, order_of, with_graph, with_program}
 use Rattle.symple_run.specs.Faults.{failure_for, fault_of}
-use Rattle.symple_run.specs.Leaves.{Gained, IsProgram, IsRefused, Leaves, Loaded, NotLoaded, NotPut, Ran, Refused, Wants, WantsAtLoad, WantsAtPut, WantsAtRefusal}
-use Rattle.symple_run.specs.Notes.{BadWords, Fault, NoMemory}
-use Rattle.symple_run.specs.Orders.{Course, Ends, IsOver, Order, Play, Prints, Puts, Refuses, Runs, follows}
-use Rattle.symple_run.specs.Outputs.{play_text}
+use Rattle.symple_run.specs.Leaves.{Gained, IsProgram, IsRefused, Leaves, Loaded, NotLoaded, NotPut, Refused, Wants, WantsAtLoad, WantsAtPut, WantsAtRefusal}
+use Rattle.symple_run.specs.Notes.{Fault, NoMemory}
+use Rattle.symple_run.specs.Orders.{Course, Ends, Order, Play, Puts, Refuses}
 use Rattle.symple_run.specs.States.{Held, Kept, Left, Outside, outside}
-use Rattle.symple_run.specs.SourceRuns.{IsSourceRun}
 use Rattle.symple_run.specs.Walks.{BadFile, BadText, HasGraph, HasProgram, NoFile, NoGraph, NoProgram, NoText, Plays, WantsForFile, WantsForText, fault_after}
 use Rattle.symple_words.specs.Answers.{Faults}
 use Rattle.symple_words.specs.declared.fault.WordFault.{WordFault}
@@ -109,13 +106,8 @@ module _ (courses : Play → Course → Type 0) where
   no_memory w = record { same = refl; memory = refl }
 
   -- memory may want before anything of a line is done
-  run_wants : (job : words.PlainJob) (machines : ℕ) (w : Outside) (log : Bool) →
-      Leaves courses (if log then Refuses BadWords else run_order job machines) w w (Some NoMemory)
-  run_wants job machines w true = WantsAtRefusal (no_memory w)
-  run_wants job machines w false = WantsAtLoad (no_memory w)
-
   asked_wants : (line : words.PlainLine) (w : Outside) → Leaves courses (asked line) w w (Some NoMemory)
-  asked_wants (words.RunOf job machines None) w = run_wants job machines w job.lines.log
+  asked_wants (words.RunOf job machines None) w = WantsAtLoad (no_memory w)
   asked_wants (words.RunOf job machines (Some image)) w = WantsAtRefusal (no_memory w)
   asked_wants (words.ShowOf program) w = WantsAtLoad (no_memory w)
   asked_wants (words.FreeOf program) w = WantsAtLoad (no_memory w)
@@ -162,11 +154,3 @@ module _ (courses : Play → Course → Type 0) where
   line_obeyed texts line w after outcome is leaves =
       let P : Result words.PlainLine words.LineFault → Type 0 = λ r. Leaves courses (asked_by r) w after outcome in
       subst P (sym is) leaves
-
--- a run that put the text of the source run
-pub run_ends :
-    (play : Play) (old new : Held) (result : Result (Unit {0}) Failure) → Plays (play_text play) old new result →
-    (shelf : Kept) (input : Left) →
-    Leaves IsSourceRun (Runs play follows) (outside shelf old input) (outside shelf new input) (fault_after result)
-run_ends play old new result plays shelf input = Ran (Prints (play_text play) IsOver) refl
-    (put_ends IsSourceRun (play_text play) old new result plays shelf input)

@@ -74,8 +74,7 @@ plan_order name form machines = with_graph form name (λ graph. Puts (plan_text 
 
 -- the order of a line; what is not built yet is refused as if it weren't there
 abbrev pub asked : words.PlainLine → Order
-asked (words.RunOf job machines None) =
-    if job.lines.log then Refuses BadWords else run_order job machines
+asked (words.RunOf job machines None) = run_order job machines
 asked (words.RunOf job machines (Some image)) = Refuses BadWords
 asked (words.ShowOf program) = show_order program
 asked (words.FreeOf program) = free_order program

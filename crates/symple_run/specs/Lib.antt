@@ -8,6 +8,8 @@ pub mod Notes
 pub mod Orders
 pub mod Outputs
 pub mod States
+pub mod Played
 pub mod Quiet
+pub mod RunParts
 pub mod SourceRuns
 pub mod Walks

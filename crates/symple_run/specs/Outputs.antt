@@ -1,6 +1,6 @@
 -- What the commands put.
-use Rattle.std.specs.Prelude.{ℕ, ◌<◌, ◌^◌, List, [], ◌++◌, Option, None, Some, codes, decimal, flat_map, length, slice_get, slice_index}
-use Rattle.std.specs.List.{All, range_with_len}
+use Rattle.std.specs.Prelude.{ℕ, List, [], ◌++◌, Option, None, Some, codes, decimal, flat_map, length, slice_get, slice_index}
+use Rattle.std.specs.List.{range_with_len}
 use Rattle.array_text.specs.Tables.{bytes_of}
 use Rattle.circulant_plan.specs.Ring.{chunk_of}
 use Rattle.chunk_split.specs.Bounds.{ends_of}
@@ -9,9 +9,8 @@ use Rattle.edge_reader.specs.EdgeList as edges
 use Rattle.order_free.specs.declared.freedom.Freedom.{Freedom}
 use Rattle.order_free.specs.declared.freedom.Freedom.TheVariants.{NoLoop, Reductions, FoundOne, ReachACount, FirstSlot, OtherLoop}
 use Rattle.order_free.specs.Free.{freedom_of}
-use Rattle.schedule_laws.specs.Texts.{text_of_run}
 use Rattle.symple_run.specs.Orders.{Play}
-use Rattle.plain_run.specs.Told.{Told}
+use Rattle.schedule_laws.specs.Texts.{text_of_run}
 use Rattle.vert_eval.specs.SourceRun.{Job, source_run}
 use Rattle.vert_tree.specs.declared.program.Program.{Program}
 use Rattle.vert_tree.specs.declared.program.SlotDecl.{SlotDecl}
@@ -77,10 +76,3 @@ freedom_text p OtherLoop = codes "not free: loop\n"
 
 abbrev pub free_text : Program → List ℕ
 free_text p = freedom_text p (freedom_of p)
-
--- a u32 counts the vertices of a round
-pub record IsFew (told : Told) : Type 0 where
-  pub vertices : length told.reads < 2 ^ 32
-
-abbrev pub AreFew : List Told → Type 0
-AreFew tolds = All IsFew tolds

@@ -15,9 +15,10 @@ use Rattle.symple_run.specs.Commands.{edge_fault, graph_of, too_long_graph, too_
 use Rattle.symple_run.specs.Faults.{fault_of}
 use Rattle.symple_run.specs.Leaves.{CannotLoad, IsUnder, Leaves, PutFails, after_text}
 use Rattle.symple_run.specs.Notes.{BadProgram, Fault, NoMemory}
-use Rattle.symple_run.specs.Orders.{Order}
+use Rattle.symple_face.specs.Work.{Work}
+use Rattle.symple_run.specs.Orders.{Course, Order, Play, Runs, follows}
+use Rattle.symple_run.specs.Played.{IsPlayed}
 use Rattle.symple_run.specs.States.{Held, Kept, Left, outside, shelf_state, sink_state}
-use Rattle.symple_run.specs.SourceRuns.{IsSourceRun}
 use Rattle.symple_words.specs.declared.line.GraphForm.{GraphForm}
 use Rattle.vert_base.specs.declared.limits.TheConstants.{GRAPH_BYTES, PROGRAM_BYTES}
 use Rattle.vert_tree.specs.declared.typed.Typed.{Typed}
@@ -92,13 +93,19 @@ Plays text old new (Err failure.Write) = PutFails text old new
 Plays text old new (Err failure.Memory) = new ≡ old
 Plays text old new (Err _) = ⊥
 
+-- a run of machines of a kind was played, as far as memory and the sink last, whatever the shelf and the input
+abbrev pub PlaysRun : Work → Play → Held → Held → Result (Unit {0}) Failure → Type 0
+PlaysRun work play old new result =
+    (shelf : Kept) (input : Left) → Leaves (IsPlayed work) (Runs play follows) (outside shelf old input)
+    (outside shelf new input) (fault_after result)
+
 -- ---- a command
 
--- what an order leaves of a shelf and a sink, whatever the input
+-- what an order leaves of a shelf and a sink, whatever the input, its runs going as is allowed
 abbrev pub Performs : {H O : Type 0} → (H → Option (List File)) → (H → ℕ) → (H → ℕ) → (O → Option (List ℕ)) →
-    (O → ℕ) → (O → ℕ) → Order → H → H → O → O → Result (Unit {0}) Failure → Type 0
-Performs files loads stores held faults spare order shelf shelf_after out out_after result =
-    (input : Left) → Leaves IsSourceRun order
+    (O → ℕ) → (O → ℕ) → (Play → Course → Type 0) → Order → H → H → O → O → Result (Unit {0}) Failure → Type 0
+Performs files loads stores held faults spare courses order shelf shelf_after out out_after result =
+    (input : Left) → Leaves courses order
     (outside (shelf_state files loads stores shelf) (sink_state held faults spare out) input)
     (outside (shelf_state files loads stores shelf_after) (sink_state held faults spare out_after) input)
     (fault_after result)

@@ -5,6 +5,7 @@ ghost use Rattle.order_free.specs.declared.freedom.Freedom.TheVariants.{FirstSlo
 ghost use Rattle.symple_run.specs.Commands.{free_order};
 ghost use Rattle.symple_run.specs.Outputs.{free_text, freedom_text, slot_name};
 ghost use Rattle.symple_run.specs.States.{sink_state};
+ghost use Rattle.symple_run.specs.SourceRuns.{NoRun};
 ghost use Rattle.symple_run.specs.Walks.{HandsOn, Performs, Plays};
 
 use crate::failure::Failure;
@@ -24,7 +25,7 @@ pub(crate) fn tell_freedom<H: Shelf, O: Sink>(
     shelf: &mut H,
     out: &mut O,
 ) -> Result<(), Failure>
-    ensures order { Performs H.files H.loads H.stores O.held O.faults O.spare (free_order name.now)
+    ensures order { Performs H.files H.loads H.stores O.held O.faults O.spare NoRun (free_order name.now)
         shelf.old shelf.new out.old out.new result }
     ensures later { H.loads shelf.old ≤ H.loads shelf.new }
 {

@@ -7,6 +7,7 @@ mod failure;
 mod files;
 mod flush;
 mod freedom;
+mod machines;
 mod pieces;
 mod plan;
 mod read;
@@ -22,6 +23,7 @@ mod top;
 use arguments::words_of;
 use failure::{Failure, write_note};
 use files::FileShelf;
+use machine_core::Core;
 use status::Status;
 use std::io::BufWriter;
 use std::process::ExitCode;
@@ -43,6 +45,8 @@ fn main(rt: HostRuntime) -> ExitCode {
     let mut shelf = FileShelf::new(&rt);
     let mut input = InSource::new(rt.stdin());
     let mut out = OutSink::new(writer);
-    let status = symple(alloc, &words, &mut shelf, &mut input, &mut out, &mut notes);
+    let status = symple::<Core, _, _, _, _>(
+        alloc, &words, &mut shelf, &mut input, &mut out, &mut notes,
+    );
     ExitCode::from(status.number())
 }

@@ -2,6 +2,7 @@ ghost use Rattle.std.specs.Prelude.{◌≤◌};
 ghost use Rattle.instrument.specs.Shown.{shown};
 ghost use Rattle.symple_run.specs.Commands.{show_order};
 ghost use Rattle.symple_run.specs.States.{sink_state};
+ghost use Rattle.symple_run.specs.SourceRuns.{NoRun};
 ghost use Rattle.symple_run.specs.Walks.{HandsOn, Performs, Plays};
 
 use crate::failure::Failure;
@@ -19,7 +20,7 @@ pub(crate) fn show_program<H: Shelf, O: Sink>(
     shelf: &mut H,
     out: &mut O,
 ) -> Result<(), Failure>
-    ensures order { Performs H.files H.loads H.stores O.held O.faults O.spare (show_order name.now)
+    ensures order { Performs H.files H.loads H.stores O.held O.faults O.spare NoRun (show_order name.now)
         shelf.old shelf.new out.old out.new result }
     ensures later { H.loads shelf.old ≤ H.loads shelf.new }
 {

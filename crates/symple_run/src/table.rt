@@ -1,73 +1,92 @@
-ghost use Rattle.std.specs.Prelude.{◌<◌, ◌^◌, length, map};
-ghost use Rattle.array_text.specs.Tables.{rows_text, table_text};
+// The table of a run that is finished.
+ghost use Rattle.std.specs.Prelude.{◌≡◌, ◌<◌, false, length};
 ghost use Rattle.array_text.specs.Writes.{Writes};
-ghost use Rattle.plain_run.specs.Told.{told_of};
-ghost use Rattle.schedule_laws.specs.Texts.{told_run};
-ghost use Rattle.symple_run.specs.Outputs.{AreFew};
+ghost use Rattle.schedule_laws.specs.Layout.{table_of, vertices_in};
+ghost use Rattle.symple_run.specs.Played.{line_of, rows_of};
 ghost use Rattle.symple_run.specs.States.{sink_state};
 ghost use Rattle.symple_run.specs.Walks.{HandsOn};
 
 use crate::flush::flush;
-use crate::rounds::write_rounds;
 use array_text::{write_header, write_row};
-use instrument::Split;
+use arrayvec::ArrayVec;
+use cluster_run::Cluster;
 use outside::{Sink, SinkFault};
-use plain_run::PlainRun;
-use symple_words::Lines;
+use symple_face::Site;
+use vert_base::limits::MACHINES;
 use vert_base::{Row, VertexId};
 
-/// Puts what is asked of a run and has it handed on.
-pub(crate) fn put_run<O: Sink>(
-    split: &Split,
-    played: &PlainRun,
-    lines: &Lines,
+/// Puts the table of what the machines hold, and has it handed on.
+pub(crate) fn put_table<S: Site, O: Sink>(
+    cluster: &Cluster<S, MACHINES>,
     out: &mut O,
 ) -> Result<(), SinkFault>
-    requires rows { length played.now.rows.items < 2 ^ 32 }
-    requires reads { AreFew (map told_of played.now.rounds.items) }
-    ensures { HandsOn (told_run lines.now split.now.program.program
-        (map told_of played.now.rounds.items) played.now.rows.items)
+    requires on { cluster.now.ended ≡ false }
+    ensures { HandsOn (table_of S.work cluster.now.world)
         (sink_state O.held O.faults O.spare out.old)
         (sink_state O.held O.faults O.spare out.new) result }
 {
-    write_run(split, played, lines, out)?;
+    write_table(cluster, out)?;
     flush(out)
 }
 
-/// Puts the lines of the rounds that are asked for, and then the table of the last rows.
-fn write_run<O: Sink>(
-    split: &Split,
-    played: &PlainRun,
-    lines: &Lines,
+/// Puts a header, then a line for each vertex.
+fn write_table<S: Site, O: Sink>(
+    cluster: &Cluster<S, MACHINES>,
     out: &mut O,
 ) -> Result<(), SinkFault>
-    requires rows { length played.now.rows.items < 2 ^ 32 }
-    requires reads { AreFew (map told_of played.now.rounds.items) }
-    ensures { Writes O.held O.faults O.spare out.old out.new (told_run lines.now
-        split.now.program.program (map told_of played.now.rounds.items)
-        played.now.rows.items) result }
+    requires on { cluster.now.ended ≡ false }
+    ensures { Writes O.held O.faults O.spare out.old out.new
+        (table_of S.work cluster.now.world) result }
 {
-    write_rounds(lines, &played.rounds, out)?;
-    write_table(split, &played.rows, out)
+    cluster.tells_reached();
+    write_header(&cluster.site(0).part().split, out)?;
+    write_rows(cluster, out)
 }
 
-/// Puts the table: a header, then a line for each vertex.
-fn write_table<O: Sink>(split: &Split, rows: &[Row], out: &mut O) -> Result<(), SinkFault>
-    requires { length rows.now < 2 ^ 32 }
+/// Puts the line of each vertex.
+fn write_rows<S: Site, O: Sink>(
+    cluster: &Cluster<S, MACHINES>,
+    out: &mut O,
+) -> Result<(), SinkFault>
+    requires on { cluster.now.ended ≡ false }
     ensures { Writes O.held O.faults O.spare out.old out.new
-        (table_text split.now.program.program rows.now) result }
+        (rows_of S.work cluster.now.world) result }
 {
-    write_header(split, out)?;
-    write_rows(split, rows, out)
-}
-
-fn write_rows<O: Sink>(split: &Split, rows: &[Row], out: &mut O) -> Result<(), SinkFault>
-    requires { length rows.now < 2 ^ 32 }
-    ensures { Writes O.held O.faults O.spare out.old out.new
-        (rows_text split.now.program.program 0 rows.now) result }
-{
-    for (v, row) in rows.iter().enumerate() {
-        write_row(split, VertexId(v as u32), row, out)?;
+    cluster.tells_reached();
+    let mut row = Row {
+        words: ArrayVec::new(),
+        active: false,
+    };
+    'vertices: for v in 0..vertices(cluster) {
+        write_line(cluster, VertexId(v), &mut row, out)?;
     }
     Ok(())
+}
+
+/// How many vertices the graph has.
+pub(crate) fn vertices<S: Site>(cluster: &Cluster<S, MACHINES>) -> u32
+    requires on { cluster.now.ended ≡ false }
+    ensures { result ≡ length (vertices_in cluster.now.world) }
+{
+    cluster.tells_reached();
+    let cuts = &cluster.site(0).part().cuts;
+    cuts.end(cuts.count() - 1)
+}
+
+/// Puts the line of a vertex, which the machine of its chunk tells.
+fn write_line<S: Site, O: Sink>(
+    cluster: &Cluster<S, MACHINES>,
+    v: VertexId,
+    row: &mut Row,
+    out: &mut O,
+) -> Result<(), SinkFault>
+    requires on { cluster.now.ended ≡ false }
+    requires there { v.0 < length (vertices_in cluster.now.world) }
+    ensures { Writes O.held O.faults O.spare out.old out.new
+        (line_of S.work cluster.now.world v.0) result }
+{
+    cluster.tells_reached();
+    let part = cluster.site(0).part();
+    cluster.site(part.cuts.owner(v)).row(v, row);
+    write_row(&part.split, v, row, out)
 }

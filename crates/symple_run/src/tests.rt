@@ -7,6 +7,7 @@ mod texts;
 
 use crate::status::Status;
 use crate::top::symple;
+use machine_core::Core;
 use outside::{DripSink, FirmSink, MemShelf, MemSink, MemSource, Shelf};
 use sample_programs::{DIAMOND, edited, graph_named, program_named};
 use std::alloc::{AllocError, Global};
@@ -115,9 +116,16 @@ fn performed(
 ) -> Result<Outcome, Fail> {
     let words = words(alloc, line)?;
     let mut input = MemSource::new(Vec::new(alloc), Vec::new(alloc));
-    let mut printed = MemSink::new(alloc, 4000, fails)?;
+    let mut printed = MemSink::new(alloc, 40_000, fails)?;
     let mut noted = MemSink::new(alloc, 4000, note_fails)?;
-    let status = symple(alloc, &words, shelf, &mut input, &mut printed, &mut noted);
+    let status = symple::<Core, _, _, _, _>(
+        alloc,
+        &words,
+        shelf,
+        &mut input,
+        &mut printed,
+        &mut noted,
+    );
     Ok(Outcome {
         status,
         printed,
@@ -246,7 +254,7 @@ fn check_puts(rt: &impl Abort, alloc: Global, line: &str) -> Result<(), Fail> {
     let mut input = MemSource::new(Vec::new(alloc), Vec::new(alloc));
     let mut whole = DripSink::new(alloc, 4000)?;
     let mut notes = FirmSink::new(alloc, 100)?;
-    let status = symple(
+    let status = symple::<Core, _, _, _, _>(
         alloc, &words, &mut shelf, &mut input, &mut whole, &mut notes,
     );
     assert_eq!(rt; status, Status::Done);
@@ -286,4 +294,53 @@ fn puts_that_fail(rt: HostRuntime) -> Result<(), Fail> {
         check_puts(&rt, rt.alloc(), line)?;
     }
     check_note(&rt, rt.alloc())
+}
+
+/// What a line prints but for the lines of events, behind how many goes and takes they are.
+fn told_beside(alloc: Global, printed: &str) -> Result<String, AllocError> {
+    let (mut goes, mut takes) = (0u32, 0u32);
+    let mut others = String::new(alloc);
+    for line in printed.lines() {
+        if line.starts_with("go ") {
+            goes = goes.saturating_add(1);
+        } else if line.starts_with("take ") {
+            takes = takes.saturating_add(1);
+        } else {
+            others.push_str(line)?;
+            others.push_str("\n")?;
+        }
+    }
+    format!(in alloc; "{goes} {takes}\n{others}")
+}
+
+/// A row of a run with `--log`.
+fn check_log(rt: &impl Abort, alloc: Global, line: &str, row: &str) -> Result<(), Fail> {
+    let (files, text) = row.split_once('\n').unwrap_or((row, ""));
+    let (among, rest) = text.split_once("=\n").unwrap_or((text, ""));
+    let (program_name, behind) = files.split_once(' ').unwrap_or((files, ""));
+    let (graph_name, counts) = behind.split_once(' ').unwrap_or((behind, ""));
+    let program = program(alloc, program_name)?;
+    let graph = graph(alloc, graph_name)?;
+    let mut shelf = shelf(rt, alloc, &program, &graph, Vec::new(alloc))?;
+    let outcome = performed(alloc, line, &mut shelf, Vec::new(alloc), Vec::new(alloc))?;
+    assert_eq!(rt; outcome.status, Status::Done);
+    let printed = std::str::from_utf8(outcome.printed.bytes()).unwrap_or("");
+    let told = told_beside(alloc, printed)?;
+    let wanted = format!(in alloc; "{counts}\n{rest}")?;
+    assert_eq!(rt; told.as_str(), wanted.as_str(), "{line}");
+    for event in among.lines() {
+        assert!(rt; printed.contains(event), "{event}");
+    }
+    Ok(())
+}
+
+#[test]
+fn logs_of_events(rt: HostRuntime) -> Result<(), Fail> {
+    let alloc = rt.alloc();
+    for row in rows::LOGS.split('$') {
+        if let Some((line, others)) = row.split_once('\n') {
+            check_log(&rt, alloc, line, others)?;
+        }
+    }
+    Ok(())
 }

@@ -1,39 +1,41 @@
-ghost use Rattle.std.specs.Prelude.{◌≡◌, ◌≤◌, IfOk, None, length, map, option_map};
+ghost use Rattle.std.specs.Prelude.{◌≡◌, ◌≤◌, IfOk, None, option_map};
 ghost use Rattle.std.specs.String.{string_bytes};
 ghost use Rattle.chunk_split.specs.Bounds.{ends_of};
-ghost use Rattle.vert_base.specs.declared.limits.TheConstants.{VERTICES};
 ghost use Rattle.edge_reader.specs.Gives.{graph_of_edges};
-ghost use Rattle.plain_run.specs.Told.{rounds_told, told_of};
-ghost use Rattle.vert_eval.specs.SourceRun.{source_run};
 ghost use Rattle.symple_run.specs.Commands.{asked, order_of, plan_order, play_of, run_order};
 ghost use Rattle.symple_run.specs.Headline.{Answers, IsComplete, TellsFreedom};
-ghost use Rattle.symple_run.specs.Outputs.{job_of, plan_text, play_text};
+ghost use Rattle.symple_run.specs.Outputs.{plan_text};
 ghost use Rattle.symple_run.specs.States.{input_state, outside, shelf_state, sink_state};
-ghost use Rattle.symple_run.specs.SourceRuns.{IsSourceRun};
-ghost use Rattle.symple_run.specs.Walks.{Performs, Plays};
+ghost use Rattle.symple_run.specs.Played.{IsPlayed};
+ghost use Rattle.symple_run.specs.SourceRuns.{IsSourceRun, NoRun};
+ghost use Rattle.symple_run.specs.Walks.{Performs, Plays, PlaysRun};
 ghost use Rattle.symple_words.specs.Lines.{RunOf};
 ghost use Rattle.symple_words.specs.Ranges.{AreMachines, IsGraphForm, IsWithin};
 ghost use Rattle.symple_words.specs.Views.{job_view, line_view, words_of};
 
 use crate::failure::{Failure, write_note};
 use crate::freedom::tell_freedom;
+use crate::machines::{parts_from, play_out};
 use crate::plan::put_plan;
 use crate::read::{load_graph, load_program};
 use crate::show::show_program;
 use crate::status::Status;
-use crate::table::put_run;
+use crate::table::put_table;
 use chunk_split::{Cuts, cuts_of};
+use cluster_run::Cluster;
+use delivery_log::chosen_runs_are_complete;
 use edge_reader::Edges;
 use graph_table::Table;
-use instrument::{Split, split_of};
+use instrument::split_of;
 use order_free::order_free_programs;
 use outside::{Shelf, Sink, Source};
-use plain_run::{PlainRun, run_plainly, runs_by_table};
 use std::alloc::Global;
+use symple_face::Site;
 use symple_words::{GraphForm, Job, Line, read_words};
 use vert_base::Want;
 use vert_base::limits::MACHINES;
 use vert_tree::Typed;
+use word_kinds::literals_are_words;
 
 /// The chunks of a graph for so many machines.
 fn chunks(alloc: Global, edges: Edges, machines: u8) -> Result<Cuts<MACHINES>, Want>
@@ -45,7 +47,7 @@ fn chunks(alloc: Global, edges: Edges, machines: u8) -> Result<Cuts<MACHINES>, W
 }
 
 /// Runs the program on the graph and puts what is asked of the run.
-fn run<H: Shelf, O: Sink>(
+fn run<S: Site, H: Shelf, O: Sink>(
     alloc: Global,
     job: &Job,
     machines: u8,
@@ -55,54 +57,36 @@ fn run<H: Shelf, O: Sink>(
     requires form { IsGraphForm job.now.form }
     requires few { AreMachines machines }
     ensures order { Performs H.files H.loads H.stores O.held O.faults O.spare
-        (run_order (job_view job.now) machines) shelf.old shelf.new out.old out.new result }
+        (IsPlayed S.work) (run_order (job_view job.now) machines)
+        shelf.old shelf.new out.old out.new result }
     ensures later { H.loads shelf.old ≤ H.loads shelf.new }
 {
     let typed = load_program(alloc, shelf, &job.program)?;
     let edges = load_graph(alloc, shelf, &job.form, &job.graph)?;
-    play(alloc, job, machines, &split_of(typed), edges, out)
+    play::<S, O>(alloc, job, machines, typed, edges, out)
 }
 
-/// Plays the program on the graph, cut into chunks, and puts what is asked of the run.
-fn play<O: Sink>(
+/// Runs machines on the graph, one for each chunk, and puts what is asked for of the rounds as they are
+/// judged, and then the table.
+fn play<S: Site, O: Sink>(
     alloc: Global,
     job: &Job,
     machines: u8,
-    split: &Split,
+    typed: Typed,
     edges: Edges,
     out: &mut O,
 ) -> Result<(), Failure>
     requires { AreMachines machines }
-    ensures { Plays (play_text (play_of (job_view job.now) machines split.now.program.program
-        (graph_of_edges edges)))
-        (sink_state O.held O.faults O.spare out.old)
+    ensures { PlaysRun S.work (play_of (job_view job.now) machines typed.program
+        (graph_of_edges edges)) (sink_state O.held O.faults O.spare out.old)
         (sink_state O.held O.faults O.spare out.new) result }
 {
-    let played = run_over(alloc, job, machines, &split.program, edges)?;
-    put_run(split, &played, &job.lines, out)?;
+    literals_are_words(&typed);
+    let parts = parts_from(alloc, split_of(typed), edges, machines, job.draws)?;
+    let mut cluster = Cluster::<S, MACHINES>::start(alloc, parts)?;
+    play_out(&mut cluster, &job.lines, out)?;
+    put_table(&cluster, out)?;
     Ok(())
-}
-
-/// Runs the program over the table of the edges, which is dropped when the run is over.
-fn run_over(
-    alloc: Global,
-    job: &Job,
-    machines: u8,
-    program: &Typed,
-    edges: Edges,
-) -> Result<PlainRun, Want>
-    requires { AreMachines machines }
-    ensures rows { IfOk result (λ run. run.rows.items ≡ (source_run
-        (job_of machines job.now.draws program.now.program (graph_of_edges edges))).last.rows) }
-    ensures rounds { IfOk result (λ run. map told_of run.rounds.items
-        ≡ rounds_told job.now.lines.reads (source_run
-        (job_of machines job.now.draws program.now.program (graph_of_edges edges)))) }
-    ensures few { IfOk result (λ run. length run.rows.items ≤ VERTICES) }
-{
-    runs_by_table();
-    let table = Table::from_edges(alloc, edges)?;
-    let cuts = cuts_of(&table, machines);
-    run_plainly(alloc, program, &table, &cuts, job.draws, job.lines.reads)
 }
 
 /// Puts how the graph is cut and who works on which chunk in each step.
@@ -117,7 +101,7 @@ fn plan<H: Shelf, O: Sink>(
     requires form { IsGraphForm form.now }
     requires few { AreMachines machines }
     ensures order { Performs H.files H.loads H.stores O.held O.faults O.spare
-        (plan_order name.now form.now machines) shelf.old shelf.new out.old out.new result }
+        NoRun (plan_order name.now form.now machines) shelf.old shelf.new out.old out.new result }
     ensures later { H.loads shelf.old ≤ H.loads shelf.new }
 {
     let edges = load_graph(alloc, shelf, form, name)?;
@@ -136,29 +120,8 @@ fn lay_out<O: Sink>(alloc: Global, machines: u8, edges: Edges, out: &mut O) -> R
     Ok(())
 }
 
-/// Runs a line of `run` without `--image`. One with `--log` is not built yet.
-fn run_unlogged<H: Shelf, O: Sink>(
-    alloc: Global,
-    job: &Job,
-    machines: u8,
-    shelf: &mut H,
-    out: &mut O,
-) -> Result<(), Failure>
-    requires form { IsGraphForm job.now.form }
-    requires few { AreMachines machines }
-    ensures order { Performs H.files H.loads H.stores O.held O.faults O.spare
-        (asked (RunOf (job_view job.now) machines None))
-        shelf.old shelf.new out.old out.new result }
-    ensures later { H.loads shelf.old ≤ H.loads shelf.new }
-{
-    if job.lines.log {
-        return Err(Failure::Words);
-    }
-    run(alloc, job, machines, shelf, out)
-}
-
 /// Runs a line of `run`. One with `--image` is not built yet.
-fn run_line<H: Shelf, O: Sink>(
+fn run_line<S: Site, H: Shelf, O: Sink>(
     alloc: Global,
     job: &Job,
     machines: u8,
@@ -169,19 +132,19 @@ fn run_line<H: Shelf, O: Sink>(
     requires form { IsGraphForm job.now.form }
     requires few { AreMachines machines }
     ensures order { Performs H.files H.loads H.stores O.held O.faults O.spare
-        (asked (RunOf (job_view job.now) machines
+        (IsPlayed S.work) (asked (RunOf (job_view job.now) machines
         (option_map (λ name. string_bytes name) image.now)))
         shelf.old shelf.new out.old out.new result }
     ensures later { H.loads shelf.old ≤ H.loads shelf.new }
 {
     match image {
         Some(_) => Err(Failure::Words),
-        None => run_unlogged(alloc, job, machines, shelf, out),
+        None => run::<S, H, O>(alloc, job, machines, shelf, out),
     }
 }
 
 /// Performs a line. One that is not built yet is refused as if it weren't there.
-fn perform<H: Shelf, O: Sink>(
+fn perform<S: Site, H: Shelf, O: Sink>(
     alloc: Global,
     line: &Line,
     shelf: &mut H,
@@ -189,7 +152,7 @@ fn perform<H: Shelf, O: Sink>(
 ) -> Result<(), Failure>
     requires { IsWithin (line_view line.now) }
     ensures order { Performs H.files H.loads H.stores O.held O.faults O.spare
-        (asked (line_view line.now)) shelf.old shelf.new out.old out.new result }
+        (IsPlayed S.work) (asked (line_view line.now)) shelf.old shelf.new out.old out.new result }
     ensures later { H.loads shelf.old ≤ H.loads shelf.new }
 {
     match line {
@@ -197,7 +160,7 @@ fn perform<H: Shelf, O: Sink>(
             job,
             machines,
             image,
-        } => run_line(alloc, job, *machines, image, shelf, out),
+        } => run_line::<S, H, O>(alloc, job, *machines, image, shelf, out),
         Line::PlanLine {
             graph,
             form,
@@ -210,25 +173,25 @@ fn perform<H: Shelf, O: Sink>(
 }
 
 /// Reads the words as a line and performs it.
-fn obey<H: Shelf, O: Sink>(
+fn obey<S: Site, H: Shelf, O: Sink>(
     alloc: Global,
     words: &[String],
     shelf: &mut H,
     out: &mut O,
 ) -> Result<(), Failure>
     ensures order { Performs H.files H.loads H.stores O.held O.faults O.spare
-        (order_of (words_of words.now)) shelf.old shelf.new out.old out.new result }
+        (IsPlayed S.work) (order_of (words_of words.now)) shelf.old shelf.new out.old out.new result }
     ensures later { H.loads shelf.old ≤ H.loads shelf.new }
 {
     let line = read_words(alloc, words)?;
-    perform(alloc, &line, shelf, out)
+    perform::<S, H, O>(alloc, &line, shelf, out)
 }
 
 /// Performs the line that the words are, over a shelf of files, an input, and sinks for what it prints
 /// and for the note that it leaves where it doesn't end well.
 ///
 /// The words are those behind the program's own name. Nothing is taken from the input.
-pub fn symple<H: Shelf, I: Source, O: Sink, N: Sink>(
+pub fn symple<S: Site, H: Shelf, I: Source, O: Sink, N: Sink>(
     alloc: Global,
     words: &[String],
     shelf: &mut H,
@@ -236,8 +199,17 @@ pub fn symple<H: Shelf, I: Source, O: Sink, N: Sink>(
     out: &mut O,
     notes: &mut N,
 ) -> Status
-    // What is printed is the text of the source run.
-    ensures answer { Answers IsSourceRun (words_of words.now)
+    // Whatever machines S are: what is printed of a run is what their states tell, event by event.
+    ensures answer { Answers (IsPlayed S.work) (words_of words.now)
+        (outside (shelf_state H.files H.loads H.stores shelf.old)
+        (sink_state O.held O.faults O.spare out.old) (input_state I.left I.faults input.old))
+        (outside (shelf_state H.files H.loads H.stores shelf.new)
+        (sink_state O.held O.faults O.spare out.new) (input_state I.left I.faults input.new))
+        (sink_state N.held N.faults N.spare notes.old)
+        (sink_state N.held N.faults N.spare notes.new) result }
+
+    // Where they are cores, it is the text of the source run, which no machine tells.
+    ensures core { S.is_core → Answers IsSourceRun (words_of words.now)
         (outside (shelf_state H.files H.loads H.stores shelf.old)
         (sink_state O.held O.faults O.spare out.old) (input_state I.left I.faults input.old))
         (outside (shelf_state H.files H.loads H.stores shelf.new)
@@ -246,7 +218,15 @@ pub fn symple<H: Shelf, I: Source, O: Sink, N: Sink>(
         (sink_state N.held N.faults N.spare notes.new) result }
 
     // What is refused is refused, and what isn't is done, but for want of memory, where nothing fails.
-    ensures complete { IsComplete IsSourceRun (words_of words.now)
+    ensures complete { IsComplete (IsPlayed S.work) (words_of words.now)
+        (outside (shelf_state H.files H.loads H.stores shelf.old)
+        (sink_state O.held O.faults O.spare out.old) (input_state I.left I.faults input.old))
+        (outside (shelf_state H.files H.loads H.stores shelf.new)
+        (sink_state O.held O.faults O.spare out.new) (input_state I.left I.faults input.new))
+        result }
+
+    // The same of cores, by what the source run tells.
+    ensures whole { S.is_core → IsComplete IsSourceRun (words_of words.now)
         (outside (shelf_state H.files H.loads H.stores shelf.old)
         (sink_state O.held O.faults O.spare out.old) (input_state I.left I.faults input.old))
         (outside (shelf_state H.files H.loads H.stores shelf.new)
@@ -265,7 +245,8 @@ pub fn symple<H: Shelf, I: Source, O: Sink, N: Sink>(
     ensures loads { H.loads shelf.old ≤ H.loads shelf.new }
 {
     order_free_programs();
-    match obey(alloc, words, shelf, out) {
+    chosen_runs_are_complete::<S>();
+    match obey::<S, H, O>(alloc, words, shelf, out) {
         Ok(()) => Status::Done,
         Err(failure) => {
             let _ = write_note(&failure, notes);

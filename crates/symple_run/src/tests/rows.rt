@@ -429,3 +429,44 @@ run p g --machines 1 --reads
 plan g --machines 2
 show p
 free p";
+
+/// Runs with `--log`: behind `$` the words; a line with the program under `p`, the graph under `g`, and how many
+/// events of each kind there are; the lines that are among the others; behind a line `=` what is left without events.
+pub(super) static LOGS: &str = "$ run p g --machines 2 --log
+bfs diamond 34 30
+take dep 1 0 0 0 1 0201000000000000010100000002
+take dep 1 0 1 0 1 0201000000000100010100000001
+=
+vertex dist parent
+0 0 -1
+1 1 0
+2 1 0
+3 2 1
+$ run p g --both --machines 3 --rounds --log
+k triangle-with-tail 54 72
+take dep 1 0 0 1 2 02010000000000010209000000010100000000000000
+=
+round 1 dense 4 8 7
+round 2 dense 1 1 7
+vertex alive
+0 true
+1 true
+2 true
+3 false
+$ run p g --machines 3 --log --rounds
+sum weighted-cycle 29 26
+=
+round 1 dense 3 4 4
+vertex mass
+0 -3
+1 5
+2 11
+$ run p g --machines 64 --log
+first0 diamond 65 126
+=
+vertex pick
+0 -1
+1 -1
+2 -1
+3 -1
+";

@@ -2,7 +2,7 @@ use Rattle.std.proofs.Common.{subst}
 use Rattle.std.proofs.lemmas.Result.{err_from_is_err_and}
 use Rattle.instrument.specs.Shown.{shown}
 use Rattle.symple_run.specs.Orders.{Ends, Puts}
-use Rattle.symple_run.specs.SourceRuns.{IsSourceRun}
+use Rattle.symple_run.specs.SourceRuns.{NoRun}
 use Rattle.symple_run.specs.States.{sink_state}
 use Rattle.symple_run.specs.Walks.{Plays}
 use Rattle.symple_run.proofs.WalkLaws.{program_goes, program_stops, put_ends}
@@ -12,7 +12,7 @@ use Rattle.symple_run.proofs.show.show_program.Goals as goal
 pub returns-in_err-typed-clause-order : goal.returns-in_err-typed-clause-order
 returns-in_err-typed-clause-order g c =
     let p = err_from_is_err_and c.from_residual.result c.from_residual.ensures.1 in
-    rw (p.1, p.2) (λ input. program_stops IsSourceRun _ _ c.args.name.now _ c.in_err-typed.ensures.program (λ program.
+    rw (p.1, p.2) (λ input. program_stops NoRun _ _ c.args.name.now _ c.in_err-typed.ensures.program (λ program.
     Puts (shown program) Ends) _ input)
 
 pub returns-clause-order : goal.returns-clause-order
@@ -20,7 +20,7 @@ returns-clause-order g c =
     let old = sink_state g.O.Sink.held g.O.Sink.faults g.O.Sink.spare c.args.out.now in
     let new = sink_state g.O.Sink.held g.O.Sink.faults g.O.Sink.spare c.put_shown.new.out in
     let P : Typed → Type 0 = λ typed. Plays (shown typed.program) old new c.put_shown.result in
-    λ input. program_goes IsSourceRun _ _ c.args.name.now c.in_ok-typed.typed c.in_ok-typed.ensures.program
+    λ input. program_goes NoRun _ _ c.args.name.now c.in_ok-typed.typed c.in_ok-typed.ensures.program
     (λ program. Puts (shown program) Ends) old input _ _
-    (put_ends IsSourceRun (shown c.in_ok-typed.typed.program) old new c.put_shown.result
+    (put_ends NoRun (shown c.in_ok-typed.typed.program) old new c.put_shown.result
     (subst P c.split_of.ensures c.put_shown.ensures) _ input)

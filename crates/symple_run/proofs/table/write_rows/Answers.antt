@@ -1,26 +1,55 @@
-use Rattle.std.proofs.Common.{◌+◌, drop, ap, arith}
-use Rattle.array_text.specs.Tables.{row_text, rows_text}
-use Rattle.array_text.proofs.WritesLaws.{writes_same, writes_failed, writes_then}
-use Rattle.symple_run.proofs.NumberedLaws.{numbered_more, numbered_split}
-use Rattle.symple_run.proofs.RoundLaws.{rows_numbered}
+use Rattle.std.proofs.Common.{◌≡◌, ◌<◌, ◌≤◌, ◌+◌, ℕ, length, slice_get, subst, arith}
+use Rattle.array_text.proofs.WritesLaws.{writes_failed, writes_nothing, writes_same, writes_then}
+use Rattle.schedule_laws.specs.Layout.{vertices_in}
+use Rattle.symple_run.specs.Played.{lines_behind}
+use Rattle.symple_run.proofs.WorldLaws.{first_site, lines_all, lines_more, lines_none, lines_split, of_run}
 use Rattle.symple_run.proofs.table.write_rows.Goals as goal
 
-pub returns-in_err-write_row : goal.returns-in_err-write_row
-returns-in_err-write_row g c =
-    let p = c.args.split.now.program.program in
-    let rows = c.args.rows.now in
-    let i = c.loop-v.v in
-    writes_same
-    (numbered_split (rows_numbered p) rows i c.index-rows-v.result (row_text p i c.index-rows-v.result) (omega arith)
-    (ap (row_text p i) c.index-rows-v.is))
-    (writes_failed (rows_text p (i + 1) (drop (i + 1) rows)) c.from_residual.result c.from_residual.ensures.0
-    (writes_then _ c.loop-v.invariant c.in_err-write_row.ensures))
+pub vertices-init : goal.vertices-init
+vertices-init g c =
+    let w = c.args.cluster.now.world in
+    let work = g.S.Site.work in
+    let reached = c.tells_reached.ensures c.requires.on in
+    let first = first_site reached.one_run.ends reached.split w
+    (of_run work g.S.Site.sound g.met.S.Site.lawful w reached) in
+    writes_same (lines_none work w 0 first.0 first.1 (omega arith))
+    (writes_nothing g.O.Sink.held g.O.Sink.faults g.O.Sink.spare c.args.out.now)
 
-pub loop-v-preserved : goal.loop-v-preserved
-loop-v-preserved g c =
-    let p = c.args.split.now.program.program in
-    let i = c.loop-v.v in
-    writes_same
-    (numbered_more (rows_numbered p) c.args.rows.now i c.index-rows-v.result (row_text p i c.index-rows-v.result)
-    (omega arith) (ap (row_text p i) c.index-rows-v.is))
-    (writes_then _ c.loop-v.invariant c.in_ok-write_row.ensures)
+pub returns-in_err-write_line : goal.returns-in_err-write_line
+returns-in_err-write_line g c =
+    let w = c.args.cluster.now.world in
+    let work = g.S.Site.work in
+    let k = c.vertices.v in
+    let reached = c.tells_reached.ensures c.requires.on in
+    let first = first_site reached.one_run.ends reached.split w
+    (of_run work g.S.Site.sound g.met.S.Site.lawful w reached) in
+    let lt : k < length (vertices_in w) =
+    subst (λ (n : ℕ). k < n) c.vertices-v-end.ensures c.vertices-test.true in
+    writes_same (lines_split work w k first.0 first.1 lt)
+    (writes_failed (lines_behind work w (k + 1) (slice_get w.sites 0)) c.from_residual.result c.from_residual.ensures.0
+    (writes_then _ c.vertices.invariant c.in_err-write_line.ensures))
+
+pub vertices-preserved : goal.vertices-preserved
+vertices-preserved g c =
+    let w = c.args.cluster.now.world in
+    let work = g.S.Site.work in
+    let k = c.vertices.v in
+    let reached = c.tells_reached.ensures c.requires.on in
+    let first = first_site reached.one_run.ends reached.split w
+    (of_run work g.S.Site.sound g.met.S.Site.lawful w reached) in
+    let lt : k < length (vertices_in w) =
+    subst (λ (n : ℕ). k < n) c.vertices-v-end.ensures c.vertices-test.true in
+    writes_same (lines_more work w k first.0 first.1 lt)
+    (writes_then _ c.vertices.invariant c.in_ok-write_line.ensures)
+
+pub returns : goal.returns
+returns g c =
+    let w = c.args.cluster.now.world in
+    let work = g.S.Site.work in
+    let k = c.vertices.v in
+    let reached = c.tells_reached.ensures c.requires.on in
+    let first = first_site reached.one_run.ends reached.split w
+    (of_run work g.S.Site.sound g.met.S.Site.lawful w reached) in
+    let all : length (vertices_in w) ≤ k =
+    omega (arith, c.vertices-v-end.ensures, c.vertices.auto.v-end, c.vertices-test.false) in
+    writes_same (lines_all work w k first.0 first.1 all) c.vertices.invariant

@@ -1,9 +1,9 @@
-use Rattle.std.proofs.Common.{take, Ok}
-use Rattle.array_text.specs.Tables.{rows_text}
+use Rattle.std.proofs.Common.{Ok, slice_get}
 use Rattle.array_text.specs.Writes.{Writes}
+use Rattle.symple_run.specs.Played.{lines_to}
 use Rattle.symple_run.proofs.table.write_rows.Given as goal
 
--- the lines of the rows so far are written
-abbrev pub invariant-loop-v : goal.invariant-loop-v
-invariant-loop-v g l = Writes g.O.Sink.held g.O.Sink.faults g.O.Sink.spare l.fn.out l.out
-    (rows_text l.split.program.program 0 (take l.v l.rows)) (Ok tt)
+-- the lines of the vertices so far are written
+abbrev pub invariant-vertices : goal.invariant-vertices
+invariant-vertices g l = Writes g.O.Sink.held g.O.Sink.faults g.O.Sink.spare l.fn.out l.out
+    (lines_to g.S.Site.work l.cluster.world l.v (slice_get l.cluster.world.sites 0)) (Ok tt)

@@ -1,6 +1,9 @@
 use Rattle.std.proofs.Common.{List, ℕ, sym, ap, ◌∙◌}
 use Rattle.symple_run.specs.Commands.{asked, free_order, plan_order, show_order}
-use Rattle.symple_run.specs.SourceRuns.{IsSourceRun}
+use Rattle.symple_run.specs.Played.{IsPlayed}
+use Rattle.symple_run.specs.States.{Left, Outside, outside, shelf_state, sink_state}
+use Rattle.symple_run.specs.Walks.{fault_after}
+use Rattle.symple_run.proofs.LeavesLaws.{unplayed}
 use Rattle.symple_run.proofs.WalkLaws.{as_order}
 use Rattle.symple_words.specs.declared.line.Line.{Line}
 use Rattle.symple_words.specs.Views.{line_view}
@@ -8,22 +11,51 @@ use Rattle.symple_run.proofs.top.perform.Goals as goal
 
 pub returns-in-RunLine-clause-order : goal.returns-in-RunLine-clause-order
 returns-in-RunLine-clause-order g c = λ input.
-    as_order IsSourceRun _ _ _ _ _ (ap (λ (line : Line). asked (line_view line)) (sym c.in-RunLine.is))
+    as_order (IsPlayed g.S.Site.work) _ _ _ _ _ (ap (λ (line : Line). asked (line_view line)) (sym c.in-RunLine.is))
     (c.run_line.ensures.order input)
 
 pub returns-in-PlanLine-clause-order : goal.returns-in-PlanLine-clause-order
 returns-in-PlanLine-clause-order g c =
     let here = c.in-PlanLine in
-    λ input. as_order IsSourceRun _ _ _ _ _
+    let order = plan_order c.deref.result.now here.form here.machines in
+    let old : Left → Outside = λ input. outside
+    (shelf_state g.H.Shelf.files g.H.Shelf.loads g.H.Shelf.stores c.args.shelf.now)
+    (sink_state g.O.Sink.held g.O.Sink.faults g.O.Sink.spare c.args.out.now) input in
+    let new : Left → Outside = λ input. outside
+    (shelf_state g.H.Shelf.files g.H.Shelf.loads g.H.Shelf.stores c.plan.new.shelf)
+    (sink_state g.O.Sink.held g.O.Sink.faults g.O.Sink.spare c.plan.new.out) input in
+    let ended = fault_after c.plan.result in
+    λ input. as_order (IsPlayed g.S.Site.work) order _ (old input) (new input) ended
     (ap (λ (name : List ℕ). plan_order name here.form here.machines) c.deref.ensures
-    ∙ ap (λ (line : Line). asked (line_view line)) (sym here.is)) (c.plan.ensures.order input)
+    ∙ ap (λ (line : Line). asked (line_view line)) (sym here.is))
+    (unplayed (IsPlayed g.S.Site.work) order (old input) (new input) ended (c.plan.ensures.order input))
 
 pub returns-in-ShowLine-clause-order : goal.returns-in-ShowLine-clause-order
 returns-in-ShowLine-clause-order g c =
-    λ input. as_order IsSourceRun _ _ _ _ _ (ap show_order c.deref-in-ShowLine.ensures
-    ∙ ap (λ (line : Line). asked (line_view line)) (sym c.in-ShowLine.is)) (c.show_program.ensures.order input)
+    let order = show_order c.deref-in-ShowLine.result.now in
+    let old : Left → Outside = λ input. outside
+    (shelf_state g.H.Shelf.files g.H.Shelf.loads g.H.Shelf.stores c.args.shelf.now)
+    (sink_state g.O.Sink.held g.O.Sink.faults g.O.Sink.spare c.args.out.now) input in
+    let new : Left → Outside = λ input. outside
+    (shelf_state g.H.Shelf.files g.H.Shelf.loads g.H.Shelf.stores c.show_program.new.shelf)
+    (sink_state g.O.Sink.held g.O.Sink.faults g.O.Sink.spare c.show_program.new.out) input in
+    let ended = fault_after c.show_program.result in
+    λ input. as_order (IsPlayed g.S.Site.work) order _ (old input) (new input) ended
+    (ap show_order c.deref-in-ShowLine.ensures
+    ∙ ap (λ (line : Line). asked (line_view line)) (sym c.in-ShowLine.is))
+    (unplayed (IsPlayed g.S.Site.work) order (old input) (new input) ended (c.show_program.ensures.order input))
 
 pub returns-in-FreeLine-clause-order : goal.returns-in-FreeLine-clause-order
 returns-in-FreeLine-clause-order g c =
-    λ input. as_order IsSourceRun _ _ _ _ _ (ap free_order c.deref-in-FreeLine.ensures
-    ∙ ap (λ (line : Line). asked (line_view line)) (sym c.in-FreeLine.is)) (c.tell_freedom.ensures.order input)
+    let order = free_order c.deref-in-FreeLine.result.now in
+    let old : Left → Outside = λ input. outside
+    (shelf_state g.H.Shelf.files g.H.Shelf.loads g.H.Shelf.stores c.args.shelf.now)
+    (sink_state g.O.Sink.held g.O.Sink.faults g.O.Sink.spare c.args.out.now) input in
+    let new : Left → Outside = λ input. outside
+    (shelf_state g.H.Shelf.files g.H.Shelf.loads g.H.Shelf.stores c.tell_freedom.new.shelf)
+    (sink_state g.O.Sink.held g.O.Sink.faults g.O.Sink.spare c.tell_freedom.new.out) input in
+    let ended = fault_after c.tell_freedom.result in
+    λ input. as_order (IsPlayed g.S.Site.work) order _ (old input) (new input) ended
+    (ap free_order c.deref-in-FreeLine.ensures
+    ∙ ap (λ (line : Line). asked (line_view line)) (sym c.in-FreeLine.is))
+    (unplayed (IsPlayed g.S.Site.work) order (old input) (new input) ended (c.tell_freedom.ensures.order input))

@@ -3,11 +3,10 @@ use Rattle.std.proofs.lemmas.Result.{err_from_is_err_and}
 use Rattle.edge_reader.specs.Gives.{graph_of_edges}
 use Rattle.symple_run.specs.Commands.{play_of, with_graph}
 use Rattle.symple_run.specs.Orders.{Order, Runs, follows}
-use Rattle.symple_run.specs.Outputs.{play_text}
-use Rattle.symple_run.specs.SourceRuns.{IsSourceRun}
+use Rattle.symple_run.specs.Played.{IsPlayed}
 use Rattle.symple_run.specs.States.{shelf_state, sink_state}
-use Rattle.symple_run.specs.Walks.{GivesGraph, GivesProgram, Plays}
-use Rattle.symple_run.proofs.WalkLaws.{graph_goes, graph_stops, program_goes, program_stops, run_ends}
+use Rattle.symple_run.specs.Walks.{GivesGraph, GivesProgram}
+use Rattle.symple_run.proofs.WalkLaws.{graph_goes, graph_stops, program_goes, program_stops}
 use Rattle.symple_words.specs.Views.{job_view}
 use Rattle.vert_tree.specs.declared.program.Program.{Program}
 use Rattle.vert_tree.specs.declared.typed.Typed.{Typed}
@@ -23,7 +22,7 @@ returns-in_err-typed-clause-order g c =
     (shelf_state g.H.Shelf.files g.H.Shelf.loads g.H.Shelf.stores c.load_program.new.shelf) name
     (Err c.in_err-typed.field-0.0) in
     let p = err_from_is_err_and c.from_residual.result c.from_residual.ensures.1 in
-    rw (p.1, p.2) (λ input. program_stops IsSourceRun _ _ job.program _
+    rw (p.1, p.2) (λ input. program_stops (IsPlayed g.S.Site.work) _ _ job.program _
     (subst P c.deref.ensures c.in_err-typed.ensures.program) next _ input)
 
 pub returns-in_err-edges-clause-order : goal.returns-in_err-edges-clause-order
@@ -40,9 +39,9 @@ returns-in_err-edges-clause-order g c =
     let Q : List ℕ → Type 0 = λ name. GivesGraph mid new job.form name (Err c.in_err-edges.field-0.0) in
     let out = sink_state g.O.Sink.held g.O.Sink.faults g.O.Sink.spare c.args.out.now in
     let p = err_from_is_err_and c.from_residual-in_err-edges.result c.from_residual-in_err-edges.ensures.1 in
-    rw (p.1, p.2) (λ input. program_goes IsSourceRun old mid job.program typed
+    rw (p.1, p.2) (λ input. program_goes (IsPlayed g.S.Site.work) old mid job.program typed
     (subst P c.deref.ensures c.in_ok-typed.ensures.program) next out input _ _
-    (graph_stops IsSourceRun mid new job.form job.graph _ (subst Q c.deref-2.ensures c.in_err-edges.ensures.graph)
+    (graph_stops (IsPlayed g.S.Site.work) mid new job.form job.graph _ (subst Q c.deref-2.ensures c.in_err-edges.ensures.graph)
     (λ graph. Runs (play_of job machines typed.program graph) follows) out input))
 
 pub returns-clause-order : goal.returns-clause-order
@@ -59,13 +58,9 @@ returns-clause-order g c =
     let P : List ℕ → Type 0 = λ name. GivesProgram old mid name (Ok typed) in
     let Q : List ℕ → Type 0 = λ name. GivesGraph mid new job.form name (Ok edges) in
     let out = sink_state g.O.Sink.held g.O.Sink.faults g.O.Sink.spare c.args.out.now in
-    let after = sink_state g.O.Sink.held g.O.Sink.faults g.O.Sink.spare c.play.new.out in
-    let R : Typed → Type 0 = λ t. Plays (play_text (play_of job machines t.program (graph_of_edges edges))) out after
-    c.play.result in
-    λ input. program_goes IsSourceRun old mid job.program typed
+    λ input. program_goes (IsPlayed g.S.Site.work) old mid job.program typed
     (subst P c.deref.ensures c.in_ok-typed.ensures.program) next out input _ _
-    (graph_goes IsSourceRun mid new job.form job.graph (graph_of_edges edges)
+    (graph_goes (IsPlayed g.S.Site.work) mid new job.form job.graph (graph_of_edges edges)
     (subst Q c.deref-2.ensures c.in_ok-edges.ensures.graph) (λ graph.
     Runs (play_of job machines typed.program graph) follows) out input _ _
-    (run_ends (play_of job machines typed.program (graph_of_edges edges)) out after c.play.result
-    (subst R c.split_of.ensures c.play.ensures) new input))
+    (c.play.ensures new input))

@@ -3,7 +3,7 @@ use Rattle.std.specs.Global.{Global}
 use Rattle.std.specs.Prelude.{option_map}
 use Rattle.std.specs.String.{string_bytes}
 use Rattle.symple_run.specs.Commands.{asked}
-use Rattle.symple_run.specs.SourceRuns.{IsSourceRun}
+use Rattle.symple_run.specs.Played.{IsPlayed}
 use Rattle.symple_run.proofs.WalkLaws.{as_order}
 use Rattle.symple_words.specs.Lines.{RunOf}
 use Rattle.symple_words.specs.Views.{job_view}
@@ -11,7 +11,7 @@ use Rattle.symple_run.proofs.top.run_line.Goals as goal
 
 pub returns-in-None-clause-order : goal.returns-in-None-clause-order
 returns-in-None-clause-order g c =
-    λ input. as_order IsSourceRun _ _ _ _ _
+    λ input. as_order (IsPlayed g.S.Site.work) _ _ _ _ _
     (ap (λ (image : Option (String Global)).
     asked (RunOf (job_view c.args.job.now) c.args.machines (option_map (λ name. string_bytes name) image)))
-    (sym c.in-None.is)) (c.run_unlogged.ensures.order input)
+    (sym c.in-None.is)) (c.run.ensures.order input)

@@ -1,0 +1,41 @@
+use Rattle.std.proofs.Common.{rules, arith}
+use Rattle.std.proofs.lemmas.Result.{err_from_is_err_and}
+use Rattle.symple_run.proofs.PlayLaws.{not_finished}
+use Rattle.symple_run.proofs.machines.play_out.Goals as goal
+
+pub events-init : goal.events-init
+events-init g c = (c.requires.on, λ after outcome goes. goes)
+
+pub plain-requires : goal.plain-requires
+plain-requires g c = (omega arith, c.events.invariant.0)
+
+pub play_event-requires-clause-on : goal.play_event-requires-clause-on
+play_event-requires-clause-on g c = c.events.invariant.0
+
+pub play_event-requires-clause-more : goal.play_event-requires-clause-more
+play_event-requires-clause-more g c = not_finished c.events.cluster.world c.in-Some.event
+    c.in-Some.ensures.none
+
+pub events-smaller : goal.events-smaller
+events-smaller g c = c.in_ok-play_event.ensures.nearer
+
+pub events-preserved : goal.events-preserved
+events-preserved g c = (
+  c.in_ok-play_event.ensures.on,
+  λ after outcome goes.
+      c.events.invariant.1 after outcome (c.in_ok-play_event.ensures.ok after outcome goes),
+)
+
+pub returns-in_err-play_event-clause-err : goal.returns-in_err-play_event-clause-err
+returns-in_err-play_event-clause-err g c =
+    let p = err_from_is_err_and c.from_residual.result c.from_residual.ensures.1 in
+    rw (p.1, p.2) (c.events.invariant.1 _ _ c.in_err-play_event.ensures.err)
+
+pub returns-clause-on : goal.returns-clause-on
+returns-clause-on g c = c.events.invariant.0
+
+pub returns-clause-finished : goal.returns-clause-finished
+returns-clause-finished g c = c.plain.ensures.none.0 (search rules)
+
+pub returns-clause-ok : goal.returns-clause-ok
+returns-clause-ok g c = c.events.invariant.1

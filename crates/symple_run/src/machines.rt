@@ -1,0 +1,177 @@
+// The machines of a run, from the edges of a graph to the last event.
+ghost use Rattle.std.specs.Prelude.{◌≡◌, ◌<◌, ◌^◌, [], false, true, if◌then◌else◌, length, map, option_copied, option_map, IfOk, IfErr, IfSome, OnOk, Some};
+ghost use Rattle.std.specs.List.{All};
+ghost use Rattle.edge_reader.specs.Gives.{graph_of_edges};
+ghost use Rattle.schedule_laws.specs.Layout.{taken_in, told_in};
+ghost use Rattle.schedule_laws.specs.Texts.{told_lines};
+ghost use Rattle.array_text.specs.Events.{event_line};
+ghost use Rattle.array_text.specs.Writes.{Writes};
+ghost use Rattle.symple_face.specs.Cluster.{events_left, finished, plain_of};
+ghost use Rattle.symple_face.specs.PartViews.{plain_of as plain_part};
+ghost use Rattle.symple_run.specs.Faults.{fault_of};
+ghost use Rattle.symple_run.specs.Played.{GoesOn, LeadsOn, first_report};
+ghost use Rattle.symple_run.specs.RunParts.{IsRunOf};
+ghost use Rattle.symple_run.specs.States.{sink_state};
+ghost use Rattle.symple_run.specs.Walks.{Plays};
+ghost use Rattle.vert_base.specs.Letters.{letter_of};
+ghost use Rattle.symple_words.specs.Ranges.{AreMachines};
+
+use crate::failure::Failure;
+use crate::rounds::{ends_round, write_round_of};
+use array_text::write_event;
+use chunk_split::cuts_of;
+use cluster_run::{Cluster, choices_are_in_order};
+use delivery_log::plain;
+use edge_reader::Edges;
+use graph_table::Table;
+use instrument::Split;
+use mirror_table::parts;
+use outside::{Sink, SinkFault};
+use std::alloc::Global;
+use std::rc::Rc;
+use symple_face::{Part, Site};
+use symple_words::Lines;
+use vert_base::limits::MACHINES;
+use vert_base::{Event, Message, Want};
+
+/// The parts of a graph for so many machines, all with one program. The table of the edges is given up.
+pub(crate) fn parts_from(
+    alloc: Global,
+    split: Split,
+    edges: Edges,
+    machines: u8,
+    draws: u64,
+) -> Result<Vec<Part>, Want>
+    requires { AreMachines machines }
+    ensures of_graph { IfOk result (λ parts. IsRunOf machines draws (graph_of_edges edges)
+        (map plain_part parts.items)) }
+    ensures split { IfOk result (λ parts. All (λ part. part.split.value ≡ split) parts.items) }
+{
+    let split = Rc::new(alloc, split)?;
+    let table = Table::from_edges(alloc, edges)?;
+    let cuts = cuts_of(&table, machines);
+    // It says that they rise.
+    let _ends = cuts.ends();
+    parts(alloc, table, &cuts, &split, draws)
+}
+
+/// Plays the plain events up to the end. What is asked for of a round is put when it is judged.
+pub(crate) fn play_out<S: Site, O: Sink>(
+    cluster: &mut Cluster<S, MACHINES>,
+    lines: &Lines,
+    out: &mut O,
+) -> Result<(), Failure>
+    requires on { cluster.old.ended ≡ false }
+    ensures on { OnOk result (cluster.new.ended ≡ false) }
+    ensures finished { OnOk result (finished cluster.new.world ≡ true) }
+    ensures ok { OnOk result (LeadsOn S.work lines.now
+        cluster.old.world (sink_state O.held O.faults O.spare out.old)
+        cluster.new.world (sink_state O.held O.faults O.spare out.new)) }
+    ensures err { IfErr result (λ failure. GoesOn S.work lines.now cluster.old.world
+        (sink_state O.held O.faults O.spare out.old) (sink_state O.held O.faults O.spare out.new)
+        (Some (fault_of failure))) }
+{
+    choices_are_in_order::<S>();
+    'events: while let Some(event) = plain(cluster) {
+        play_event(cluster, &event, lines, out)?;
+    }
+    Ok(())
+}
+
+/// Plays an event, which is the plain one, and puts what is asked for of the round that it ends.
+fn play_event<S: Site, O: Sink>(
+    cluster: &mut Cluster<S, MACHINES>,
+    event: &Event,
+    lines: &Lines,
+    out: &mut O,
+) -> Result<(), Failure>
+    requires on { cluster.old.ended ≡ false }
+    requires more { finished cluster.old.world ≡ false }
+    requires plain { plain_of cluster.old.world ≡ Some event.now }
+    ensures on { OnOk result (cluster.new.ended ≡ false) }
+    ensures ok { OnOk result (LeadsOn S.work lines.now
+        cluster.old.world (sink_state O.held O.faults O.spare out.old)
+        cluster.new.world (sink_state O.held O.faults O.spare out.new)) }
+    ensures err { IfErr result (λ failure. GoesOn S.work lines.now cluster.old.world
+        (sink_state O.held O.faults O.spare out.old) (sink_state O.held O.faults O.spare out.new)
+        (Some (fault_of failure))) }
+    ensures nearer { OnOk result
+        (events_left cluster.new.world < events_left cluster.old.world) }
+{
+    choices_are_in_order::<S>();
+    cluster.tells_reached();
+    write_log(lines.log, cluster, event, out)?;
+    let tells = ends_round(cluster, event);
+    // The event is possible, so nothing but memory can fail.
+    match cluster.event(event) {
+        Ok(()) => {}
+        Err(_) => return Err(Failure::Memory),
+    }
+    write_round_if(tells, cluster, lines, out)?;
+    Ok(())
+}
+
+/// Puts the line of an event, where it is asked for.
+fn write_log<S: Site, O: Sink>(
+    asked: bool,
+    cluster: &Cluster<S, MACHINES>,
+    event: &Event,
+    out: &mut O,
+) -> Result<(), Failure>
+    ensures { Plays (if asked
+        then event_line event.now (taken_in cluster.now.world event.now) else [])
+        (sink_state O.held O.faults O.spare out.old)
+        (sink_state O.held O.faults O.spare out.new) result }
+{
+    if !asked {
+        return Ok(());
+    }
+    let message = taken(cluster, event);
+    // The length of a body is told in 32 bits. No form has so long a one.
+    if is_long(message) {
+        return Err(Failure::Memory);
+    }
+    write_event(event, message, out)?;
+    Ok(())
+}
+
+/// Whether the length of a message's body doesn't fit 32 bits.
+fn is_long(message: Option<&Message>) -> bool
+    ensures { result ≡ false
+        → IfSome message.entry (λ message. length message.now.body.items < 2 ^ 32) }
+{
+    match message {
+        Some(message) => message.body.len() > u32::MAX as usize,
+        None => false,
+    }
+}
+
+/// Puts what is asked for of the round that was judged, if one was.
+fn write_round_if<S: Site, O: Sink>(
+    judged: bool,
+    cluster: &Cluster<S, MACHINES>,
+    lines: &Lines,
+    out: &mut O,
+) -> Result<(), SinkFault>
+    requires on { cluster.now.ended ≡ false }
+    ensures { Writes O.held O.faults O.spare out.old out.new (if judged then told_lines lines.now
+        (told_in lines.now.reads S.work cluster.now.world (first_report S.work cluster.now.world))
+        else []) result }
+{
+    if judged {
+        write_round_of(cluster, lines, out)
+    } else {
+        Ok(())
+    }
+}
+
+/// The message that an event takes.
+fn taken<'a, S: Site>(cluster: &'a Cluster<S, MACHINES>, event: &Event) -> Option<&'a Message>
+    ensures { option_map letter_of (option_copied result)
+        ≡ taken_in cluster.now.world event.now }
+{
+    match event {
+        Event::Go(_) => None,
+        Event::Take(name) => cluster.peek(name),
+    }
+}
