@@ -358,9 +358,6 @@ symple: bad arguments
 $ run p g --machines 0
 bfs diamond Usage
 symple: bad arguments
-$ run p g --machines 1 --log
-bfs diamond Usage
-symple: bad arguments
 $ run p g --machines 1 --image i
 bfs diamond Usage
 symple: bad arguments
