@@ -35,6 +35,7 @@ pub mod ScanToldLaws
 pub mod SenderLaws
 pub mod SightLaws
 pub mod SoundLaws
+pub mod StartLaws
 pub mod StepLaws
 pub mod StoreLaws
 pub mod SumLaws
