@@ -6,7 +6,8 @@
 -- The chain. The parts of a command make its order, step by step with the outside (WalkLaws, over LoadLaws and
 -- FlushLaws); what every order leaves of files, input and texts is LeavesLaws, and what stands of a run that stopped
 -- CourseLaws. Texts of rows, rounds and reads put piece by piece are the texts by definition: LineLaws, TextLaws,
--- NumberedLaws, ReadLaws, RoundLaws.
+-- NumberedLaws, RoundLaws, ReadTurns. PlayLaws: what a run of machines leaves,
+-- event by event; WorldLaws, PartsFrom: its machines; CoreRuns: for cores it is the source run.
 pub mod ComesLaws
 pub mod CoreRuns
 pub mod CourseLaws
@@ -18,7 +19,6 @@ pub mod LoadLaws
 pub mod NumberedLaws
 pub mod PartsFrom
 pub mod PlayLaws
-pub mod ReadLaws
 pub mod ReadTurns
 pub mod RoundLaws
 pub mod TextLaws

@@ -30,7 +30,7 @@ use instrument::split_of;
 use order_free::order_free_programs;
 use outside::{Shelf, Sink, Source};
 use std::alloc::Global;
-use symple_face::Site;
+use symple_face::{Restart, Site};
 use symple_words::{GraphForm, Job, Line, read_words};
 use vert_base::Want;
 use vert_base::limits::MACHINES;
@@ -191,7 +191,7 @@ fn obey<S: Site, H: Shelf, O: Sink>(
 /// and for the note that it leaves where it doesn't end well.
 ///
 /// The words are those behind the program's own name. Nothing is taken from the input.
-pub fn symple<S: Site, H: Shelf, I: Source, O: Sink, N: Sink>(
+pub fn symple<S: Restart, H: Shelf, I: Source, O: Sink, N: Sink>(
     alloc: Global,
     words: &[String],
     shelf: &mut H,
