@@ -2,6 +2,7 @@ ghost use Rattle.std.specs.Prelude.{◌≡◌, ◌<◌, ◌^◌, ◌++◌, IfSom
 ghost use Rattle.vert_base.specs.declared.message.Event.TheVariants.{Go, Take};
 ghost use Rattle.vert_base.specs.HeaderBytes.{code_of, spelled_header};
 ghost use Rattle.vert_base.specs.Letters.{letter_of};
+ghost use Rattle.vert_base.specs.NameTexts.{name_text};
 ghost use Rattle.array_text.specs.Events.{event_line, event_text, message_text};
 ghost use Rattle.array_text.specs.Writes.{Writes};
 
@@ -56,6 +57,14 @@ fn put_go<O: Sink>(machine: u8, out: &mut O) -> Result<(), SinkFault>
 fn put_take<O: Sink>(name: &Name, out: &mut O) -> Result<(), SinkFault>
     ensures { Writes O.held O.faults O.spare out.old out.new (event_text (Take name.now)) result }
 {
+    put_all(out, b"take ")?;
+    write_name(name, out)
+}
+
+/// Puts the whole name of a message.
+pub fn write_name<O: Sink>(name: &Name, out: &mut O) -> Result<(), SinkFault>
+    ensures { Writes O.held O.faults O.spare out.old out.new (name_text name.now) result }
+{
     let mut round = Buffer::new();
     let mut from = Buffer::new();
     let mut to = Buffer::new();
@@ -64,14 +73,14 @@ fn put_take<O: Sink>(name: &Name, out: &mut O) -> Result<(), SinkFault>
     let from = from.format(name.from).as_bytes();
     let to = to.format(name.to).as_bytes();
     if !name.kind.has_steps() {
-        return put_pieces(out, &[b"take ", word, b" ", round, b" ", from, b" ", to]);
+        return put_pieces(out, &[word, b" ", round, b" ", from, b" ", to]);
     }
     let mut step = Buffer::new();
     let mut half = Buffer::new();
     let step = step.format(name.step).as_bytes();
     let half = half.format(name.half).as_bytes();
     let pieces = [
-        b"take ", word, b" ", round, b" ", step, b" ", half, b" ", from, b" ", to,
+        word, b" ", round, b" ", step, b" ", half, b" ", from, b" ", to,
     ];
     put_pieces(out, &pieces)
 }

@@ -9,7 +9,7 @@ mod reads;
 mod round;
 mod row;
 
-pub use event::write_event;
+pub use event::{write_event, write_name};
 pub use header::write_header;
 pub use put::{put_all, put_pieces};
 pub use reads::{write_read_head, write_reads};

@@ -3,9 +3,10 @@ ghost use Rattle.std.specs.Prelude.{◌≡◌, ◌≤◌, length, slice_get};
 ghost use Rattle.symple_face.specs.Cluster.{choices_of, possible};
 ghost use Rattle.cluster_run.specs.Driven.{world_of};
 ghost use Rattle.cluster_run.specs.Faults.{lacking};
+ghost use Rattle.cluster_run.specs.Ready.{flags_of};
 
 use crate::fault::Missing;
-use crate::looks::{can_go, nth_ready, ready_count};
+use crate::looks::{can_go, count_set, nth_set};
 use flight::Flight;
 use symple_face::Site;
 use vert_base::Event;
@@ -21,19 +22,26 @@ pub(crate) fn can_play<S: Site>(sites: &[S], flight: &Flight, event: &Event) -> 
 }
 
 /// How many events are possible.
-pub(crate) fn choice_count<S: Site>(sites: &[S], flight: &Flight) -> u32
-    requires { length sites.now ≤ 64 }
+pub(crate) fn choice_count<S: Site>(sites: &[S], ready: &[bool], flight: &Flight) -> u32
+    requires few { length sites.now ≤ 64 }
+    requires flags { ready.now ≡ flags_of S.state sites.now }
     ensures { result ≡ length (choices_of (world_of S.state sites.now flight.now)) }
 {
-    ready_count(sites) + flight.count()
+    count_set(ready) + flight.count()
 }
 
 /// The possible event with `k` others before it.
-pub(crate) fn nth_choice<S: Site>(sites: &[S], flight: &Flight, k: u32) -> Option<Event>
-    requires { length sites.now ≤ 64 }
+pub(crate) fn nth_choice<S: Site>(
+    sites: &[S],
+    ready: &[bool],
+    flight: &Flight,
+    k: u32,
+) -> Option<Event>
+    requires few { length sites.now ≤ 64 }
+    requires flags { ready.now ≡ flags_of S.state sites.now }
     ensures { result ≡ slice_get (choices_of (world_of S.state sites.now flight.now)) k }
 {
-    match nth_ready(sites, k) {
+    match nth_set(ready, k) {
         Ok(machine) => Some(Event::Go(machine)),
         Err(left) => match flight.nth(left) {
             Some(name) => Some(Event::Take(name)),
@@ -43,13 +51,18 @@ pub(crate) fn nth_choice<S: Site>(sites: &[S], flight: &Flight, k: u32) -> Optio
 }
 
 /// The least message under way, or where there is none the least machine that is ready.
-pub(crate) fn first_missing<S: Site>(sites: &[S], flight: &Flight) -> Option<Missing>
-    requires { length sites.now ≤ 64 }
+pub(crate) fn first_missing<S: Site>(
+    sites: &[S],
+    ready: &[bool],
+    flight: &Flight,
+) -> Option<Missing>
+    requires few { length sites.now ≤ 64 }
+    requires flags { ready.now ≡ flags_of S.state sites.now }
     ensures { result ≡ lacking (world_of S.state sites.now flight.now) }
 {
     match flight.first() {
         Some(name) => Some(Missing::Taken(name)),
-        None => match nth_ready(sites, 0) {
+        None => match nth_set(ready, 0) {
             Ok(machine) => Some(Missing::Gone(machine)),
             Err(_) => None,
         },

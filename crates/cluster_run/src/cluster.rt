@@ -14,6 +14,8 @@ use vert_base::{Event, Message, Name};
 #[derive(Drop)]
 pub struct Cluster<S: Site, const CAP: usize> {
     pub(crate) sites: Vec<S>,
+    // Of each machine, whether it is ready. An event changes one machine, and so one flag.
+    pub(crate) ready: Vec<bool>,
     pub(crate) flight: Flight,
     // What a machine sends, on its way into the flight; empty between events.
     pub(crate) out: Vec<Message>,
@@ -24,6 +26,7 @@ pub struct Cluster<S: Site, const CAP: usize> {
 impl<S: Site, const CAP: usize> Model for Cluster<S, CAP> {
     ghost use Rattle.std.specs.Prelude.{◌≡◌, [], false, map};
     ghost use Rattle.cluster_run.specs.Driven.{Driven, IsDriven};
+    ghost use Rattle.cluster_run.specs.Ready.{flags_of};
 
     ghost Value = { Driven };
 
@@ -45,7 +48,8 @@ impl<S: Site, const CAP: usize> Model for Cluster<S, CAP> {
         (record {
           world = record { sites = map S.state c.sites.items; under_way = c.flight };
           ended = c.ended;
-        }) × (c.ended ≡ false → c.out.items ≡ []) };
+        }) × (c.ended ≡ false → c.out.items ≡ [])
+        × (c.ended ≡ false → c.ready.items ≡ flags_of S.state c.sites.items) };
 }
 
 impl<S: Site, const CAP: usize> Cluster<S, CAP> {
@@ -104,7 +108,13 @@ impl<S: Site, const CAP: usize> Cluster<S, CAP> {
             Action::Waits(name) => return Err(EventFault::Waits(name)),
             Action::Over => return Err(EventFault::MachineOver),
         }
-        match go_site(&mut self.sites, &mut self.flight, &mut self.out, at) {
+        match go_site(
+            &mut self.sites,
+            &mut self.ready,
+            &mut self.flight,
+            &mut self.out,
+            at,
+        ) {
             Ok(()) => Ok(()),
             Err(_) => {
                 self.ended = true;
@@ -124,7 +134,7 @@ impl<S: Site, const CAP: usize> Cluster<S, CAP> {
         match self.flight.pick(name) {
             None => Err(EventFault::NotUnderWay),
             Some(message) => {
-                take_site(&mut self.sites, message);
+                take_site(&mut self.sites, &mut self.ready, message);
                 Ok(())
             }
         }

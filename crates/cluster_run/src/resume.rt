@@ -5,6 +5,7 @@ ghost use Rattle.symple_face.specs.Restarts.{IsStart};
 ghost use Rattle.symple_face.specs.Work.{plain_start};
 
 use crate::cluster::Cluster;
+use crate::looks::flags;
 use crate::start::each_can_run;
 use flight::Flight;
 use std::alloc::Global;
@@ -48,8 +49,10 @@ impl<S: Restart, const CAP: usize> Cluster<S, CAP> {
         while let Some(part) = parts.pop() {
             sites.push(make_at(alloc, part, start)?)?;
         }
+        let ready = flags(alloc, &sites)?;
         Ok(Cluster {
             sites,
+            ready,
             flight: Flight::new(alloc),
             out: Vec::new(alloc),
             ended: false,

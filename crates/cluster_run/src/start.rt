@@ -5,6 +5,7 @@ ghost use Rattle.symple_face.specs.Lawful.{AreCounts, CanRun};
 ghost use Rattle.symple_face.specs.PartViews.{plain_of};
 
 use crate::cluster::Cluster;
+use crate::looks::flags;
 use flight::Flight;
 use instrument::Split;
 use std::alloc::Global;
@@ -89,8 +90,10 @@ impl<S: Site, const CAP: usize> Cluster<S, CAP> {
         while let Some(part) = parts.pop() {
             sites.push(S::make(alloc, part)?)?;
         }
+        let ready = flags(alloc, &sites)?;
         Ok(Cluster {
             sites,
+            ready,
             flight: Flight::new(alloc),
             out: Vec::new(alloc),
             ended: false,

@@ -53,7 +53,7 @@ impl<S: Site, const CAP: usize> Cluster<S, CAP> {
         ensures count { result ≡ length (choices_of self.now.world) }
         ensures none { (result ≡ 0) ↔ (finished self.now.world ≡ true) }
     {
-        choice_count(&self.sites, &self.flight)
+        choice_count(&self.sites, &self.ready, &self.flight)
     }
 
     /// The possible event with `k` others before it: goes by machine, then takes by name.
@@ -64,7 +64,7 @@ impl<S: Site, const CAP: usize> Cluster<S, CAP> {
         ensures first { k ≡ 0 → (result ≡ None) ↔ (finished self.now.world ≡ true) }
         ensures played { IfSome result (λ event. fault_of self.now.world event ≡ None) }
     {
-        nth_choice(&self.sites, &self.flight, k)
+        nth_choice(&self.sites, &self.ready, &self.flight, k)
     }
 
     /// What the run lacks: the least message under way, or where there is none the least machine that is
@@ -74,7 +74,7 @@ impl<S: Site, const CAP: usize> Cluster<S, CAP> {
         ensures is { result ≡ lacking self.now.world }
         ensures none { (result ≡ None) ↔ (finished self.now.world ≡ true) }
     {
-        first_missing(&self.sites, &self.flight)
+        first_missing(&self.sites, &self.ready, &self.flight)
     }
 
     /// Until want of memory ends it, its world is one that possible events leave. It does nothing.

@@ -1,5 +1,5 @@
 -- A text settles the machines and the events for which it stands.
-use Rattle.std.proofs.Common.{◌≡◌, ℕ, ◌≤◌, ◌++◌, List, [], ◌∷◌, drop, refl, ap, sym, ◌∙◌, arith, append_assoc, append-nil, Ok, Err}
+use Rattle.std.proofs.Common.{◌≡◌, ℕ, ◌+◌, ◌≤◌, ◌++◌, List, [], ◌∷◌, drop, length, refl, ap, sym, subst, ◌∙◌, arith, append_assoc, append-nil, Ok, Err}
 use Rattle.std.specs.List.{AllByRecursion}
 use Rattle.std.proofs.lemmas.Fmt.{decimal_injective}
 use Rattle.vert_base.specs.declared.message.Event.{Event}
@@ -7,9 +7,9 @@ use Rattle.delivery_log.specs.declared.form.Form.{Form}
 use Rattle.delivery_log.specs.declared.form.Form.TheVariants.{Whole, Roundless}
 use Rattle.delivery_log.specs.declared.fault.ScheduleFault.TheVariants.{Header, Line, TooLong, Want}
 use Rattle.delivery_log.specs.LineReading.{IsHeader}
-use Rattle.delivery_log.specs.Laws.{HasOneText, HasText, ReadsBack, RecordIsRead, StandsForOne}
-use Rattle.delivery_log.specs.Says.{HasNoEvent}
-use Rattle.delivery_log.specs.ScheduleTexts.{IsEvent, IsSchedule, event_lines, events_lines, header_line, last_round, most_machines, round_after, schedule_text, text_of}
+use Rattle.delivery_log.specs.Laws.{HasOneFault, HasOneText, HasText, ReadsBack, RecordIsRead, StandsForOne}
+use Rattle.delivery_log.specs.Says.{HasBadLine, HasNoEvent, HasNoHeader}
+use Rattle.delivery_log.specs.ScheduleTexts.{IsEvent, IsSchedule, event_lines, events_lines, header_line, last_round, most_machines, round_after, schedule_lines, schedule_text, text_of}
 use Rattle.delivery_log.proofs.LineLaws.{same_line}
 use Rattle.delivery_log.proofs.OneLaws.{one_event}
 use Rattle.delivery_log.proofs.PlainLaws.{header_is_line}
@@ -151,3 +151,65 @@ record_is_read recording machines events result is each gives =
       spelled = is.spelled;
     })
     gives
+
+-- events in front of some bytes that begin with none are one list
+both_bad : (form : Form) (held : ℕ) (es fs : List Event) (r s : List ℕ) → AllByRecursion IsEvent es →
+    AllByRecursion IsEvent fs → rest_text form held es ++ r ≡ rest_text form held fs ++ s →
+    HasNoEvent form (last_round held es) r → HasNoEvent form (last_round held fs) s → es ≡ fs
+both_bad form held [] [] r s a b e bad worse = refl
+both_bad form held [] (f ∷ fs) r s a b e bad worse = absurd (bad.none f (rest_text form (round_after held f) fs ++ s) b.0
+    (e ∙ ap (λ t. t ++ s) (first_event form held f fs)
+    ∙ append_assoc (text_of (event_lines form held f)) (rest_text form (round_after held f) fs) s))
+both_bad form held (x ∷ es) [] r s a b e bad worse = absurd (worse.none x (rest_text form (round_after held x) es ++ r) a.0
+    (sym e ∙ ap (λ t. t ++ r) (first_event form held x es)
+    ∙ append_assoc (text_of (event_lines form held x)) (rest_text form (round_after held x) es) r))
+both_bad form held (x ∷ es) (f ∷ fs) r s a b e bad worse =
+    let own : text_of (event_lines form held x) ++ (rest_text form (round_after held x) es ++ r)
+    ≡ text_of (event_lines form held f) ++ (rest_text form (round_after held f) fs ++ s) =
+    sym (ap (λ t. t ++ r) (first_event form held x es)
+    ∙ append_assoc (text_of (event_lines form held x)) (rest_text form (round_after held x) es) r)
+    ∙ e ∙ ap (λ t. t ++ s) (first_event form held f fs)
+    ∙ append_assoc (text_of (event_lines form held f)) (rest_text form (round_after held f) fs) s in
+    let one = one_event form held x f (rest_text form (round_after held x) es ++ r)
+    (rest_text form (round_after held f) fs ++ s) a.0 b.0 own in
+    let more = both_bad form (round_after held f) es fs r s a.1 b.1
+    (ap (λ q. rest_text form (round_after held q) es ++ r) (sym one.0) ∙ one.1)
+    (subst (λ q. HasNoEvent form (last_round (round_after held q) es) r) one.0 bad) worse in
+    ap (λ q. q ∷ es) one.0 ∙ ap (λ t. f ∷ t) more
+
+bad_same : (text : List ℕ) (m n : ℕ) → HasBadLine text m → HasBadLine text n → m ≡ n
+bad_same text m n a b =
+    let same = one_header a.form b.form a.machines b.machines (rest_text a.form 0 a.events ++ a.rest)
+    (rest_text b.form 0 b.events ++ b.rest) a.is.some a.is.few b.is.some b.is.few
+    (sym (append_assoc (header_line a.form a.machines) (10 ∷ rest_text a.form 0 a.events) a.rest) ∙ sym a.spelled
+    ∙ b.spelled ∙ append_assoc (header_line b.form b.machines) (10 ∷ rest_text b.form 0 b.events) b.rest) in
+    let events = both_bad b.form 0 a.events b.events a.rest b.rest a.is.each b.is.each
+    (ap (λ q. rest_text q 0 a.events ++ a.rest) (sym same.form) ∙ same.behind)
+    (subst (λ q. HasNoEvent q (last_round 0 a.events) a.rest) same.form a.bad) b.bad in
+    a.counted
+    ∙ ap (λ q. length (schedule_lines q a.machines a.events) + 1) same.form
+    ∙ ap (λ es. length (schedule_lines b.form a.machines es) + 1) events
+    ∙ sym b.counted
+
+no_header_no_line : (text : List ℕ) (number : ℕ) → HasNoHeader text → HasBadLine text number → ⊥
+no_header_no_line text number lacks bad =
+    lacks.none bad.form bad.machines (rest_text bad.form 0 bad.events ++ bad.rest) bad.is.some bad.is.few
+    (bad.spelled ∙ append_assoc (header_line bad.form bad.machines) (10 ∷ rest_text bad.form 0 bad.events) bad.rest)
+
+pub has_one_fault : HasOneFault
+has_one_fault text TooLong TooLong a b long also = refl
+has_one_fault text TooLong Header a b long also = absurd (omega (arith, long, also.fits))
+has_one_fault text TooLong (Line n) a b long also = absurd (omega (arith, long, also.fits))
+has_one_fault text TooLong Want a b long also = absurd (b refl)
+has_one_fault text Header TooLong a b lacks also = absurd (omega (arith, also, lacks.fits))
+has_one_fault text Header Header a b lacks also = refl
+has_one_fault text Header (Line n) a b lacks also = absurd (no_header_no_line text n lacks also)
+has_one_fault text Header Want a b lacks also = absurd (b refl)
+has_one_fault text (Line m) TooLong a b bad also = absurd (omega (arith, also, bad.fits))
+has_one_fault text (Line m) Header a b bad also = absurd (no_header_no_line text m also bad)
+has_one_fault text (Line m) (Line n) a b bad also = ap Line (bad_same text m n bad also)
+has_one_fault text (Line m) Want a b bad also = absurd (b refl)
+has_one_fault text Want TooLong a b bad also = absurd (a refl)
+has_one_fault text Want Header a b bad also = absurd (a refl)
+has_one_fault text Want (Line n) a b bad also = absurd (a refl)
+has_one_fault text Want Want a b bad also = refl

@@ -1,5 +1,5 @@
 -- Texts, and the machines and events for which they stand.
-use Rattle.std.specs.Prelude.{◌≡◌, ◌≤◌, ℕ, List, length, Result, Ok, Err}
+use Rattle.std.specs.Prelude.{◌≡◌, ◌≢◌, ◌≤◌, ℕ, List, length, Result, Ok, Err}
 use Rattle.std.specs.List.{AllByRecursion}
 use Rattle.vert_base.specs.declared.message.Event.{Event}
 use Rattle.vert_base.specs.declared.limits.TheConstants.{SCHEDULE_BYTES}
@@ -41,6 +41,11 @@ IsReadBack machines events (Err Want) = Unit {0}
 abbrev pub ReadsBack : Type 0
 ReadsBack = (text : List ℕ) (machines : ℕ) (events : List Event) (result : Result Schedule ScheduleFault) →
     Says text machines events → Gives text result → IsReadBack machines events result
+
+-- a text has one fault
+abbrev pub HasOneFault : Type 0
+HasOneFault = (text : List ℕ) (a b : ScheduleFault) → a ≢ Want → b ≢ Want → Gives text (Err a) → Gives text (Err b) →
+    a ≡ b
 
 -- and so at the text of a recorder
 abbrev pub RecordIsRead : Type 0

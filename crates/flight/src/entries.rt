@@ -3,6 +3,7 @@ ghost use Rattle.std.specs.Prelude.{◌≡◌, ◌≤◌, length, IfSome, IfNone
 ghost use Rattle.vert_base.specs.Names.{is_before as precedes};
 ghost use Rattle.flight.specs.Entries.{IsFoundAt, IsNowhere, NamesAscend, letters_by, place};
 
+use std::collections::VecDeque;
 use vert_base::Name;
 
 /// A name, and the key of its message.
@@ -13,10 +14,11 @@ pub(crate) struct Entry {
 }
 
 /// How many entries have names before this one.
-pub(crate) fn place_of(entries: &[Entry], name: &Name) -> usize
-    requires { NamesAscend entries.now }
-    ensures value { (messages : _) → result ≡ place name.now (letters_by messages entries.now) }
-    ensures within { result ≤ length entries.now }
+pub(crate) fn place_of(entries: &VecDeque<Entry>, name: &Name) -> usize
+    requires { NamesAscend entries.now.items }
+    ensures value { (messages : _) → result
+        ≡ place name.now (letters_by messages entries.now.items) }
+    ensures within { result ≤ length entries.now.items }
 {
     entries.partition_point(
         |entry: &Entry| -> bool
@@ -26,10 +28,10 @@ pub(crate) fn place_of(entries: &[Entry], name: &Name) -> usize
 }
 
 /// Where the entry of a name stands.
-pub(crate) fn find_in(entries: &[Entry], name: &Name) -> Option<usize>
-    requires { NamesAscend entries.now }
-    ensures some { IfSome result (IsFoundAt name.now entries.now) }
-    ensures none { IfNone result (IsNowhere name.now entries.now) }
+pub(crate) fn find_in(entries: &VecDeque<Entry>, name: &Name) -> Option<usize>
+    requires { NamesAscend entries.now.items }
+    ensures some { IfSome result (IsFoundAt name.now entries.now.items) }
+    ensures none { IfNone result (IsNowhere name.now entries.now.items) }
 {
     let at = place_of(entries, name);
     let entry = entries.get(at)?;

@@ -7,15 +7,17 @@ use crate::entries::Entry;
 use crate::messages::{add, look, take};
 use slab::Slab;
 use std::alloc::Global;
+use std::collections::VecDeque;
 use std::marker::Model;
 use vert_base::{Message, Name, Want};
 
 /// The messages that were sent and not yet picked, each found by its name. A message stays where it
-/// was put; only the short entries of the index move.
+/// was put; only the short entries of the index move, and of these the fewer of those before and of
+/// those behind it.
 #[derive(Drop)]
 pub struct Flight {
     messages: Slab<Message>,
-    entries: Vec<Entry>,
+    entries: VecDeque<Entry>,
 }
 
 impl Model for Flight {
@@ -37,7 +39,7 @@ impl Flight {
     {
         Flight {
             messages: Slab::new(alloc),
-            entries: Vec::new(alloc),
+            entries: VecDeque::new(alloc),
         }
     }
 

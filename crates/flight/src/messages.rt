@@ -5,12 +5,13 @@ ghost use Rattle.flight.specs.Entries.{IsSound, letters_by};
 
 use crate::entries::{Entry, find_in, place_of};
 use slab::Slab;
+use std::collections::VecDeque;
 use vert_base::{Message, Name, Want};
 
 /// Puts a message in. Without the memory for it, it comes back.
 pub(crate) fn add(
     messages: &mut Slab<Message>,
-    entries: &mut Vec<Entry>,
+    entries: &mut VecDeque<Entry>,
     msg: Message,
 ) -> Result<(), (Message, Want)>
     requires sound { IsSound messages.old entries.old.items }
@@ -38,7 +39,7 @@ pub(crate) fn add(
 /// Takes the message of a name out.
 pub(crate) fn take(
     messages: &mut Slab<Message>,
-    entries: &mut Vec<Entry>,
+    entries: &mut VecDeque<Entry>,
     name: &Name,
 ) -> Option<Message>
     requires { IsSound messages.old entries.old.items }
@@ -50,7 +51,7 @@ pub(crate) fn take(
 {
     match find_in(entries, name) {
         Some(at) => {
-            let entry = entries.remove(at);
+            let entry = entries.remove(at)?;
             Some(messages.remove(entry.key))
         }
         None => None,
@@ -60,15 +61,15 @@ pub(crate) fn take(
 /// The message of a name, where it stands.
 pub(crate) fn look<'a>(
     messages: &'a Slab<Message>,
-    entries: &[Entry],
+    entries: &VecDeque<Entry>,
     name: &Name,
 ) -> Option<&'a Message>
-    requires { IsSound messages.now entries.now }
+    requires { IsSound messages.now entries.now.items }
     ensures { option_map letter_of (option_copied result)
-        ≡ found name.now (letters_by messages.now entries.now) }
+        ≡ found name.now (letters_by messages.now entries.now.items) }
 {
     match find_in(entries, name) {
-        Some(at) => messages.get(entries[at].key),
+        Some(at) => messages.get(entries.get(at)?.key),
         None => None,
     }
 }

@@ -3,3 +3,14 @@ pub mod LinkRecords
 pub mod LinkLines
 pub mod LinkSays
 pub mod LinkLaws
+pub mod Piles
+pub mod PilePlaces
+pub mod Traffic
+pub mod Wires
+pub mod Links
+pub mod LinkChoices
+pub mod LinkFaults
+pub mod LinkRuns
+pub mod Sending
+pub mod LinkChoosers
+pub mod LinkOrder

@@ -1,8 +1,37 @@
-ghost use Rattle.std.specs.Prelude.{◌≡◌};
+ghost use Rattle.std.specs.Prelude.{◌≡◌, ◌≢◌, false, true};
+ghost use Rattle.link_core.specs.declared.fault.LinkFault.TheVariants as link_fault;
 ghost use Rattle.link_core.specs.declared.fault.LinkRecordFault.TheVariants.{Want};
 ghost use Rattle.link_core.specs.declared.fault.LinkTextFault.TheVariants as text_fault;
 
+use cluster_run::EventFault;
 use std::alloc::{AllocError, AllocFailed};
+
+/// Why an event over links wasn't played.
+#[derive(Clone, Copy, Debug, PartialEq, Eq)]
+pub enum LinkFault {
+    /// As for a cluster, but for want of memory.
+    Plain(EventFault),
+    NotAgain,
+    NoAck,
+    /// After it the links play no event.
+    Want,
+}
+
+/// Whether memory was wanting.
+pub(crate) fn is_want(fault: &LinkFault) -> bool
+    ensures want { result ≡ true → fault.now ≡ link_fault.Want }
+    ensures other { result ≡ false → fault.now ≢ link_fault.Want }
+{
+    matches!(fault, LinkFault::Want)
+}
+
+impl From<vert_base::Want> for LinkFault {
+    ghost from_gives = { λ _ fault. fault ≡ link_fault.Want };
+
+    fn from(_want: vert_base::Want) -> LinkFault {
+        LinkFault::Want
+    }
+}
 
 /// Why a text is none of form 3: its first line, the first bad line behind it by its number from 1, or its
 /// length.

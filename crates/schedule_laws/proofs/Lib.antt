@@ -15,6 +15,7 @@
 -- Printed: an event prints the first lines of what is still to come: only a judge of machine 0 does, when all others
 -- stand at the next begin. Printing: so a list of events prints all of it, and at the end the table.
 -- Saying: the same by the events and the skeleton, with the line of each event. Whole: from either first world.
+-- ToldRounds: so the rounds that the machines report are those of the source's run.
 -- Starts: behind the judge of a round the machines tell the start of the next. Rests: a run from there prints the rest.
 -- CountedRuns: a complete run is one of the skeleton, by the rulings that its judges make, and so has its counts.
 pub mod CountedRuns
@@ -38,5 +39,6 @@ pub mod SourceSees
 pub mod Stands
 pub mod Starts
 pub mod Takes
+pub mod ToldRounds
 pub mod Took
 pub mod Whole

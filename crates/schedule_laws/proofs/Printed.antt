@@ -143,7 +143,7 @@ module _ (lines : Lines) (src : Source) (parts : List PlainPart) (one : IsOneRun
       pub goes_to : (core_go s).at ≡ standing_at (r + 1) (after_judge r (core_work.judge s))
       goes_to = zero_judges src parts one run same_ends w k f 0 s at ready refl r spot
 
-      round_is : s.at.round ≡ r
+      pub round_is : s.at.round ≡ r
       round_is = (f.alike.machines 0 s at).is_sound.round ∙ ap (round_of s.at.round) spot
 
       place_before : place_of (standing_of k.standings 0) ≡ 256 * r + 255
@@ -195,18 +195,18 @@ module _ (lines : Lines) (src : Source) (parts : List PlainPart) (one : IsOneRun
               sym (first_rows t.at.round t.at.spot first ∙ round)
 
       module _ (some : 1 ≤ r) where
-        late : src.base ≤ r
+        pub late : src.base ≤ r
         late =
             ⊎_elim (λ (one : src.base ≡ 1). omega (arith, one, some))
             (λ (begun : src.base ≤ s.at.round). omega (arith, begun, round_is)) (f.machines 0 s at).begun
 
-        within : r ≤ src.job.program.limit
+        pub within : r ≤ src.job.program.limit
         within =
             let is = f.alike.machines 0 s at in
             subst (λ p. r ≤ p.limit) (ap program_of is.split_is ∙ run.program)
             (subst (FitsSpot s) spot is.is_sound.spot).1
 
-        mode : (stand src r).ruling ≢ Stop
+        pub mode : (stand src r).ruling ≢ Stop
         mode stops =
             let going : is_over s.at.spot ≡ false = ap is_over spot in
             let zero = stands_before 0 s at (low 0 (core_go s) there_zero) in
@@ -226,11 +226,11 @@ module _ (lines : Lines) (src : Source) (parts : List PlainPart) (one : IsOneRun
             reads_shown src w' (has_parts w' k' f') r late (splits src run r small)
             (λ j t there. (f'.machines j t there).ideal.reads r (rows_are j t there))
 
-        round_behind : r + 1 ≡ (core_go s).at.round
+        pub round_behind : r + 1 ≡ (core_go s).at.round
         round_behind = sym (ap (λ (q : Standing). q.round) goes_to ∙ judged_on r (core_work.judge s))
 
         -- what is told of the round is what the source's run plays
-        told_is : told_in lines.reads core_work w' (core_work.report (core_go s)) ≡
+        pub told_is : told_in lines.reads core_work w' (core_work.report (core_go s)) ≡
             told_played lines.reads (played_at src.job r (stand src r))
         told_is =
             let counted : (source_count src r).reads ≡
@@ -279,7 +279,7 @@ module _ (lines : Lines) (src : Source) (parts : List PlainPart) (one : IsOneRun
           (cases_lt r 1)
 
       -- before the first round nothing is told
-      first_prints : r < 1 → to_come src (core_go s).at.round ≡ to_come src s.at.round
+      pub first_prints : r < 1 → to_come src (core_go s).at.round ≡ to_come src s.at.round
       first_prints none =
           let first : src.base ≡ 1 =
           ⊎_elim (λ (one : src.base ≡ 1). one)

@@ -134,12 +134,12 @@ module _ (lines : Lines) (src : Source) (parts : List PlainPart) (one : IsOneRun
         let b = not_past j 0 t s there at in
         omega (arith, a, b)
 
-    late : src.base ≤ s.at.round
+    pub late : src.base ≤ s.at.round
     late =
         ⊎_elim (λ (first : src.base ≡ 1). let some = f.late s at (over 0 s at) in omega (arith, first, some))
         (λ (begun : src.base ≤ s.at.round). begun) (f.machines 0 s at).begun
 
-    stops : (stand src s.at.round).ruling ≡ Stop
+    pub stops : (stand src s.at.round).ruling ≡ Stop
     stops =
         let next = judged_next src parts one run same_ends w k f s at in
         let zero = stands 0 s at in
@@ -173,7 +173,7 @@ module _ (lines : Lines) (src : Source) (parts : List PlainPart) (one : IsOneRun
         (sym (ap (λ b. if b then s.at.round else src.base) (at_most src.base s.at.round late)))
 
   -- ---- all events
-  zero_site : (w : World) (k : Skeleton) → Follows src parts w k → (s : State) × (slice_get w.sites 0 ≡ Some s)
+  pub zero_site : (w : World) (k : Skeleton) → Follows src parts w k → (s : State) × (slice_get w.sites 0 ≡ Some s)
   zero_site w k f =
       let some = parts_some parts one in
       let many = f.alike.count in

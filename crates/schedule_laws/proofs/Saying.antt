@@ -81,7 +81,7 @@ quiet_rest src round =
     (all_true (λ t. told_lines quiet t ≡ []) (λ t. refl) (rounds_told false run)))
 
 -- the run from the first round on
-first_run : (src : Source) → run_at src src.base ≡ run_of src
+pub first_run : (src : Source) → run_at src src.base ≡ run_of src
 first_run src =
     let none : src.base - src.base ≡ 0 = omega arith in
     ap (λ n. resumed_run src.job src.base (stand_after src n)) none
@@ -156,7 +156,7 @@ module _ (lines : Lines) (src : Source) (parts : List PlainPart) (one : IsOneRun
       ends : finished (after core_work w es) ≡ true
       ends = (and_parts (all_possible core_work w es) (finished (after core_work w es)) complete).1
 
-      table_says : table_of core_work (after core_work w es) ≡ table_text src.job.program (run_of src).last.rows
+      pub table_says : table_of core_work (after core_work w es) ≡ table_text src.job.program (run_of src).last.rows
       table_says =
           ap (λ text. text ++ table_of core_work (after core_work w es)) (sym (quiet_lines w es))
           ∙ all_print quiet src parts one run same_ends w k f s at es can ends refl

@@ -52,7 +52,7 @@ module _ (split : Split) (parts : List PlainPart) (one : IsOneRun parts) (fits :
   whole_follows = first_follows split parts one can_run whole_is_a_run
 
   -- the first machine begins before the first round
-  first_site : (s : State) × (slice_get (first_world core_work split parts).sites 0 ≡ Some s) × (s.at.round ≡ 0)
+  pub first_site : (s : State) × (slice_get (first_world core_work split parts).sites 0 ≡ Some s) × (s.at.round ≡ 0)
   first_site =
       let part = there_at parts 0 (let some = parts_some parts one in omega (arith, some)) in (
         core_first part.0 split,

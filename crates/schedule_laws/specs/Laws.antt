@@ -1,6 +1,8 @@
 -- The laws of whole runs by cores, under every schedule.
-use Rattle.std.specs.Prelude.{◌≡◌, true, false, List, length}
+use Rattle.std.specs.Prelude.{◌≡◌, Bool, true, false, List, length}
 use Rattle.std.specs.List.{All}
+use Rattle.array_text.specs.Tables.{table_text}
+use Rattle.plain_run.specs.Told.{rounds_told}
 use Rattle.symple_words.specs.declared.line.Lines.{Lines}
 use Rattle.vert_base.specs.declared.message.Event.{Event}
 use Rattle.vert_eval.specs.SourceRun.{source_run}
@@ -13,9 +15,10 @@ use Rattle.symple_face.specs.Parts.{PlainPart}
 use Rattle.symple_face.specs.Restarts.{IsStart}
 use Rattle.symple_face.specs.Source.{Source, fresh_source, job_of, resumed_source}
 use Rattle.symple_face.specs.Work.{PlainStart}
-use Rattle.schedule_laws.specs.Layout.{text_of}
+use Rattle.schedule_laws.specs.Layout.{table_of, text_of}
 use Rattle.schedule_laws.specs.OutputText.{output_text, run_of}
 use Rattle.schedule_laws.specs.Texts.{text_of_run}
+use Rattle.schedule_laws.specs.ToldRounds.{rounds_ended}
 use Rattle.schedule_laws.specs.TrueWorlds.{IsTrueWorld}
 
 -- the whole run on the graph of these parts
@@ -42,6 +45,22 @@ EverySchedule =
     lines.log ≡ false →
     text_of core_work lines (first_world core_work split parts) es ≡
     text_of_run lines split.program.program (source_run (job_of split one.ends one.draws one.edges))
+
+-- the rounds that its events end are those of the source's run
+abbrev pub EveryRoundIsTold : Type 0
+EveryRoundIsTold =
+    (kept : Bool) (split : Split) (parts : List PlainPart) (one : IsOneRun parts) (es : List Event) →
+    IsFitting split.program.program → is_complete core_work (first_world core_work split parts) es ≡ true →
+    rounds_ended kept core_work (first_world core_work split parts) es ≡
+    rounds_told kept (source_run (job_of split one.ends one.draws one.edges))
+
+-- and the table of the machines at its end is that of the last rows
+abbrev pub EveryTableIsTold : Type 0
+EveryTableIsTold =
+    (split : Split) (parts : List PlainPart) (one : IsOneRun parts) (es : List Event) →
+    IsFitting split.program.program → is_complete core_work (first_world core_work split parts) es ≡ true →
+    table_of core_work (after core_work (first_world core_work split parts) es) ≡
+    table_text split.program.program (source_run (job_of split one.ends one.draws one.edges)).last.rows
 
 -- and with the line of each event, the source's run between the events
 abbrev pub EveryLog : Type 0

@@ -7,4 +7,5 @@ pub mod OutputText
 pub mod Runs
 pub mod Starts
 pub mod Texts
+pub mod ToldRounds
 pub mod TrueWorlds

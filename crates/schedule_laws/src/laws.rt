@@ -1,6 +1,6 @@
 ghost use Rattle.schedule_laws.specs.CountedRuns.{CompleteRunsAreCounted};
 ghost use Rattle.schedule_laws.specs.Laws.{EveryLaterLog, EveryLaterSchedule, EveryLaterWorldIsTrue};
-ghost use Rattle.schedule_laws.specs.Laws.{EveryLog, EverySchedule, EveryWorldIsTrue};
+ghost use Rattle.schedule_laws.specs.Laws.{EveryLog, EveryRoundIsTold, EverySchedule, EveryTableIsTold, EveryWorldIsTrue};
 ghost use Rattle.schedule_laws.specs.Starts.{EveryRestIsPrinted, EveryStartIsTold};
 
 use symple_face::Site;
@@ -13,10 +13,13 @@ pub fn worlds_are_true()
 {}
 
 /// The law that a complete run prints the rounds and the table of the source's run, whatever its schedule is, and
-/// under `--log` the ideal bodies of the messages taken. It does nothing.
+/// under `--log` the ideal bodies of the messages taken; and that the machines report these rounds and
+/// hold this table. It does nothing.
 pub fn every_schedule()
     ensures whole { EverySchedule }
     ensures log { EveryLog }
+    ensures rounds { EveryRoundIsTold }
+    ensures table { EveryTableIsTold }
 {}
 
 /// The same law of a run that goes on from a start. It does nothing.

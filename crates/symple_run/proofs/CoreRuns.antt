@@ -1,26 +1,63 @@
 -- A run that cores play is told by the source's run.
-use Rattle.std.proofs.Common.{◌≡◌, ℕ, ◌+◌, Bool, true, false, List, [], ◌∷◌, ◌++◌, length, refl, sym, ap, subst, ◌∙◌, append_assoc, append-nil}
+use Rattle.std.proofs.Common.{Bool, List, None, Option, Some, [], ap, append-nil, append_assoc, false, length, nat_lt, refl, slice_get, subst, sym, true, ℕ, ◌++◌, ◌+◌, ◌∙◌, ◌∷◌, ◌≡◌}
+use Rattle.std.specs.Prelude.{if◌then◌else◌, option_map}
+use Rattle.std.proofs.lemmas.Bool.{and_from, and_parts}
+use Rattle.std.specs.List.{All}
+use Rattle.check_point.specs.Laws.{StartIsReady}
+use Rattle.circulant_plan.specs.Skeleton.{first_skeleton}
+use Rattle.cluster_run.specs.declared.fault.EventFault.{EventFault}
+use Rattle.cluster_run.specs.declared.fault.EventFault.TheVariants.{NotUnderWay, RunOver}
+use Rattle.cluster_run.specs.declared.fault.Missing.{Missing}
 use Rattle.cluster_run.specs.Driven.{IsReached, anew}
-use Rattle.delivery_log.specs.Choosers.{PlainRunsAreComplete}
+use Rattle.cluster_run.specs.Faults.{action_fault, event_fault, fault_of, go_fault, lacking, lacks}
+use Rattle.cluster_run.specs.Laws.{StepsReach, UnfinishedGoesOn}
+use Rattle.command_steps.specs.Notes.{LongSchedule}
+use Rattle.delivery_log.specs.declared.form.Form.{Form}
+use Rattle.delivery_log.specs.declared.form.Form.TheVariants.{Roundless}
+use Rattle.delivery_log.specs.Choosers.{DrawnRunsAreComplete, PlainRunsAreComplete, generator_of}
+use Rattle.delivery_log.specs.ScheduleTexts.{event_lines, round_after, schedule_text}
+use Rattle.edge_reader.specs.EdgeList.{Graph}
 use Rattle.instrument.specs.declared.split.Split.{Split}
+use Rattle.schedule_laws.specs.Laws.{whole_run}
+use Rattle.schedule_laws.specs.OutputText.{output_text}
 use Rattle.schedule_laws.specs.Layout.{lines_of, round_lines, table_of, text_of}
 use Rattle.schedule_laws.specs.Texts.{text_of_run}
 use Rattle.schedule_laws.proofs.Parts.{parts_run}
+use Rattle.schedule_laws.proofs.ToldRounds.{every_round_is_told, every_table_is_told}
 use Rattle.schedule_laws.proofs.Whole.{every_log, every_schedule}
-use Rattle.symple_face.specs.Cluster.{World, after, first_world, is_complete, step}
+use Rattle.symple_face.specs.declared.action.Action.{Action}
+use Rattle.symple_face.specs.declared.action.Action.TheVariants.{Over, Ready, Waits}
+use Rattle.symple_face.specs.Cluster.{IsPlainRun, World, after, all_possible, can_act, finished, first_world, is_complete, is_ready, missing_of, possible, restarted_world, step}
+use Rattle.schedule_laws.specs.ToldRounds.{rounds_ended}
+use Rattle.array_text.specs.Tables.{table_text}
+use Rattle.command_steps.specs.Commands.{no_lines}
+use Rattle.demo_parts.specs.DrawnGraphs.{drawn_graph}
+use Rattle.plain_run.specs.Told.{Told, rounds_told}
+use Rattle.symple_run.specs.Shows.{IsShow, IsSourceShow, shown_course, shown_run}
 use Rattle.symple_face.specs.CoreWork.{core_work}
 use Rattle.symple_face.specs.Source.{job_of}
-use Rattle.symple_face.specs.State.{State}
-use Rattle.symple_face.specs.Work.{Work}
-use Rattle.symple_run.specs.Courses.{course_text}
-use Rattle.symple_run.specs.Orders.{Course, Play}
-use Rattle.symple_run.specs.Outputs.{play_text}
-use Rattle.symple_run.specs.Outputs as outputs
-use Rattle.symple_run.specs.Played.{IsPlayed, course_from, log_line}
-use Rattle.symple_run.specs.SourceRuns.{IsPrinted, IsSourceRun}
+use Rattle.symple_face.specs.State.{State, action_of}
+use Rattle.symple_face.specs.Work.{PlainStart, Work}
+use Rattle.command_steps.specs.Courses.{course_end, course_text}
+use Rattle.command_steps.specs.Orders.{Course, Drawn, DrawnLossy, Fails, Followed, Imaged, Origin, Parted, Plain, Play, Renewed, Resumed, Served, Shown, Task}
+use Rattle.symple_run.specs.Followed.{IsFaulty, IsFollowed, IsFollowedPlay, Tells}
+use Rattle.symple_run.specs.Recorded.{IsDrawnPlay}
+use Rattle.symple_run.specs.SourceSchedules.{IsSourceRecord, IsSourceReplay, TellsSource}
+use Rattle.symple_run.specs.Tellings.{by_worlds, followed, lack_of, recorded, told_end, told_event, unless_lacking, unless_refused, why_of}
+use Rattle.symple_face.specs.Restarts.{IsRestartLawful, IsStart}
+use Rattle.symple_run.specs.SourceTexts as sources
+use Rattle.symple_run.specs.Played.{IsFirstWorld, IsPlainPlay, IsPlayed, course_from, log_line}
+use Rattle.symple_run.specs.KeptImages.{IsImagedPlay, key_for}
+use Rattle.symple_run.specs.Resumes.{IsResumedPlay, begun_world, later_of}
+use Rattle.symple_run.specs.SourceImages.{begun_text}
+use Rattle.symple_run.specs.SourceRuns.{IsBegunLog, IsLoggedFrom, IsPrinted, IsSourceImaged, IsSourcePlay, IsSourceResumed, IsSourceRun}
+use Rattle.symple_run.proofs.ImagedRuns.{imaged_source, later_logged, later_text, parts_start, resumed_printed}
+use Rattle.symple_run.proofs.ImagesTold.{images_told}
 use Rattle.symple_words.specs.declared.line.Lines.{Lines}
 use Rattle.vert_base.specs.declared.graph.Edge.{Edge}
+use Rattle.vert_base.specs.declared.limits.TheConstants.{SCHEDULE_BYTES}
 use Rattle.vert_base.specs.declared.message.Event.{Event}
+use Rattle.vert_base.specs.declared.message.Event.TheVariants.{Go, Take}
 use Rattle.vert_eval.specs.SourceRun.{Job, source_run}
 use Rattle.vert_tree.specs.declared.program.Program.{Program}
 
@@ -29,20 +66,64 @@ printed_from : (work : Work) (lines : Lines) (w : World) (es : List Event) → I
 printed_from work lines w [] = tt
 printed_from work lines w (e ∷ es) = printed_from work lines (step work w e) es
 
-pub played_printed : (work : Work) (play : Play) (course : Course) → IsPlayed work play course → IsPrinted course
-played_printed work play course is = subst IsPrinted (sym is.course_is) (printed_from work play.lines _ is.events)
+pub plain_printed : (work : Work) (play : Play) (course : Course) → IsPlainPlay work play course → IsPrinted course
+plain_printed work play course is = subst IsPrinted (sym is.course_is) (printed_from work play.lines _ is.events)
+
+-- the texts of an event in front of those behind it
+text_behind : (work : Work) (lines : Lines) (w : World) (e : Event) (es : List Event) (text : List ℕ) →
+    text ≡ text_of work lines (step work w e) es →
+    log_line lines w e ++ (round_lines work lines w e ++ text) ≡ text_of work lines w (e ∷ es)
+text_behind work lines w e es text is =
+    let rest = text_of work lines (step work w e) es in
+    let round = round_lines work lines w e in
+    ap (λ (t : List ℕ). log_line lines w e ++ (round ++ t)) is
+    ∙ sym (append_assoc (log_line lines w e) round rest)
+    ∙ sym (append_assoc (log_line lines w e ++ round) (lines_of work lines (step work w e) es)
+    (table_of work (after work (step work w e) es)))
 
 -- its texts are those of the events, and then the table
 text_from : (work : Work) (lines : Lines) (w : World) (es : List Event) →
     course_text (course_from work lines w es) ≡ text_of work lines w es
 text_from work lines w [] = append-nil (table_of work w)
 text_from work lines w (e ∷ es) =
-    let rest = text_of work lines (step work w e) es in
-    let round = round_lines work lines w e in
-    ap (λ (text : List ℕ). log_line lines w e ++ (round ++ text)) (text_from work lines (step work w e) es)
-    ∙ sym (append_assoc (log_line lines w e) round rest)
-    ∙ sym (append_assoc (log_line lines w e ++ round) (lines_of work lines (step work w e) es)
-    (table_of work (after work (step work w e) es)))
+    text_behind work lines w e es (course_text (course_from work lines (step work w e) es))
+    (text_from work lines (step work w e) es)
+
+-- what is known of the runs of machines of a kind, whoever chooses their events
+pub record ChosenWell (work : Work) (sound : State → Type 0) : Type 0 where
+  pub plain : PlainRunsAreComplete work sound
+  pub drawn : DrawnRunsAreComplete work sound
+  pub reach : StepsReach work sound
+  pub goes : UnfinishedGoesOn work sound
+
+-- an event that isn't refused is possible
+not_refused : (w : World) (e : Event) → fault_of w e ≡ None → possible w e ≡ true
+not_refused w e none = event_goes w e (not_over (finished w) none)
+  where
+    not_over : (b : Bool) → (if b then Some RunOver else event_fault w e) ≡ None → event_fault w e ≡ None
+    not_over true none = cc
+    not_over false none = none
+
+    acts : (a : Action) → action_fault a ≡ None → is_ready a ≡ true
+    acts Ready none = refl
+    acts (Waits x) none = cc
+    acts Over none = cc
+
+    goes : (o : Option State) → go_fault o ≡ None → can_act o ≡ true
+    goes None none = cc
+    goes (Some s) none = acts (action_of s) none
+
+    takes : (b : Bool) → (if b then None else Some NotUnderWay) ≡ None → b ≡ true
+    takes true none = refl
+    takes false none = cc
+
+    event_goes : (w : World) (e : Event) → event_fault w e ≡ None → possible w e ≡ true
+    event_goes w (Go m) none = goes (slice_get w.sites m) none
+    event_goes w (Take x) none = takes (possible w (Take x)) none
+
+none_lacks : (o : Option Event) → option_map lacks o ≡ None → o ≡ None
+none_lacks None none = refl
+none_lacks (Some e) none = cc
 
 -- ---- cores
 -- the job on these parts is the one on the graph
@@ -68,60 +149,349 @@ text_said lines program other job same p j =
     ap (λ (q : Program). text_of_run lines q (source_run job)) p
     ∙ ap (λ (k : Job). text_of_run lines other (source_run k)) j
 
-module _ (sound : State → Type 0) (complete : PlainRunsAreComplete core_work sound) (play : Play) (course : Course)
-    (is : IsPlayed core_work play course) where
+-- the first world of the machines of a graph's parts is one of those that are reached
+pub first_reached : (work : Work) (sound : State → Type 0) (program : Program) (graph : Graph) (machines draws : ℕ)
+    (v : World) → IsFirstWorld work program graph machines draws v → IsReached work sound v
+first_reached work sound program graph machines draws v first = record {
+  split = first.split;
+  parts = first.parts;
+  one_run = first.of_graph.one;
+  can_run = parts_run first.split first.parts first.of_graph.one first.fits;
+  first = v;
+  is_first = anew first.here;
+  events = [];
+  were_possible = refl;
+  here = refl;
+}
+
+-- any complete run of cores from the first world of the machines of a graph
+module _ (sound : State → Type 0) (lines : Lines) (program : Program) (graph : Graph) (machines draws : ℕ) (v : World)
+    (first : IsFirstWorld core_work program graph machines draws v) where
   abbrev w : World
-  w = first_world core_work is.split is.parts
+  w = first_world core_work first.split first.parts
 
-  reached : IsReached core_work sound w
-  reached = record {
-    split = is.split;
-    parts = is.parts;
-    one_run = is.of_graph.one;
-    can_run = parts_run is.split is.parts is.of_graph.one is.fits;
-    first = w;
-    is_first = anew refl;
-    events = [];
-    were_possible = refl;
-    here = refl;
-  }
+  pub reached : IsReached core_work sound v
+  reached = first_reached core_work sound program graph machines draws v first
 
-  ended : is_complete core_work w is.events ≡ true
-  ended = complete w is.events reached is.plain
+  job_is : job_of first.split first.of_graph.one.ends first.of_graph.one.draws first.of_graph.one.edges
+      ≡ sources.job_of machines draws program graph
+  job_is = same_job first.split.program.program program _ graph.vertices first.of_graph.one.ends _
+      first.of_graph.one.edges graph.list first.of_graph.one.draws draws first.program_is first.of_graph.sized
+      first.of_graph.ends_are first.of_graph.edges_are first.of_graph.draws_are
 
-  text_is : course_text course ≡ text_of core_work play.lines w is.events
-  text_is = ap course_text is.course_is ∙ text_from core_work play.lines w is.events
+  module _ (es : List Event) (ended : is_complete core_work v es ≡ true) where
+    ended_there : is_complete core_work w es ≡ true
+    ended_there = subst (λ (u : World). is_complete core_work u es ≡ true) first.here ended
 
-  job_is : job_of is.split is.of_graph.one.ends is.of_graph.one.draws is.of_graph.one.edges
-      ≡ outputs.job_of play.machines play.draws play.program play.graph
-  job_is = same_job is.split.program.program play.program _ play.graph.vertices is.of_graph.one.ends _
-      is.of_graph.one.edges play.graph.list is.of_graph.one.draws play.draws is.program is.of_graph.sized
-      is.of_graph.ends_are is.of_graph.edges_are is.of_graph.draws_are
+    there : text_of core_work lines v es ≡ text_of core_work lines w es
+    there = ap (λ (u : World). text_of core_work lines u es) first.here
 
-  told : play.lines.log ≡ false → course_text course ≡ play_text play
-  told quiet =
-      text_is
-      ∙ every_schedule play.lines is.split is.parts is.of_graph.one is.events is.fits ended quiet
-      ∙ text_said play.lines is.split.program.program play.program _ _ is.program job_is
+    pub run_told : lines.log ≡ false →
+        text_of core_work lines v es
+        ≡ text_of_run lines program (source_run (sources.job_of machines draws program graph))
+    run_told quiet =
+        there
+        ∙ every_schedule lines first.split first.parts first.of_graph.one es first.fits ended_there quiet
+        ∙ text_said lines first.split.program.program program _ _ first.program_is job_is
 
-  source_run_is : IsSourceRun play course
-  source_run_is = record {
-    printed = played_printed core_work play course is;
-    text = told;
+    pub log_told : text_of core_work lines v es
+        ≡ output_text lines (whole_run first.split first.parts first.of_graph.one) (first_skeleton (length first.parts)) es
+    log_told = there ∙ every_log lines first.split first.parts first.of_graph.one es first.fits ended_there
+
+    pub rounds_are_told : rounds_ended false core_work v es
+        ≡ rounds_told false (source_run (sources.job_of machines draws program graph))
+    rounds_are_told =
+        ap (λ (u : World). rounds_ended false core_work u es) first.here
+        ∙ every_round_is_told false first.split first.parts first.of_graph.one es first.fits ended_there
+        ∙ ap (λ (k : Job). rounds_told false (source_run k)) job_is
+
+    pub table_is_told : table_of core_work (after core_work v es)
+        ≡ table_text program (source_run (sources.job_of machines draws program graph)).last.rows
+    table_is_told =
+        ap (λ (u : World). table_of core_work (after core_work u es)) first.here
+        ∙ every_table_is_told first.split first.parts first.of_graph.one es first.fits ended_there
+        ∙ ap (λ (k : Job). table_text first.split.program.program (source_run k).last.rows) job_is
+        ∙ ap (λ (p : Program). table_text p (source_run (sources.job_of machines draws program graph)).last.rows)
+        first.program_is
+
+module _ (sound : State → Type 0) (complete : PlainRunsAreComplete core_work sound) (play : Play) (course : Course)
+    (is : IsPlainPlay core_work play course) where
+  ended : is_complete core_work is.first is.events ≡ true
+  ended = complete is.first is.events
+      (reached sound play.lines play.program play.graph play.machines play.draws is.first is.is_first) is.plain
+
+  text_is : course_text course ≡ text_of core_work play.lines is.first is.events
+  text_is = ap course_text is.course_is ∙ text_from core_work play.lines is.first is.events
+
+  plain_source : IsSourcePlay play course
+  plain_source = record {
+    printed = plain_printed core_work play course is;
+    text = λ quiet. text_is ∙ run_told sound play.lines play.program play.graph play.machines play.draws is.first
+        is.is_first is.events ended quiet;
     logged = record {
-      split = is.split;
-      program = is.program;
-      parts = is.parts;
-      of_graph = is.of_graph;
+      split = is.is_first.split;
+      program = is.is_first.program_is;
+      parts = is.is_first.parts;
+      of_graph = is.is_first.of_graph;
       events = is.events;
-      plain = is.plain;
-      is = text_is ∙ every_log play.lines is.split is.parts is.of_graph.one is.events is.fits ended;
+      plain = subst (λ (u : World). IsPlainRun core_work u is.events) is.is_first.here is.plain;
+      is = text_is ∙ log_told sound play.lines play.program play.graph play.machines play.draws is.first is.is_first
+          is.events ended;
     };
   }
 
--- whatever cores play, the source's run tells
-pub core_runs : (work : Work) (sound : State → Type 0) → work ≡ core_work → PlainRunsAreComplete work sound →
-    (play : Play) (course : Course) → IsPlayed work play course → IsSourceRun play course
-core_runs work sound core complete play course is =
-    source_run_is sound (subst (λ (v : Work). PlainRunsAreComplete v sound) core complete) play course
-    (subst (λ (v : Work). IsPlayed v play course) core is)
+-- ---- recorded and followed runs
+module _ (work : Work) (lines : Lines) where
+  recorded_behind : (w : World) (e : Event) (es : List Event) (long : Bool) (rest : Course) →
+      (course_end rest ≡ None → course_text rest ≡ text_of work lines (step work w e) es) →
+      course_end (if long then Fails LongSchedule else told_event (by_worlds work lines) w e rest) ≡ None →
+      course_text (if long then Fails LongSchedule else told_event (by_worlds work lines) w e rest)
+      ≡ text_of work lines w (e ∷ es)
+  recorded_behind w e es true rest text ends = cc
+  recorded_behind w e es false rest text ends = text_behind work lines w e es (course_text rest) (text ends)
+
+  -- a recording that comes to its end puts the texts of its events, and then the table
+  recorded_text : (name : List ℕ) (machines : ℕ) (added : List Event) (w : World) (es : List Event) →
+      course_end (recorded (by_worlds work lines) name machines added w es) ≡ None →
+      course_text (recorded (by_worlds work lines) name machines added w es) ≡ text_of work lines w es
+  recorded_text name machines added w [] ends = append-nil (table_of work w)
+  recorded_text name machines added w (e ∷ es) ends =
+      recorded_behind w e es (nat_lt SCHEDULE_BYTES (length (schedule_text Roundless machines (added ++ e ∷ []))))
+      (recorded (by_worlds work lines) name machines (added ++ e ∷ []) (step work w e) es)
+      (recorded_text name machines (added ++ e ∷ []) (step work w e) es) ends
+
+  -- a followed run that comes to its end is complete, and puts the same
+  record ComesToEnd (w : World) (es : List Event) (course : Course) : Type 0 where
+    can : all_possible work w es ≡ true
+    lacks : lacking (after work w es) ≡ None
+    text : course_text course ≡ text_of work lines w es
+
+  at_last : (w : World) (o : Option Missing) → lacking w ≡ o →
+      course_end (unless_lacking (option_map lack_of o) (told_end (by_worlds work lines) w)) ≡ None →
+      ComesToEnd w [] (unless_lacking (option_map lack_of o) (told_end (by_worlds work lines) w))
+  at_last w None is fine = record { can = refl; lacks = is; text = append-nil (table_of work w) }
+  at_last w (Some what) is fine = absurd (cc)
+
+  at_event : (w : World) (e : Event) (es : List Event) (line : ℕ) (rest : Course) →
+      (course_end rest ≡ None → ComesToEnd (step work w e) es rest) → (o : Option EventFault) → fault_of w e ≡ o →
+      course_end (unless_refused (option_map (why_of e) o) line (told_event (by_worlds work lines) w e rest)) ≡ None →
+      ComesToEnd w (e ∷ es)
+      (unless_refused (option_map (why_of e) o) line (told_event (by_worlds work lines) w e rest))
+  at_event w e es line rest more None is fine =
+      let behind = more fine in record {
+        can = and_from (possible w e) (all_possible work (step work w e) es) (not_refused w e is) behind.can;
+        lacks = behind.lacks;
+        text = text_behind work lines w e es (course_text rest) behind.text;
+      }
+  at_event w e es line rest more (Some why) is fine = absurd (cc)
+
+  followed_text : (form : Form) (held count : ℕ) (w : World) (es : List Event) →
+      course_end (followed (by_worlds work lines) form held count w es) ≡ None →
+      ComesToEnd w es (followed (by_worlds work lines) form held count w es)
+  followed_text form held count w [] ends = at_last w (lacking w) refl ends
+  followed_text form held count w (e ∷ es) ends =
+      at_event w e es (count + length (event_lines form held e))
+      (followed (by_worlds work lines) form (round_after held e) (count + length (event_lines form held e))
+      (step work w e) es)
+      (followed_text form (round_after held e) (count + length (event_lines form held e)) (step work w e) es)
+      (fault_of w e) refl ends
+
+-- complete runs of cores that end tell the source
+module _ (sound : State → Type 0) (play : Play) (first : World)
+    (is_first : IsFirstWorld core_work play.program play.graph play.machines play.draws first) (es : List Event)
+    (course : Course) where
+  source_told : (course_end course ≡ None → is_complete core_work first es ≡ true) →
+      (course_end course ≡ None → course_text course ≡ text_of core_work play.lines first es) →
+      TellsSource play es course
+  source_told complete told = record {
+    text = λ ends quiet. told ends ∙ run_told sound play.lines play.program play.graph play.machines play.draws first
+        is_first es (complete ends) quiet;
+    logged = λ ends. record {
+      split = is_first.split;
+      program = is_first.program_is;
+      parts = is_first.parts;
+      of_graph = is_first.of_graph;
+      is = told ends ∙ log_told sound play.lines play.program play.graph play.machines play.draws first is_first es
+          (complete ends);
+    };
+  }
+
+module _ (sound : State → Type 0) (laws : ChosenWell core_work sound) where
+  drawn_source : (play : Play) (seed : ℕ) (name : List ℕ) (course : Course) →
+      IsDrawnPlay core_work play seed name course → IsSourceRecord play seed name course
+  drawn_source play seed name course is = record {
+    played = is;
+    source = source_told sound play is.first is.is_first is.events course
+        (λ ends. laws.drawn is.first (generator_of seed) is.events
+        (reached sound play.lines play.program play.graph play.machines play.draws is.first is.is_first) is.drawn)
+        (λ ends. ap course_text is.course_is
+        ∙ recorded_text core_work play.lines name play.machines [] is.first is.events
+        (ap course_end (sym is.course_is) ∙ ends));
+  }
+
+  -- the world behind possible events is reached
+  reached_behind : (w : World) (es : List Event) → IsReached core_work sound w → all_possible core_work w es ≡ true →
+      IsReached core_work sound (after core_work w es)
+  reached_behind w [] r can = r
+  reached_behind w (e ∷ es) r can =
+      let c = and_parts (possible w e) (all_possible core_work (step core_work w e) es) can in
+      reached_behind (step core_work w e) es (laws.reach w e r c.0) c.1
+
+  following_source : (play : Play) (form : Form) (events : List Event) (course : Course) →
+      IsFollowedPlay core_work play form events course → TellsSource play events course
+  following_source play form events course is =
+      let ended = λ (ends : course_end course ≡ None).
+      followed_text core_work play.lines form 0 1 is.first events (ap course_end (sym is.course_is) ∙ ends) in
+      source_told sound play is.first is.is_first events course
+      (λ ends.
+      let f = ended ends in
+      let r = reached sound play.lines play.program play.graph play.machines play.draws is.first is.is_first in
+      and_from (all_possible core_work is.first events) (finished (after core_work is.first events)) f.can
+      ((laws.goes (after core_work is.first events) (reached_behind is.first events r f.can)).missing.0
+      (none_lacks (missing_of (after core_work is.first events)) f.lacks)))
+      (λ ends. ap course_text is.course_is ∙ (ended ends).text)
+
+  followed_source : (play : ℕ → Play) (text : List ℕ) (course : Course) → IsFollowed core_work play text course →
+      IsSourceReplay play text course
+  followed_source play text course (Tells machines events says is) =
+      Tells machines events says (is, following_source (play machines) says.form events course is)
+  followed_source play text course (IsFaulty why real gives is) = IsFaulty why real gives is
+
+-- what cores show is what the source's run tells
+module _ (sound : State → Type 0) (complete : PlainRunsAreComplete core_work sound) (seed machines : ℕ)
+    (course : Course) (is : IsShow core_work seed machines course) where
+  shown_ended : is_complete core_work is.first is.events ≡ true
+  shown_ended = complete is.first is.events
+      (reached sound no_lines is.program (drawn_graph seed) machines 0 is.first is.is_first) is.plain
+
+  shown_source : IsSourceShow seed machines course
+  shown_source = record {
+    program = is.program;
+    says = is.says;
+    course_is =
+        is.course_is
+        ∙ ap (λ (rounds : List Told). shown_course machines rounds
+        (table_of core_work (after core_work is.first is.events)))
+        (rounds_are_told sound no_lines is.program (drawn_graph seed) machines 0 is.first is.is_first is.events
+        shown_ended)
+        ∙ ap (shown_course machines (rounds_told false (shown_run seed machines is.program)))
+        (table_is_told sound no_lines is.program (drawn_graph seed) machines 0 is.first is.is_first is.events
+        shown_ended);
+  }
+
+-- a run that leaves images
+module _ (sound : State → Type 0) (complete : PlainRunsAreComplete core_work sound) (play : Play) (origin : Origin)
+    (image : List ℕ) (course : Course) (is : IsImagedPlay core_work play origin image course) where
+  imaged_ended : is_complete core_work is.first is.events ≡ true
+  imaged_ended = complete is.first is.events
+      (reached sound play.lines play.program play.graph play.machines play.draws is.first is.is_first) is.plain
+
+  imaged_told : IsSourceImaged play origin image course
+  imaged_told =
+      imaged_source play origin image course is
+      (run_told sound play.lines play.program play.graph play.machines play.draws is.first is.is_first is.events
+      imaged_ended)
+      (record {
+        split = is.is_first.split;
+        program = is.is_first.program_is;
+        parts = is.is_first.parts;
+        of_graph = is.is_first.of_graph;
+        events = is.events;
+        plain = subst (λ (u : World). IsPlainRun core_work u is.events) is.is_first.here is.plain;
+        is = log_told sound play.lines play.program play.graph play.machines play.draws is.first is.is_first is.events
+            imaged_ended;
+      })
+      (images_told play.lines (key_for play origin) image play.program play.graph play.machines play.draws is.first
+      is.is_first (job_is sound play.lines play.program play.graph play.machines play.draws is.first is.is_first)
+      is.events imaged_ended)
+
+-- a run that goes on from the later of two images
+module _ (sound : State → Type 0) (complete : PlainRunsAreComplete core_work sound)
+    (restarts : IsRestartLawful core_work sound) (ready : StartIsReady) (play : Play) (origin : Origin)
+    (even odd : Option (List ℕ)) (course : Course) (is : IsResumedPlay core_work play origin even odd course) where
+  abbrev fresh : IsFirstWorld core_work play.program play.graph play.machines play.draws
+      (first_world core_work is.split is.parts)
+  fresh = record {
+    split = is.split;
+    program_is = is.program_is;
+    fits = is.fits;
+    parts = is.parts;
+    of_graph = is.of_graph;
+    here = refl;
+  }
+
+  begun_told : (found : Option PlainStart) →
+      ((start : PlainStart) → found ≡ Some start → All (λ part. IsStart part is.split start) is.parts) →
+      (es : List Event) → IsPlainRun core_work (begun_world core_work is.split is.parts found) es →
+      (play.lines.log ≡ false →
+      course_text (course_from core_work play.lines (begun_world core_work is.split is.parts found) es)
+      ≡ begun_text play found) × IsBegunLog play found
+      (course_text (course_from core_work play.lines (begun_world core_work is.split is.parts found) es))
+  begun_told None starts es plain =
+      let whole = plain_source sound complete play
+      (course_from core_work play.lines (first_world core_work is.split is.parts) es) (record {
+        first = first_world core_work is.split is.parts;
+        is_first = fresh;
+        events = es;
+        plain = plain;
+        course_is = refl;
+      }) in
+      (whole.text, whole.logged)
+  begun_told (Some start) starts es plain =
+      let text = text_from core_work play.lines (restarted_world core_work is.split is.parts start) es in
+      let same = job_is sound play.lines play.program play.graph play.machines play.draws
+      (first_world core_work is.split is.parts) fresh in (
+        λ quiet. text ∙ later_text sound complete restarts play is.split is.program_is is.fits is.parts is.of_graph same
+            start (starts start refl) es plain quiet,
+        subst (IsLoggedFrom play start) (sym text) (later_logged sound complete restarts play is.split is.program_is
+            is.fits is.parts is.of_graph same start (starts start refl) es plain),
+      )
+
+  resumed_told : IsSourceResumed play origin even odd course
+  resumed_told =
+      let found = later_of is.first is.second in
+      let told = begun_told found (λ start here. parts_start play.machines play.draws play.graph is.parts is.of_graph
+      is.split (key_for play origin) even odd is.first is.second is.first_told is.second_told ready start here)
+      is.events is.plain in
+      let P : Course → Type 0 = λ c. (play.lines.log ≡ false → course_text c ≡ begun_text play found)
+      × IsBegunLog play found (course_text c) in
+      let here = subst P (sym is.course_is) told in
+      record {
+        printed = resumed_printed core_work play origin even odd course is;
+        split = is.split;
+        program_is = is.program_is;
+        first = is.first;
+        first_told = is.first_told;
+        second = is.second;
+        second_told = is.second_told;
+        text = here.0;
+        logged = here.1;
+      }
+
+-- each task that cores do goes as the source's run tells
+core_task : (sound : State → Type 0) → ChosenWell core_work sound → IsRestartLawful core_work sound → StartIsReady →
+    (task : Task) (course : Course) → IsPlayed core_work task course → IsSourceRun task course
+core_task sound laws restarts ready (Plain play) course is = plain_source sound laws.plain play course is
+core_task sound laws restarts ready (Imaged play origin image) course is =
+    imaged_told sound laws.plain play origin image course is
+core_task sound laws restarts ready (Resumed play origin even odd) course is =
+    resumed_told sound laws.plain restarts ready play origin even odd course is
+core_task sound laws restarts ready (Drawn play seed schedule) course is =
+    drawn_source sound laws play seed schedule course is
+core_task sound laws restarts ready (DrawnLossy play seed schedule) course is = absurd is
+core_task sound laws restarts ready (Followed play schedule) course is =
+    followed_source sound laws play schedule course is
+core_task sound laws restarts ready (Shown seed machines) course is =
+    shown_source sound laws.plain seed machines course is
+core_task sound laws restarts ready (Renewed schedule target) course is = is
+core_task sound laws restarts ready (Parted play program prefix) course is = absurd is
+core_task sound laws restarts ready (Served part rows) course is = absurd is
+
+-- whatever cores do, the source's run tells
+pub core_runs : (work : Work) (sound : State → Type 0) → work ≡ core_work → ChosenWell work sound →
+    IsRestartLawful work sound → StartIsReady → (task : Task) (course : Course) → IsPlayed work task course →
+    IsSourceRun task course
+core_runs work sound core laws restarts ready task course is =
+    core_task sound (subst (λ (v : Work). ChosenWell v sound) core laws)
+    (subst (λ (v : Work). IsRestartLawful v sound) core restarts) ready task course
+    (subst (λ (v : Work). IsPlayed v task course) core is)

@@ -1,26 +1,38 @@
 -- What `symple` prints, stores, takes and answers is what the order of its words says.
 --
--- The claim (HeadLaws): of each status, each text and each file, by one definition a command (`specs/Orders`), and
--- where files are told and room is ample a command comes out (`completes`, over ComesLaws).
+-- The claim (HeadLaws, over the laws of orders in `command_steps`): of each status, each text and each file, by one
+-- definition a command, and where files are told and room is ample a command comes out (`completes`).
 --
--- The chain. The parts of a command make its order, step by step with the outside (WalkLaws, over LoadLaws and
--- FlushLaws); what every order leaves of files, input and texts is LeavesLaws, and what stands of a run that stopped
--- CourseLaws. Texts of rows, rounds and reads put piece by piece are the texts by definition: LineLaws, TextLaws,
--- NumberedLaws, RoundLaws, ReadTurns. PlayLaws: what a run of machines leaves,
--- event by event; WorldLaws, PartsFrom: its machines; CoreRuns: for cores it is the source run.
-pub mod ComesLaws
+-- The chain. What a run of machines leaves, event by event, is PlayLaws; its machines are WorldLaws and PartsFrom. The
+-- texts of rows, rounds and reads put piece by piece are those by definition: NumberedLaws, RoundLaws, ReadTurns. The
+-- rounds that the demonstration counts, and its lines, are ShowLaws. What is known of the courses of each task is
+-- TaskLaws (of recorded and followed runs CourseShapes and TextTasks), and that for cores they are the source's
+-- CoreRuns. What recording and following leave is RecordLaws and FollowLaws. What runs leave
+-- that store images, and how they go on, is ImagedRuns, ImagesTold, LeftImages and ContinuedLaws.
+pub mod ContinuedLaws
 pub mod CoreRuns
-pub mod CourseLaws
-pub mod FlushLaws
+pub mod CourseShapes
+pub mod FileLaws
+pub mod FirstLaws
+pub mod FollowLaws
 pub mod HeadLaws
-pub mod LeavesLaws
-pub mod LineLaws
-pub mod LoadLaws
+pub mod ImageLaws
+pub mod ImagedRuns
+pub mod ImagesTold
+pub mod InterruptedLaws
+pub mod LeftImages
 pub mod NumberedLaws
 pub mod PartsFrom
 pub mod PlayLaws
 pub mod ReadTurns
+pub mod RecordLaws
+pub mod RenewLaws
+pub mod ReplayLaws
+pub mod ResultLaws
+pub mod ResumeLaws
 pub mod RoundLaws
-pub mod TextLaws
-pub mod WalkLaws
+pub mod ShowLaws
+pub mod RowsTold
+pub mod TaskLaws
+pub mod TextTasks
 pub mod WorldLaws

@@ -1,5 +1,5 @@
 -- The parts of a graph are those of one run.
-use Rattle.std.proofs.Common.{◌≡◌, ℕ, ◌≤◌, List, length, map, Result, Ok, Err, refl, sym, ap, subst, ◌∙◌}
+use Rattle.std.proofs.Common.{◌≡◌, ℕ, ◌≤◌, List, length, Result, Ok, Err, refl, sym, subst, ◌∙◌}
 use Rattle.std.specs.Prelude.{IfOk}
 use Rattle.chunk_split.specs.Chunks.{AreEnds, vertices_of}
 use Rattle.edge_reader.specs.EdgeList.{Graph}
@@ -44,3 +44,9 @@ module _ (draws n : ℕ) (list : List Edge) (table : Graph) (ends : List ℕ) (i
     edges_are = refl;
     draws_are = refl;
   }
+
+-- of a result that went well another fact follows
+pub ok_more : {A E : Type 0} {P Q : A → Type 0} (result : Result A E) → ((a : A) → P a → Q a) → IfOk result P →
+    IfOk result Q
+ok_more (Ok a) step fact = step a fact
+ok_more (Err why) step fact = tt

@@ -1,6 +1,6 @@
 -- What a run of machines leaves of a sink, event by event.
-use Rattle.std.proofs.Common.{◌≡◌, ◌↔◌, ℕ, ◌+◌, ◌<◌, ◌≤◌, Bool, true, false, ◌&&◌, List, [], ◌∷◌, length, Option, Some, None, Result, Ok, Err, refl, sym, ap, subst, ◌∙◌, arith, slice_get}
-use Rattle.std.specs.Prelude.{◌==◌, IsErr, if◌then◌else◌, nat_le}
+use Rattle.std.proofs.Common.{◌≡◌, ◌↔◌, ℕ, ◌<◌, Bool, true, false, ◌&&◌, List, [], ◌∷◌, length, Option, Some, None, Ok, Err, refl, sym, ap, subst, ◌∙◌, arith, slice_get}
+use Rattle.std.specs.Prelude.{◌==◌, if◌then◌else◌}
 use Rattle.std.proofs.lemmas.Bool.{eqb-true, false≢true}
 use Rattle.array_text.specs.Writes.{Writes}
 use Rattle.circulant_plan.specs.declared.spot.Spot.{Spot}
@@ -9,25 +9,21 @@ use Rattle.cluster_run.proofs.Sites.{set_here}
 use Rattle.outside.specs.declared.sink.SinkFault.{SinkFault}
 use Rattle.schedule_laws.specs.Layout.{gone_lines, judged_lines, round_lines, table_of, told_in}
 use Rattle.schedule_laws.specs.Texts.{told_lines}
-use Rattle.symple_face.specs.Cluster.{IsPlainRun, World, all_possible, finished, first_world, go_at, plain_of, step}
+use Rattle.symple_face.specs.Cluster.{IsPlainRun, World, all_possible, finished, go_at, plain_of, step}
 use Rattle.symple_face.specs.State.{State}
 use Rattle.symple_face.specs.Work.{Work}
-use Rattle.symple_run.specs.Leaves.{Gained, Leaves, NotPut, Ran, WantsAtPut, after_text}
-use Rattle.symple_run.specs.Notes.{Fault, NoMemory, NoWrite}
-use Rattle.symple_run.specs.Orders.{Order, Play, Puts, Runs, follows}
-use Rattle.symple_run.specs.Played.{GoesOn, IsPlayed, course_from, ends_round, first_report, is_late_judge, judges_late, log_line, report_with}
-use Rattle.symple_run.specs.SourceRuns.{NoRun}
-use Rattle.symple_run.specs.declared.failure.Failure.{Failure}
-use Rattle.symple_run.specs.declared.failure.Failure.TheVariants as failure
-use Rattle.symple_run.specs.Faults.{fault_of}
-use Rattle.symple_run.specs.Walks.{HandsOn, Plays}
-use Rattle.symple_run.proofs.LeavesLaws.{unplayed}
-use Rattle.instrument.specs.declared.split.Split.{Split}
-use Rattle.symple_face.specs.Parts.{PlainPart}
-use Rattle.symple_run.specs.RunParts.{IsRunOf}
-use Rattle.word_kinds.specs.Fits.{IsFitting}
-use Rattle.symple_run.specs.States.{Held, Kept, Left, Outside, outside, sink_state}
-use Rattle.symple_run.proofs.FlushLaws.{held_same}
+use Rattle.command_steps.specs.Leaves.{Gained, Leaves, NotPut, Ran, WantsAtPut, after_text}
+use Rattle.command_steps.specs.Notes.{Fault, NoMemory, NoWrite}
+use Rattle.command_steps.specs.Orders.{NoTask, Order, Plain, Play, Puts, Runs, follows}
+use Rattle.symple_run.specs.PlayedEvents.{PutsLines, StopsInLines}
+use Rattle.symple_run.specs.Played.{GoesOn, IsFirstWorld, IsPlayed, course_from, ends_round, first_report, is_late_judge, judges_late, log_line, report_with}
+use Rattle.command_steps.specs.declared.failure.Failure.{Failure}
+use Rattle.command_steps.specs.declared.failure.Failure.TheVariants as failure
+use Rattle.command_steps.specs.Faults.{fault_of}
+use Rattle.command_steps.specs.Walks.{HandsOn, Plays}
+use Rattle.command_steps.proofs.LeavesLaws.{unplayed}
+use Rattle.command_steps.specs.States.{Held, Kept, Left, Outside, outside, sink_state}
+use Rattle.command_steps.proofs.FlushLaws.{held_same}
 use Rattle.symple_words.specs.declared.line.Lines.{Lines}
 use Rattle.vert_base.specs.declared.message.Event.{Event}
 use Rattle.vert_base.specs.declared.message.Event.TheVariants.{Go, Take}
@@ -44,36 +40,36 @@ module _ {S : Type 0} (held : S → Option (List ℕ)) (faults spare : S → ℕ
   -- a text was put, and then the rest came
   pub put_goes : (old new : S) (text : List ℕ) → Writes held faults spare old new text (Ok tt) → (next : Order)
       (shelf : Kept) (input : Left) (after : Outside) (outcome : Option Fault) →
-      Leaves NoRun next (outside shelf (of new) input) after outcome →
-      Leaves NoRun (Puts text next) (outside shelf (of old) input) after outcome
+      Leaves NoTask next (outside shelf (of new) input) after outcome →
+      Leaves NoTask (Puts text next) (outside shelf (of old) input) after outcome
   put_goes old new text w next shelf input after outcome rest =
       Gained (spare new) w.spared
-      (subst (λ (h : Held). Leaves NoRun next (outside shelf h input) after outcome) (after_is old new text w) rest)
+      (subst (λ (h : Held). Leaves NoTask next (outside shelf h input) after outcome) (after_is old new text w) rest)
 
   -- a text could not be put
   pub put_stops : (old new : S) (text : List ℕ) (fault : SinkFault) → Writes held faults spare old new text (Err fault) →
       (next : Order) (shelf : Kept) (input : Left) →
-      Leaves NoRun (Puts text next) (outside shelf (of old) input) (outside shelf (of new) input) (Some NoWrite)
+      Leaves NoTask (Puts text next) (outside shelf (of old) input) (outside shelf (of new) input) (Some NoWrite)
   put_stops old new text fault w next shelf input =
       NotPut (record { part = w.part; rose = w.failed; sure = omega (arith, w.sure) }) refl refl
 
   -- memory was wanting before it
   pub put_wants : (sink : S) (text : List ℕ) (next : Order) (shelf : Kept) (input : Left) →
-      Leaves NoRun (Puts text next) (outside shelf (of sink) input) (outside shelf (of sink) input) (Some NoMemory)
+      Leaves NoTask (Puts text next) (outside shelf (of sink) input) (outside shelf (of sink) input) (Some NoMemory)
   put_wants sink text next shelf input = WantsAtPut (record { same = refl; memory = refl })
 
 -- a text was put, as far as memory and the sink last
 pub plays_goes : (text : List ℕ) (old new : Held) → Plays text old new (Ok tt) → (next : Order) (shelf : Kept)
     (input : Left) (after : Outside) (outcome : Option Fault) →
-    Leaves NoRun next (outside shelf new input) after outcome →
-    Leaves NoRun (Puts text next) (outside shelf old input) after outcome
+    Leaves NoTask next (outside shelf new input) after outcome →
+    Leaves NoTask (Puts text next) (outside shelf old input) after outcome
 plays_goes text old new plays next shelf input after outcome rest =
     Gained new.spare plays.spared
-    (subst (λ (h : Held). Leaves NoRun next (outside shelf h input) after outcome) plays.same rest)
+    (subst (λ (h : Held). Leaves NoTask next (outside shelf h input) after outcome) plays.same rest)
 
 pub plays_stops : (text : List ℕ) (old new : Held) (why : Failure) → Plays text old new (Err why) → (next : Order)
     (shelf : Kept) (input : Left) →
-    Leaves NoRun (Puts text next) (outside shelf old input) (outside shelf new input) (Some (fault_of why))
+    Leaves NoTask (Puts text next) (outside shelf old input) (outside shelf new input) (Some (fault_of why))
 plays_stops text old new failure.Write plays next shelf input = NotPut plays refl refl
 plays_stops text old new failure.Memory plays next shelf input = WantsAtPut
     (record { same = ap (λ (h : Held). outside shelf h input) plays; memory = refl })
@@ -83,6 +79,16 @@ plays_stops text old new (failure.Load name) plays next shelf input = absurd pla
 plays_stops text old new (failure.Program refusal) plays next shelf input = absurd plays
 plays_stops text old new (failure.GraphLine code line) plays next shelf input = absurd plays
 plays_stops text old new (failure.GraphByte code at) plays next shelf input = absurd plays
+plays_stops text old new failure.ScheduleHeader plays next shelf input = absurd plays
+plays_stops text old new (failure.ScheduleLine line) plays next shelf input = absurd plays
+plays_stops text old new failure.LongSchedule plays next shelf input = absurd plays
+plays_stops text old new (failure.Event line why) plays next shelf input = absurd plays
+plays_stops text old new (failure.NotTaken name) plays next shelf input = absurd plays
+plays_stops text old new (failure.NotGone machine) plays next shelf input = absurd plays
+plays_stops text old new (failure.Part code) plays next shelf input = absurd plays
+plays_stops text old new (failure.Message code at) plays next shelf input = absurd plays
+plays_stops text old new (failure.EndsEarly name) plays next shelf input = absurd plays
+plays_stops text old new failure.Input plays next shelf input = absurd plays
 
 -- ---- the line of a judge
 judge_is : (work : Work) (lines : Lines) (w : World) (s : State) (spot : Spot) → is_late_judge spot ≡ true →
@@ -107,7 +113,7 @@ no_judge work lines w s (Close r dense) early = refl
 no_judge work lines w s Over early = refl
 
 -- what machine 0 tells after its action
-gone_report : (work : Work) (w : World) (s : State) → slice_get w.sites 0 ≡ Some s →
+pub gone_report : (work : Work) (w : World) (s : State) → slice_get w.sites 0 ≡ Some s →
     first_report work (step work w (Go 0)) ≡ work.report (work.go s)
 gone_report work w s at =
     ap (λ (o : Option State). first_report work (go_at work w 0 o)) at
@@ -161,18 +167,28 @@ plain_behind work w e more plain (d ∷ es, runs, can) = (
 
 module _ (work : Work) (lines : Lines) (w : World) (e : Event) (more : finished w ≡ false)
     (plain : plain_of w ≡ Some e) where
-  -- the event is played, and then the rest comes
-  pub event_goes : (old new : Held) (outcome : Option Fault) (after : List Event) →
-      IsPlainRun work (step work w e) after →
-      ((shelf : Kept) (input : Left) → Leaves NoRun
-      (Puts (log_line lines w e) (Puts (round_lines work lines w e) (follows (course_from work lines (step work w e) after))))
-      (outside shelf old input) (outside shelf new input) outcome) →
-      GoesOn work lines w old new outcome
-  event_goes old new outcome after runs leaves = record {
-    events = e ∷ after;
-    plain = (more, plain, runs);
-    leaves = leaves;
-  }
+  -- the event was played, and the run goes on behind it
+  pub event_goes : (old new after : Held) (outcome : Option Fault) (v : World) → v ≡ step work w e →
+      PutsLines work lines w e old new → GoesOn work lines v new after outcome →
+      GoesOn work lines w old after outcome
+  event_goes old new after outcome v is puts goes =
+      let on = subst (λ (u : World). GoesOn work lines u new after outcome) is goes in record {
+        events = e ∷ on.events;
+        plain = (more, plain, on.plain);
+        leaves = λ shelf input. puts (follows (course_from work lines (step work w e) on.events)) shelf input
+            (outside shelf after input) outcome (on.leaves shelf input);
+      }
+
+  -- it was played up to a fault
+  pub event_stops : (old new : Held) (fault : Fault) → StopsInLines work lines w e old new fault →
+      ((es : List Event) × IsPlainRun work w es × (all_possible work w es ≡ true)) →
+      GoesOn work lines w old new (Some fault)
+  event_stops old new fault stops runs =
+      let behind = plain_behind work w e more plain runs in record {
+        events = e ∷ behind.0;
+        plain = (more, plain, behind.1);
+        leaves = λ shelf input. stops (follows (course_from work lines (step work w e) behind.0)) shelf input;
+      }
 
 -- where there is a plain event, the run isn't finished
 pub not_finished : (w : World) (e : Event) → (Some e ≡ None) ↔ (finished w ≡ true) → finished w ≡ false
@@ -203,19 +219,15 @@ table_stops work lines w old new fault ends put = record {
 
 -- a run from the first world of the machines of a graph's parts
 pub run_plays :
-    (work : Work) (play : Play) (split : Split) (parts : List PlainPart) → split.program.program ≡ play.program →
-    IsFitting split.program.program → IsRunOf play.machines play.draws play.graph parts →
-    (old new : Held) (outcome : Option Fault) → GoesOn work play.lines (first_world work split parts) old new outcome →
+    (work : Work) (play : Play) (first : World) → IsFirstWorld work play.program play.graph play.machines play.draws first →
+    (old new : Held) (outcome : Option Fault) → GoesOn work play.lines first old new outcome →
     (shelf : Kept) (input : Left) →
-    Leaves (IsPlayed work) (Runs play follows) (outside shelf old input) (outside shelf new input) outcome
-run_plays work play split parts program fits of_graph old new outcome goes shelf input =
-    let course = course_from work play.lines (first_world work split parts) goes.events in
+    Leaves (IsPlayed work) (Runs (Plain play) follows) (outside shelf old input) (outside shelf new input) outcome
+run_plays work play first is_first old new outcome goes shelf input =
+    let course = course_from work play.lines first goes.events in
     Ran course (record {
-      split = split;
-      program = program;
-      fits = fits;
-      parts = parts;
-      of_graph = of_graph;
+      first = first;
+      is_first = is_first;
       events = goes.events;
       plain = goes.plain;
       course_is = refl;

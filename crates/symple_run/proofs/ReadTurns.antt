@@ -1,5 +1,5 @@
 -- What the machines of the steps read for a vertex, as a line.
-use Rattle.std.proofs.Common.{◌≡◌, ℕ, ◌+◌, ◌<◌, ◌≤◌, Bool, true, false, not, List, [], ◌∷◌, ◌++◌, get_or, drop, length, map, take, flat_map, codes, Option, Some, refl, sym, ap, subst, ◌∙◌, arith, slice_get, append_assoc}
+use Rattle.std.proofs.Common.{◌≡◌, ℕ, ◌+◌, ◌<◌, ◌≤◌, true, false, not, List, [], ◌∷◌, ◌++◌, get_or, drop, length, map, take, flat_map, codes, Some, refl, sym, ap, subst, ◌∙◌, arith, slice_get}
 use Rattle.std.specs.Prelude.{◌==◌}
 use Rattle.std.specs.List.{range_with_len}
 use Rattle.std.proofs.lemmas.Bool.{false≢true}
@@ -16,7 +16,7 @@ use Rattle.chunk_split.specs.Chunks.{vertices_of}
 use Rattle.std.proofs.lemmas.List.FromFn.{get_or-map-range_with_len, length-range_with_len}
 use Rattle.symple_run.proofs.NumberedLaws.{numbered_all, numbered_more, numbered_split}
 use Rattle.symple_run.proofs.RoundLaws.{reads_numbered}
-use Rattle.symple_run.proofs.TextLaws.{all_numbers, below_numbers, number_at}
+use Rattle.command_steps.proofs.TextLaws.{all_numbers, below_numbers, number_at}
 use Rattle.symple_face.specs.Cluster.{World}
 use Rattle.symple_face.specs.State.{State}
 use Rattle.symple_face.specs.Work.{Work}

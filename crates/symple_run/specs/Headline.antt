@@ -7,15 +7,16 @@ use Rattle.program_reader.specs.Accepted.{Says}
 use Rattle.outside.specs.Bytes.{gained}
 use Rattle.outside.specs.Causes.{Rose}
 use Rattle.outside.specs.Files.{File}
-use Rattle.symple_run.specs.declared.status.Status.{Status}
-use Rattle.symple_run.specs.declared.status.Status.TheVariants as status
-use Rattle.symple_run.specs.Commands.{order_of}
-use Rattle.symple_run.specs.Comes.{Comes, Fits}
-use Rattle.symple_run.specs.Leaves.{IsUnder, Leaves, PutFails}
-use Rattle.symple_run.specs.Notes.{Fault, note_text, status_of}
-use Rattle.symple_run.specs.Orders.{Course, Order, Play}
-use Rattle.symple_run.specs.Outputs.{free_text, job_of}
-use Rattle.symple_run.specs.States.{Held, Outside}
+use Rattle.command_steps.specs.declared.status.Status.{Status}
+use Rattle.command_steps.specs.declared.status.Status.TheVariants as status
+use Rattle.command_steps.specs.Commands.{order_of}
+use Rattle.command_steps.specs.Comes.{Comes, Fits}
+use Rattle.command_steps.specs.Leaves.{IsUnder, Leaves, PutFails}
+use Rattle.command_steps.specs.Notes.{Fault, note_text, status_of}
+use Rattle.command_steps.specs.Orders.{Course, Order, Task}
+use Rattle.command_steps.specs.Outputs.{free_text}
+use Rattle.command_steps.specs.States.{Held, Outside}
+use Rattle.symple_run.specs.SourceTexts.{job_of}
 use Rattle.symple_words.specs.Lines as words
 use Rattle.vert_eval.specs.SourceRun.{source_run}
 use Rattle.vert_tree.specs.declared.program.Program.{Program}
@@ -31,9 +32,9 @@ Noted (Some fault) notes notes_after =
     (notes_after.bytes ≡ gained notes.bytes (note_text fault))
     ⊎ PutFails (note_text fault) notes notes_after
 
--- The order of the words left of the outside `w` what stands in `after`, each run in it being one that
+-- The order of the words left of the outside `w` what stands in `after`, each task in it going as
 -- `courses` allows, and the status and the note are those of how it ended.
-pub record Answers (courses : Play → Course → Type 0) (texts : List (List ℕ)) (w after : Outside)
+pub record Answers (courses : Task → Course → Type 0) (texts : List (List ℕ)) (w after : Outside)
     (notes notes_after : Held) (result : Status) : Type 0 where
   pub outcome : Option Fault
   pub leaves : Leaves courses (order_of texts) w after outcome
@@ -41,7 +42,7 @@ pub record Answers (courses : Play → Course → Type 0) (texts : List (List �
   pub noted : Noted outcome notes notes_after
 
 -- no count rose, or that of `out` need not, since it is sure to take all that the order puts
-pub record NothingFails (courses : Play → Course → Type 0) (order : Order) (files : List File) (w after : Outside) :
+pub record NothingFails (courses : Task → Course → Type 0) (order : Order) (files : List File) (w after : Outside) :
     Type 0 where
   pub no_load : ¬ (Rose w.shelf.loads after.shelf.loads)
   pub no_store : ¬ (Rose w.shelf.stores after.shelf.stores)
@@ -51,7 +52,7 @@ pub record NothingFails (courses : Play → Course → Type 0) (order : Order) (
 
 -- Where nothing fails, the status is that to which the order comes over the files, or memory was wanting.
 abbrev pub IsComplete :
-    (Play → Course → Type 0) → List (List ℕ) → Outside → Outside → Status → Type 0
+    (Task → Course → Type 0) → List (List ℕ) → Outside → Outside → Status → Type 0
 IsComplete courses texts w after result =
     (files : List File) (outcome : Option Fault) → w.shelf.files ≡ Some files
     → Comes courses (order_of texts) files w.input.bytes outcome

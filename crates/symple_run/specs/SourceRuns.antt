@@ -1,21 +1,25 @@
 -- The courses of runs that the source's run tells.
-use Rattle.std.specs.Prelude.{◌≡◌, ℕ, false, List, length}
-use Rattle.circulant_plan.specs.Skeleton.{first_skeleton}
+use Rattle.std.specs.Prelude.{◌≡◌, ℕ, false, List, Option, None, Some, length}
+use Rattle.circulant_plan.specs.Skeleton.{first_skeleton, resumed_skeleton}
 use Rattle.instrument.specs.declared.split.Split.{Split}
-use Rattle.schedule_laws.specs.Laws.{whole_run}
+use Rattle.schedule_laws.specs.Laws.{later_run, whole_run}
 use Rattle.schedule_laws.specs.OutputText.{output_text}
-use Rattle.symple_face.specs.Cluster.{IsPlainRun, first_world}
+use Rattle.symple_face.specs.Cluster.{IsPlainRun, first_world, restarted_world}
 use Rattle.symple_face.specs.CoreWork.{core_work}
 use Rattle.symple_face.specs.Parts.{PlainPart}
-use Rattle.symple_run.specs.Courses.{course_text}
-use Rattle.symple_run.specs.Orders.{Course, Fails, IsOver, Keeps, Play, Prints}
-use Rattle.symple_run.specs.Outputs.{play_text}
+use Rattle.symple_face.specs.Work.{PlainStart}
+use Rattle.command_steps.specs.Courses.{course_text}
+use Rattle.command_steps.specs.Orders.{Course, Drawn, DrawnLossy, Fails, Followed, Imaged, IsOver, Keeps, Origin, Parted, Plain, Play, Prints, Renewed, Resumed, Served, Shown, Takes, Task}
+use Rattle.symple_run.specs.Followed.{IsRenewed}
+use Rattle.symple_run.specs.SourceSchedules.{IsSourceRecord, IsSourceReplay}
+use Rattle.symple_run.specs.Shows.{IsSourceShow}
+use Rattle.symple_run.specs.SourceTexts.{job_of, play_text}
+use Rattle.symple_run.specs.KeptImages.{StoresImages, key_for}
+use Rattle.symple_run.specs.Resumes.{Tells, later_of}
+use Rattle.symple_run.specs.SourceImages.{begun_text, files_kept, images_of}
 use Rattle.symple_run.specs.RunParts.{IsRunOf}
 use Rattle.vert_base.specs.declared.message.Event.{Event}
-
--- no run is played
-abbrev pub NoRun : Play → Course → Type 0
-NoRun play course = ⊥
+use Rattle.vert_eval.specs.SourceRun.{source_run}
 
 -- the run puts texts, and then it is over
 abbrev pub IsPrinted : Course → Type 0
@@ -23,6 +27,7 @@ IsPrinted IsOver = Unit {0}
 IsPrinted (Fails fault) = ⊥
 IsPrinted (Prints text rest) = IsPrinted rest
 IsPrinted (Keeps name bytes rest) = ⊥
+IsPrinted (Takes used text rest) = ⊥
 
 -- The text with the line of each event: the plain events of cores, each message taken with the body that the source's
 -- run gives it.
@@ -37,7 +42,58 @@ pub record IsLogged (play : Play) (text : List ℕ) : Type 0 where
       text ≡ output_text play.lines (whole_run split parts of_graph.one) (first_skeleton (length parts)) events
 
 -- the run puts the text of the source's run, and then it is over
-pub record IsSourceRun (play : Play) (course : Course) : Type 0 where
+pub record IsSourcePlay (play : Play) (course : Course) : Type 0 where
   pub printed : IsPrinted course
   pub text : play.lines.log ≡ false → course_text course ≡ play_text play
   pub logged : IsLogged play (course_text course)
+
+-- The run puts the same text, and stores the images of the source's run.
+pub record IsSourceImaged (play : Play) (origin : Origin) (image : List ℕ) (course : Course) : Type 0 where
+  pub stored : StoresImages image course
+  pub text : play.lines.log ≡ false → course_text course ≡ play_text play
+  pub logged : IsLogged play (course_text course)
+  pub images : files_kept course ≡ images_of (key_for play origin) image
+      (source_run (job_of play.machines play.draws play.program play.graph))
+
+-- The text with the line of each event of a run that goes on from a start: the plain events of cores from there, each
+-- message taken with the body that the source's run from the start gives it.
+pub record IsLoggedFrom (play : Play) (start : PlainStart) (text : List ℕ) : Type 0 where
+  pub split : Split
+  pub program : split.program.program ≡ play.program
+  pub parts : List PlainPart
+  pub of_graph : IsRunOf play.machines play.draws play.graph parts
+  pub events : List Event
+  pub plain : IsPlainRun core_work (restarted_world core_work split parts start) events
+  pub is :
+      text ≡ output_text play.lines (later_run split parts of_graph.one start)
+      (resumed_skeleton (length parts) start.round start.ruling) events
+
+abbrev pub IsBegunLog : Play → Option PlainStart → List ℕ → Type 0
+IsBegunLog play None text = IsLogged play text
+IsBegunLog play (Some start) text = IsLoggedFrom play start text
+
+-- The run puts the text of the source's run from the later of the starts that two files tell, and then it is over.
+pub record IsSourceResumed (play : Play) (origin : Origin) (even odd : Option (List ℕ)) (course : Course) : Type 0
+  where
+    pub printed : IsPrinted course
+    pub split : Split
+    pub program_is : split.program.program ≡ play.program
+    pub first : Option PlainStart
+    pub first_told : Tells split play.graph.vertices (key_for play origin) even first
+    pub second : Option PlainStart
+    pub second_told : Tells split play.graph.vertices (key_for play origin) odd second
+    pub text : play.lines.log ≡ false → course_text course ≡ begun_text play (later_of first second)
+    pub logged : IsBegunLog play (later_of first second) (course_text course)
+
+-- the task goes as the source's run tells
+abbrev pub IsSourceRun : Task → Course → Type 0
+IsSourceRun (Plain play) course = IsSourcePlay play course
+IsSourceRun (Imaged play origin image) course = IsSourceImaged play origin image course
+IsSourceRun (Resumed play origin even odd) course = IsSourceResumed play origin even odd course
+IsSourceRun (Drawn play seed schedule) course = IsSourceRecord play seed schedule course
+IsSourceRun (DrawnLossy play seed schedule) course = ⊥
+IsSourceRun (Followed play schedule) course = IsSourceReplay play schedule course
+IsSourceRun (Shown seed machines) course = IsSourceShow seed machines course
+IsSourceRun (Renewed schedule target) course = IsRenewed schedule target course
+IsSourceRun (Parted play program prefix) course = ⊥
+IsSourceRun (Served part rows) course = ⊥

@@ -1,30 +1,32 @@
 // The machines of a run, from the edges of a graph to the last event.
-ghost use Rattle.std.specs.Prelude.{◌≡◌, ◌<◌, ◌^◌, [], false, true, if◌then◌else◌, length, map, option_copied, option_map, IfOk, IfErr, IfSome, OnOk, Some};
+ghost use Rattle.std.specs.Prelude.{◌≡◌, ◌<◌, ◌^◌, [], false, true, if◌then◌else◌, length, map, option_copied, option_map, IfOk, IfErr, IfSome, None, OnOk, Some};
 ghost use Rattle.std.specs.List.{All};
 ghost use Rattle.edge_reader.specs.Gives.{graph_of_edges};
 ghost use Rattle.schedule_laws.specs.Layout.{taken_in, told_in};
 ghost use Rattle.schedule_laws.specs.Texts.{told_lines};
 ghost use Rattle.array_text.specs.Events.{event_line};
 ghost use Rattle.array_text.specs.Writes.{Writes};
-ghost use Rattle.symple_face.specs.Cluster.{events_left, finished, plain_of};
+ghost use Rattle.symple_face.specs.Cluster.{events_left, finished, step};
+ghost use Rattle.cluster_run.specs.Faults.{fault_of as event_fault};
 ghost use Rattle.symple_face.specs.PartViews.{plain_of as plain_part};
-ghost use Rattle.symple_run.specs.Faults.{fault_of};
-ghost use Rattle.symple_run.specs.Played.{GoesOn, LeadsOn, first_report};
+ghost use Rattle.command_steps.specs.Faults.{fault_of};
+ghost use Rattle.symple_run.specs.Played.{GoesOn, IsFirstWorld, LeadsOn, first_report};
+ghost use Rattle.symple_run.specs.PlayedEvents.{PutsLines, StopsInLines};
 ghost use Rattle.symple_run.specs.RunParts.{IsRunOf};
-ghost use Rattle.symple_run.specs.States.{sink_state};
-ghost use Rattle.symple_run.specs.Walks.{Plays};
+ghost use Rattle.command_steps.specs.States.{sink_state};
+ghost use Rattle.command_steps.specs.Walks.{Plays};
 ghost use Rattle.vert_base.specs.Letters.{letter_of};
 ghost use Rattle.symple_words.specs.Ranges.{AreMachines};
 
-use crate::failure::Failure;
 use crate::rounds::{ends_round, write_round_of};
 use array_text::write_event;
 use chunk_split::cuts_of;
 use cluster_run::{Cluster, choices_are_in_order};
+use command_steps::Failure;
 use delivery_log::plain;
 use edge_reader::Edges;
 use graph_table::Table;
-use instrument::Split;
+use instrument::{Split, split_of};
 use mirror_table::parts;
 use outside::{Sink, SinkFault};
 use std::alloc::Global;
@@ -33,6 +35,8 @@ use symple_face::{Part, Site};
 use symple_words::Lines;
 use vert_base::limits::MACHINES;
 use vert_base::{Event, Message, Want};
+use vert_tree::Typed;
+use word_kinds::literals_are_words;
 
 /// The parts of a graph for so many machines, all with one program. The table of the edges is given up.
 pub(crate) fn parts_from(
@@ -55,6 +59,24 @@ pub(crate) fn parts_from(
     parts(alloc, table, &cuts, &split, draws)
 }
 
+/// Machines of a kind before any event, each made of its part of the graph.
+pub(crate) fn started<S: Site>(
+    alloc: Global,
+    typed: Typed,
+    edges: Edges,
+    machines: u8,
+    draws: u64,
+) -> Result<Cluster<S, MACHINES>, Want>
+    requires { AreMachines machines }
+    ensures first { IfOk result (λ cluster. IsFirstWorld S.work typed.program
+        (graph_of_edges edges) machines draws cluster.world) }
+    ensures on { IfOk result (λ cluster. cluster.ended ≡ false) }
+{
+    literals_are_words(&typed);
+    let parts = parts_from(alloc, split_of(typed), edges, machines, draws)?;
+    Cluster::<S, MACHINES>::start(alloc, parts)
+}
+
 /// Plays the plain events up to the end. What is asked for of a round is put when it is judged.
 pub(crate) fn play_out<S: Site, O: Sink>(
     cluster: &mut Cluster<S, MACHINES>,
@@ -73,33 +95,33 @@ pub(crate) fn play_out<S: Site, O: Sink>(
 {
     choices_are_in_order::<S>();
     'events: while let Some(event) = plain(cluster) {
+        cluster.tells_reached();
         play_event(cluster, &event, lines, out)?;
     }
     Ok(())
 }
 
-/// Plays an event, which is the plain one, and puts what is asked for of the round that it ends.
-fn play_event<S: Site, O: Sink>(
+/// Plays a possible event, whoever chose it: puts its line before it is played, and what is asked for of the
+/// round that it ends behind it.
+pub(crate) fn play_event<S: Site, O: Sink>(
     cluster: &mut Cluster<S, MACHINES>,
     event: &Event,
     lines: &Lines,
     out: &mut O,
 ) -> Result<(), Failure>
     requires on { cluster.old.ended ≡ false }
-    requires more { finished cluster.old.world ≡ false }
-    requires plain { plain_of cluster.old.world ≡ Some event.now }
+    requires possible { event_fault cluster.old.world event.now ≡ None }
     ensures on { OnOk result (cluster.new.ended ≡ false) }
-    ensures ok { OnOk result (LeadsOn S.work lines.now
-        cluster.old.world (sink_state O.held O.faults O.spare out.old)
-        cluster.new.world (sink_state O.held O.faults O.spare out.new)) }
-    ensures err { IfErr result (λ failure. GoesOn S.work lines.now cluster.old.world
+    ensures world { OnOk result (cluster.new.world ≡ step S.work cluster.old.world event.now) }
+    ensures ok { OnOk result (PutsLines S.work lines.now cluster.old.world event.now
+        (sink_state O.held O.faults O.spare out.old)
+        (sink_state O.held O.faults O.spare out.new)) }
+    ensures err { IfErr result (λ failure. StopsInLines S.work lines.now cluster.old.world event.now
         (sink_state O.held O.faults O.spare out.old) (sink_state O.held O.faults O.spare out.new)
-        (Some (fault_of failure))) }
+        (fault_of failure)) }
     ensures nearer { OnOk result
         (events_left cluster.new.world < events_left cluster.old.world) }
 {
-    choices_are_in_order::<S>();
-    cluster.tells_reached();
     write_log(lines.log, cluster, event, out)?;
     let tells = ends_round(cluster, event);
     // The event is possible, so nothing but memory can fail.

@@ -3,17 +3,16 @@
 
 mod arguments;
 mod counts;
-mod failure;
 mod files;
-mod flush;
-mod freedom;
+mod following;
+mod images;
 mod machines;
 mod pieces;
-mod plan;
-mod read;
+mod recording;
+mod resumes;
 mod rounds;
-mod show;
-mod status;
+mod schedules;
+mod shown;
 mod streams;
 mod table;
 #[cfg(test)]
@@ -21,10 +20,9 @@ mod tests;
 mod top;
 
 use arguments::words_of;
-use failure::{Failure, write_note};
+use command_steps::{Failure, Status, write_note};
 use files::FileShelf;
 use machine_core::Core;
-use status::Status;
 use std::io::BufWriter;
 use std::process::ExitCode;
 use streams::{InSource, OutSink};

@@ -3,13 +3,13 @@ ghost use Rattle.std.specs.Prelude.{◌≡◌, ◌<◌, false, length};
 ghost use Rattle.array_text.specs.Writes.{Writes};
 ghost use Rattle.schedule_laws.specs.Layout.{table_of, vertices_in};
 ghost use Rattle.symple_run.specs.Played.{line_of, rows_of};
-ghost use Rattle.symple_run.specs.States.{sink_state};
-ghost use Rattle.symple_run.specs.Walks.{HandsOn};
+ghost use Rattle.command_steps.specs.States.{sink_state};
+ghost use Rattle.command_steps.specs.Walks.{HandsOn};
 
-use crate::flush::flush;
 use array_text::{write_header, write_row};
 use arrayvec::ArrayVec;
 use cluster_run::Cluster;
+use command_steps::flush;
 use outside::{Sink, SinkFault};
 use symple_face::Site;
 use vert_base::limits::MACHINES;
@@ -74,7 +74,7 @@ pub(crate) fn vertices<S: Site>(cluster: &Cluster<S, MACHINES>) -> u32
 }
 
 /// Puts the line of a vertex, which the machine of its chunk tells.
-fn write_line<S: Site, O: Sink>(
+pub(crate) fn write_line<S: Site, O: Sink>(
     cluster: &Cluster<S, MACHINES>,
     v: VertexId,
     row: &mut Row,

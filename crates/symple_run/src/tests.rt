@@ -1,12 +1,13 @@
 ghost use Rattle.std.specs.Prelude.{◌<◌};
 
+mod demos;
 mod real;
 mod rows;
 mod shows;
 mod texts;
 
-use crate::status::Status;
 use crate::top::symple;
+use command_steps::Status;
 use machine_core::Core;
 use outside::{DripSink, FirmSink, MemShelf, MemSink, MemSource, Shelf};
 use sample_programs::{DIAMOND, edited, graph_named, program_named};
@@ -245,6 +246,11 @@ fn rows_of_words(rt: HostRuntime) -> Result<(), Fail> {
     check_cuts(&rt, alloc, "run p g --machines 1 --binary", "units")
 }
 
+#[test]
+fn demonstrations(rt: HostRuntime) -> Result<(), Fail> {
+    check_rows(&rt, rt.alloc(), demos::DEMOS)
+}
+
 /// A sink that fails at one put leaves a first part, at each put until the run ends well; one that takes
 /// single bytes leaves the whole.
 fn check_puts(rt: &impl Abort, alloc: Global, line: &str) -> Result<(), Fail> {
@@ -329,7 +335,10 @@ fn check_log(rt: &impl Abort, alloc: Global, line: &str, row: &str) -> Result<()
     let wanted = format!(in alloc; "{counts}\n{rest}")?;
     assert_eq!(rt; told.as_str(), wanted.as_str(), "{line}");
     for event in among.lines() {
-        assert!(rt; printed.contains(event), "{event}");
+        match event.strip_prefix("!") {
+            Some(absent) => assert!(rt; !printed.contains(absent), "{line}: {event}"),
+            None => assert!(rt; printed.contains(event), "{line}: {event}"),
+        }
     }
     Ok(())
 }

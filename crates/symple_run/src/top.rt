@@ -1,50 +1,44 @@
-ghost use Rattle.std.specs.Prelude.{◌≡◌, ◌≤◌, IfOk, None, option_map};
+ghost use Rattle.std.specs.Prelude.{◌≡◌, ◌≤◌, [], None, option_map};
 ghost use Rattle.std.specs.String.{string_bytes};
-ghost use Rattle.chunk_split.specs.Bounds.{ends_of};
+ghost use Rattle.command_steps.specs.Commands.{asked, image_order, names_stored, order_of, play_of, resume_order, run_order};
+ghost use Rattle.command_steps.specs.Orders.{Plain};
+ghost use Rattle.command_steps.specs.Quiet.{KeepsOthers};
+ghost use Rattle.command_steps.specs.States.{input_state, outside, shelf_state, sink_state};
+ghost use Rattle.command_steps.specs.Walks.{Performs};
 ghost use Rattle.edge_reader.specs.Gives.{graph_of_edges};
-ghost use Rattle.symple_run.specs.Commands.{asked, order_of, plan_order, play_of, run_order};
+ghost use Rattle.symple_run.specs.Continued.{EveryStopGoesOn};
 ghost use Rattle.symple_run.specs.Headline.{Answers, IsComplete, TellsFreedom};
-ghost use Rattle.symple_run.specs.Outputs.{plan_text};
-ghost use Rattle.symple_run.specs.States.{input_state, outside, shelf_state, sink_state};
+ghost use Rattle.symple_run.specs.Interrupted.{TellsImages};
 ghost use Rattle.symple_run.specs.Played.{IsPlayed};
-ghost use Rattle.symple_run.specs.SourceRuns.{IsSourceRun, NoRun};
-ghost use Rattle.symple_run.specs.Walks.{Performs, Plays, PlaysRun};
-ghost use Rattle.symple_words.specs.Lines.{RunOf};
+ghost use Rattle.symple_run.specs.Replays.{ReplaysGainTheSame};
+ghost use Rattle.symple_run.specs.RunWalks.{DoesTask};
+ghost use Rattle.symple_run.specs.SourceRuns.{IsSourceRun};
+ghost use Rattle.symple_words.specs.Lines.{RecordOf, RunOf};
 ghost use Rattle.symple_words.specs.Ranges.{AreMachines, IsGraphForm, IsWithin};
 ghost use Rattle.symple_words.specs.Views.{job_view, line_view, words_of};
 
-use crate::failure::{Failure, write_note};
-use crate::freedom::tell_freedom;
-use crate::machines::{parts_from, play_out};
-use crate::plan::put_plan;
-use crate::read::{load_graph, load_program};
-use crate::show::show_program;
-use crate::status::Status;
+use crate::following::replay;
+use crate::images::{load_keyed, play_imaged};
+use crate::machines::{play_out, started};
+use crate::recording::{record, renew};
+use crate::resumes::{find_start, later_of, play_resumed, stopped_runs_go_on};
+use crate::shown::show;
 use crate::table::put_table;
-use chunk_split::{Cuts, cuts_of};
-use cluster_run::Cluster;
+use check_point::images_read_back;
+use cluster_run::{choices_are_in_order, worlds_are_in_order};
+use command_steps::{
+    Failure, Status, load_both, show_plan, show_program, tell_freedom, write_note,
+};
 use delivery_log::chosen_runs_are_complete;
 use edge_reader::Edges;
-use graph_table::Table;
 use instrument::split_of;
 use order_free::order_free_programs;
 use outside::{Shelf, Sink, Source};
 use std::alloc::Global;
 use symple_face::{Restart, Site};
-use symple_words::{GraphForm, Job, Line, read_words};
-use vert_base::Want;
-use vert_base::limits::MACHINES;
+use symple_words::{Job, Line, read_words};
 use vert_tree::Typed;
 use word_kinds::literals_are_words;
-
-/// The chunks of a graph for so many machines.
-fn chunks(alloc: Global, edges: Edges, machines: u8) -> Result<Cuts<MACHINES>, Want>
-    requires { AreMachines machines }
-    ensures { IfOk result (λ cuts. cuts ≡ ends_of machines edges.vertices edges.list.items) }
-{
-    let table = Table::from_edges(alloc, edges)?;
-    Ok(cuts_of(&table, machines))
-}
 
 /// Runs the program on the graph and puts what is asked of the run.
 fn run<S: Site, H: Shelf, O: Sink>(
@@ -61,8 +55,7 @@ fn run<S: Site, H: Shelf, O: Sink>(
         shelf.old shelf.new out.old out.new result }
     ensures later { H.loads shelf.old ≤ H.loads shelf.new }
 {
-    let typed = load_program(alloc, shelf, &job.program)?;
-    let edges = load_graph(alloc, shelf, &job.form, &job.graph)?;
+    let (typed, edges) = load_both(alloc, shelf, &job.program, &job.form, &job.graph)?;
     play::<S, O>(alloc, job, machines, typed, edges, out)
 }
 
@@ -77,51 +70,65 @@ fn play<S: Site, O: Sink>(
     out: &mut O,
 ) -> Result<(), Failure>
     requires { AreMachines machines }
-    ensures { PlaysRun S.work (play_of (job_view job.now) machines typed.program
-        (graph_of_edges edges)) (sink_state O.held O.faults O.spare out.old)
+    ensures { DoesTask S.work (Plain (play_of (job_view job.now) machines typed.program
+        (graph_of_edges edges))) (sink_state O.held O.faults O.spare out.old)
         (sink_state O.held O.faults O.spare out.new) result }
 {
-    literals_are_words(&typed);
-    let parts = parts_from(alloc, split_of(typed), edges, machines, job.draws)?;
-    let mut cluster = Cluster::<S, MACHINES>::start(alloc, parts)?;
+    let mut cluster = started::<S>(alloc, typed, edges, machines, job.draws)?;
     play_out(&mut cluster, &job.lines, out)?;
     put_table(&cluster, out)?;
     Ok(())
 }
 
-/// Puts how the graph is cut and who works on which chunk in each step.
-fn plan<H: Shelf, O: Sink>(
+/// Runs the program on the graph, puts what is asked of the run and leaves images of it.
+fn run_imaged<S: Restart, H: Shelf, O: Sink>(
     alloc: Global,
-    name: &str,
-    form: &GraphForm,
+    job: &Job,
+    machines: u8,
+    image: &str,
+    shelf: &mut H,
+    out: &mut O,
+) -> Result<(), Failure>
+    requires form { IsGraphForm job.now.form }
+    requires few { AreMachines machines }
+    ensures order { Performs H.files H.loads H.stores O.held O.faults O.spare
+        (IsPlayed S.work) (image_order (job_view job.now) machines image.now)
+        shelf.old shelf.new out.old out.new result }
+    ensures later { H.loads shelf.old ≤ H.loads shelf.new }
+{
+    let keyed = load_keyed(alloc, job, machines, shelf)?;
+    play_imaged::<S, H, O>(alloc, job, machines, image, keyed, shelf, out)
+}
+
+/// Goes on with a run from the later of its two images, or from its beginning where there is none.
+fn resume<S: Restart, H: Shelf, O: Sink>(
+    alloc: Global,
+    job: &Job,
+    image: &str,
     machines: u8,
     shelf: &mut H,
     out: &mut O,
 ) -> Result<(), Failure>
-    requires form { IsGraphForm form.now }
+    requires form { IsGraphForm job.now.form }
     requires few { AreMachines machines }
     ensures order { Performs H.files H.loads H.stores O.held O.faults O.spare
-        NoRun (plan_order name.now form.now machines) shelf.old shelf.new out.old out.new result }
+        (IsPlayed S.work) (resume_order (job_view job.now) image.now machines)
+        shelf.old shelf.new out.old out.new result }
     ensures later { H.loads shelf.old ≤ H.loads shelf.new }
 {
-    let edges = load_graph(alloc, shelf, form, name)?;
-    lay_out(alloc, machines, edges, out)
+    images_read_back();
+    let keyed = load_keyed(alloc, job, machines, shelf)?;
+    literals_are_words(&keyed.typed);
+    let split = split_of(keyed.typed);
+    let vertices = keyed.edges.vertices;
+    let even = find_start(alloc, image, 0, &keyed.key, &split, vertices, shelf)?;
+    let odd = find_start(alloc, image, 1, &keyed.key, &split, vertices, shelf)?;
+    let start = later_of(even, odd);
+    play_resumed::<S, O>(alloc, job, machines, split, keyed.edges, start, out)
 }
 
-/// Puts the plan of a graph.
-fn lay_out<O: Sink>(alloc: Global, machines: u8, edges: Edges, out: &mut O) -> Result<(), Failure>
-    requires { AreMachines machines }
-    ensures { Plays (plan_text machines (graph_of_edges edges))
-        (sink_state O.held O.faults O.spare out.old)
-        (sink_state O.held O.faults O.spare out.new) result }
-{
-    let cuts = chunks(alloc, edges, machines)?;
-    put_plan(&cuts, out)?;
-    Ok(())
-}
-
-/// Runs a line of `run`. One with `--image` is not built yet.
-fn run_line<S: Site, H: Shelf, O: Sink>(
+/// Runs a line of `run`, with `--image` or without.
+fn run_line<S: Restart, H: Shelf, O: Sink>(
     alloc: Global,
     job: &Job,
     machines: u8,
@@ -138,13 +145,37 @@ fn run_line<S: Site, H: Shelf, O: Sink>(
     ensures later { H.loads shelf.old ≤ H.loads shelf.new }
 {
     match image {
-        Some(_) => Err(Failure::Words),
+        Some(image) => run_imaged::<S, H, O>(alloc, job, machines, image, shelf, out),
         None => run::<S, H, O>(alloc, job, machines, shelf, out),
     }
 }
 
+/// Runs a line of `record`. One with `--lossy` is not built yet.
+fn record_line<S: Site, H: Shelf, O: Sink>(
+    alloc: Global,
+    job: &Job,
+    schedule: &str,
+    machines: u8,
+    seed: u64,
+    lossy: bool,
+    shelf: &mut H,
+    out: &mut O,
+) -> Result<(), Failure>
+    requires form { IsGraphForm job.now.form }
+    requires few { AreMachines machines }
+    ensures order { Performs H.files H.loads H.stores O.held O.faults O.spare
+        (IsPlayed S.work) (asked (RecordOf (job_view job.now) schedule.now machines seed lossy))
+        shelf.old shelf.new out.old out.new result }
+    ensures later { H.loads shelf.old ≤ H.loads shelf.new }
+{
+    if lossy {
+        return Err(Failure::Command);
+    }
+    record::<S, H, O>(alloc, job, schedule, machines, seed, shelf, out)
+}
+
 /// Performs a line. One that is not built yet is refused as if it weren't there.
-fn perform<S: Site, H: Shelf, O: Sink>(
+fn perform<S: Restart, H: Shelf, O: Sink>(
     alloc: Global,
     line: &Line,
     shelf: &mut H,
@@ -165,15 +196,30 @@ fn perform<S: Site, H: Shelf, O: Sink>(
             graph,
             form,
             machines,
-        } => plan(alloc, graph, form, *machines, shelf, out),
+        } => show_plan(alloc, graph, form, *machines, shelf, out),
         Line::ShowLine { program } => show_program(alloc, program, shelf, out),
         Line::FreeLine { program } => tell_freedom(alloc, program, shelf, out),
+        Line::RecordLine {
+            job,
+            schedule,
+            machines,
+            seed,
+            lossy,
+        } => record_line::<S, H, O>(alloc, job, schedule, *machines, *seed, *lossy, shelf, out),
+        Line::ReplayLine { job, schedule } => replay::<S, H, O>(alloc, job, schedule, shelf, out),
+        Line::RenewLine { schedule, target } => renew(alloc, schedule, target, shelf),
+        Line::DemoLine { seed, machines } => show::<S, O>(alloc, *seed, *machines, out),
+        Line::ResumeLine {
+            job,
+            image,
+            machines,
+        } => resume::<S, H, O>(alloc, job, image, *machines, shelf, out),
         _ => Err(Failure::Command),
     }
 }
 
 /// Reads the words as a line and performs it.
-fn obey<S: Site, H: Shelf, O: Sink>(
+fn obey<S: Restart, H: Shelf, O: Sink>(
     alloc: Global,
     words: &[String],
     shelf: &mut H,
@@ -238,14 +284,41 @@ pub fn symple<S: Restart, H: Shelf, I: Source, O: Sink, N: Sink>(
         (sink_state O.held O.faults O.spare out.old)
         (sink_state O.held O.faults O.spare out.new) result }
 
-    // No command that there is stores a file or takes from the input.
-    ensures files { H.files shelf.new ≡ H.files shelf.old }
-    ensures stores { H.stores shelf.new ≡ H.stores shelf.old }
+    // What `record` kept is replayed to the same bytes.
+    ensures replays { ReplaysGainTheSame S.work }
+
+    // Under the two names of images stands what was stored last, up to the end or to a store that failed; and where
+    // they are cores, that is the images of the source run.
+    ensures images { TellsImages (IsPlayed S.work) (words_of words.now)
+        (outside (shelf_state H.files H.loads H.stores shelf.old)
+        (sink_state O.held O.faults O.spare out.old) (input_state I.left I.faults input.old))
+        (outside (shelf_state H.files H.loads H.stores shelf.new)
+        (sink_state O.held O.faults O.spare out.new) (input_state I.left I.faults input.new))
+        result }
+    ensures kept { S.is_core → TellsImages IsSourceRun (words_of words.now)
+        (outside (shelf_state H.files H.loads H.stores shelf.old)
+        (sink_state O.held O.faults O.spare out.old) (input_state I.left I.faults input.old))
+        (outside (shelf_state H.files H.loads H.stores shelf.new)
+        (sink_state O.held O.faults O.spare out.new) (input_state I.left I.faults input.new))
+        result }
+
+    // And what goes on from them puts the rest of what the whole run puts.
+    ensures stopped { EveryStopGoesOn }
+
+    // A file stays but under a name that the words let it store under, and the input is left alone.
+    ensures others { KeepsOthers (names_stored (words_of words.now)) (H.files shelf.old)
+        (H.files shelf.new) }
+    ensures quiet { names_stored (words_of words.now) ≡ []
+        → (H.files shelf.new ≡ H.files shelf.old) × (H.stores shelf.new ≡ H.stores shelf.old) }
     ensures input { input.new ≡ input.old }
     ensures loads { H.loads shelf.old ≤ H.loads shelf.new }
 {
     order_free_programs();
+    images_read_back();
+    stopped_runs_go_on();
     chosen_runs_are_complete::<S>();
+    worlds_are_in_order::<S>();
+    choices_are_in_order::<S>();
     match obey::<S, H, O>(alloc, words, shelf, out) {
         Ok(()) => Status::Done,
         Err(failure) => {

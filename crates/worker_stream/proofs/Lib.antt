@@ -12,3 +12,10 @@ pub mod BackLaws
 pub mod FillLaws
 pub mod FrontLaws
 pub mod SentLaws
+pub mod WalkLaws
+pub mod StateWalks
+pub mod WorkerLaws
+pub mod StandLaws
+pub mod ServeLaws
+pub mod ShortLaws
+pub mod PromptLaws

@@ -1,5 +1,5 @@
 -- What stands at the front of the bytes that a machine reads.
-use Rattle.std.specs.Prelude.{◌≡◌, ℕ, ◌==◌, ◌<◌, ◌≤◌, nat_lt, if◌then◌else◌, Option, Some, None, List, length, take, drop, Result, Ok, Err}
+use Rattle.std.specs.Prelude.{◌≡◌, ℕ, ◌+◌, ◌-◌, ◌==◌, ◌<◌, ◌≤◌, nat_lt, min, if◌then◌else◌, Option, Some, None, List, [], ◌++◌, length, take, drop, Result, Ok, Err}
 use Rattle.std.specs.declared.alloc.Global.{Global}
 use Rattle.std.specs.declared.vec.Vec.{Vec}
 use Rattle.vert_base.specs.declared.message.Message.{Message}
@@ -14,66 +14,95 @@ use Rattle.dep_message.specs.Messages.{header_in}
 use Rattle.worker_stream.specs.declared.reading.ReadFault.{ReadFault}
 use Rattle.worker_stream.specs.declared.reading.ReadFault.TheVariants.{Ended, Faulty, Source, Want}
 
--- a message and the bytes behind it
-pub record Front : Type 0 where
-  pub letter : Letter
-  pub rest : List ℕ
+-- no byte, a message with the fault M1 to M4 of this number, or a message and the bytes behind it
+pub data AtFront : Type 0 where
+  NoByte : AtFront
+  Wrong : (code : ℕ) → AtFront
+  There : (letter : Letter) (rest : List ℕ) → AtFront
 
 -- M1 where the body ends early, and M4 where it doesn't fit
-abbrev pub front_with_body : Name → BodyShape → ℕ → List ℕ → Result Front ReadFault
+abbrev pub front_with_body : Name → BodyShape → ℕ → List ℕ → AtFront
 front_with_body x shape size bytes =
-    if nat_lt (length bytes) size then Err (Faulty 1)
-    else if is_fit shape (take size bytes)
-    then Ok (record { letter = record { name = x; body = take size bytes }; rest = drop size bytes })
-    else Err (Faulty 4)
+    if nat_lt (length bytes) size then Wrong 1
+    else if is_fit shape (take size bytes) then There (record { name = x; body = take size bytes }) (drop size bytes)
+    else Wrong 4
 
 -- M3 where the message has no form, and M4 where the length passes the longest of it
-abbrev pub front_with_form : Name → Option BodyShape → ℕ → List ℕ → Result Front ReadFault
-front_with_form x None size bytes = Err (Faulty 3)
+abbrev pub front_with_form : Name → Option BodyShape → ℕ → List ℕ → AtFront
+front_with_form x None size bytes = Wrong 3
 front_with_form x (Some shape) size bytes =
-    if nat_lt (longest_of shape) size then Err (Faulty 4) else front_with_body x shape size bytes
+    if nat_lt (longest_of shape) size then Wrong 4 else front_with_body x shape size bytes
 
 -- M2 where the kind is none, and M3 where the kind hasn't the step or the half
-abbrev pub front_with_name : (Name → Option BodyShape) → Option Name → ℕ → List ℕ → Result Front ReadFault
-front_with_name forms None size bytes = Err (Faulty 2)
+abbrev pub front_with_name : (Name → Option BodyShape) → Option Name → ℕ → List ℕ → AtFront
+front_with_name forms None size bytes = Wrong 2
 front_with_name forms (Some x) size bytes =
-    if is_proper x then front_with_form x (forms x) size bytes else Err (Faulty 3)
+    if is_proper x then front_with_form x (forms x) size bytes else Wrong 3
 
 -- the message at the front, where the messages have these forms, or its first fault of M6 and M1 to M4
-abbrev pub front_of : (Name → Option BodyShape) → List ℕ → Result Front ReadFault
+abbrev pub front_of : (Name → Option BodyShape) → List ℕ → AtFront
 front_of forms bytes =
-    if length bytes == 0 then Err Ended
-    else if nat_lt (length bytes) 13 then Err (Faulty 1)
+    if length bytes == 0 then NoByte
+    else if nat_lt (length bytes) 13 then Wrong 1
     else front_with_name forms (header_in (take 13 bytes)).name (header_in (take 13 bytes)).size (drop 13 bytes)
 
--- the first bytes were taken, and stand in a buffer
-pub record HasTaken (size : ℕ) (bytes taken : List ℕ) (left : Option (List ℕ)) : Type 0 where
-  pub long : size ≤ length bytes
-  pub front : taken ≡ take size bytes
-  pub rest : left ≡ Some (drop size bytes)
+-- how many bytes of a body are read, where so many are left: none where the header is at fault
+abbrev pub read_with_form : Option BodyShape → ℕ → ℕ → ℕ
+read_with_form None size left = 0
+read_with_form (Some shape) size left = if nat_lt (longest_of shape) size then 0 else min size left
 
--- what reading a header answers, given the bytes that were left
-abbrev pub ReadsHeader : List ℕ → Option (List ℕ) → Result Header ReadFault → Type 0
-ReadsHeader bytes left (Ok header) =
-    (13 ≤ length bytes) × (header ≡ header_in (take 13 bytes)) × (left ≡ Some (drop 13 bytes))
-ReadsHeader bytes left (Err Ended) = length bytes ≡ 0
-ReadsHeader bytes left (Err (Faulty code)) = (code ≡ 1) × (0 < length bytes) × (length bytes < 13)
-ReadsHeader bytes left (Err Source) = Unit {0}
-ReadsHeader bytes left (Err Want) = ⊥
+abbrev pub read_with_name : (Name → Option BodyShape) → Option Name → ℕ → ℕ → ℕ
+read_with_name forms None size left = 0
+read_with_name forms (Some x) size left = if is_proper x then read_with_form (forms x) size left else 0
+
+-- how many bytes are read of the message at the front: its header, and then its body
+abbrev pub read_of : (Name → Option BodyShape) → List ℕ → ℕ
+read_of forms bytes =
+    if nat_lt (length bytes) 13 then length bytes
+    else 13 + read_with_name forms (header_in (take 13 bytes)).name (header_in (take 13 bytes)).size
+    (length bytes - 13)
+
+-- the bytes that are left, as far as the source tells them
+abbrev pub told : Option (List ℕ) → List ℕ
+told None = []
+told (Some bytes) = bytes
+
+-- what reading a header answers, given the bytes taken and those that are left
+abbrev pub ReadsHeader : List ℕ → List ℕ → Result Header ReadFault → Type 0
+ReadsHeader front rest (Ok header) = (length front ≡ 13) × (header ≡ header_in front)
+ReadsHeader front rest (Err Ended) = (length front ≡ 0) × (rest ≡ [])
+ReadsHeader front rest (Err (Faulty code)) = (code ≡ 1) × (0 < length front) × (length front < 13) × (rest ≡ [])
+ReadsHeader front rest (Err Source) = length front ≤ 13
+ReadsHeader front rest (Err Want) = ⊥
 
 -- what reading so many bytes of a body answers
-abbrev pub ReadsBody : ℕ → List ℕ → Option (List ℕ) → Result (Vec ℕ Global) ReadFault → Type 0
-ReadsBody size bytes left (Ok body) = HasTaken size bytes body.items left
-ReadsBody size bytes left (Err Ended) = ⊥
-ReadsBody size bytes left (Err (Faulty code)) = (code ≡ 1) × (length bytes < size)
-ReadsBody size bytes left (Err Source) = Unit {0}
-ReadsBody size bytes left (Err Want) = Unit {0}
+abbrev pub ReadsBody : ℕ → List ℕ → List ℕ → Result (Vec ℕ Global) ReadFault → Type 0
+ReadsBody size front rest (Ok body) = (length front ≡ size) × (body.items ≡ front)
+ReadsBody size front rest (Err Ended) = ⊥
+ReadsBody size front rest (Err (Faulty code)) = (code ≡ 1) × (length front < size) × (rest ≡ [])
+ReadsBody size front rest (Err Source) = length front ≤ size
+ReadsBody size front rest (Err Want) = length front ≡ 0
 
--- what reading a message answers: the front of the bytes, and what is left
-abbrev pub ReadsMessage : (Name → Option BodyShape) → List ℕ → Option (List ℕ) → Result Message ReadFault → Type 0
-ReadsMessage forms bytes left (Ok msg) = (rest : List ℕ) × (left ≡ Some rest) ×
-    (front_of forms bytes ≡ Ok (record { letter = letter_of msg; rest = rest }))
-ReadsMessage forms bytes left (Err Ended) = front_of forms bytes ≡ Err Ended
-ReadsMessage forms bytes left (Err (Faulty code)) = front_of forms bytes ≡ Err (Faulty code)
-ReadsMessage forms bytes left (Err Source) = Unit {0}
-ReadsMessage forms bytes left (Err Want) = Unit {0}
+-- the message was read of these bytes, whatever stands behind them
+pub record IsRead (forms : Name → Option BodyShape) (front : List ℕ) (letter : Letter) (rest : List ℕ) : Type 0 where
+  pub there : front_of forms (front ++ rest) ≡ There letter rest
+  pub size : read_of forms (front ++ rest) ≡ length front
+
+-- the message has these bytes, which its header can tell
+pub record IsWhole (forms : Name → Option BodyShape) (front : List ℕ) (letter : Letter) : Type 0 where
+  pub long : length front ≡ 13 + length letter.body
+  pub small : length letter.body < 4294967296
+  pub read : (behind : List ℕ) → IsRead forms front letter behind
+
+-- the message has a fault, which these bytes and those that are left show
+pub record IsWrong (forms : Name → Option BodyShape) (front rest : List ℕ) (code : ℕ) : Type 0 where
+  pub wrong : front_of forms (front ++ rest) ≡ Wrong code
+  pub size : read_of forms (front ++ rest) ≡ length front
+
+-- what reading a message answers, given the bytes taken and those that are left
+abbrev pub ReadsMessage : (Name → Option BodyShape) → List ℕ → List ℕ → Result Message ReadFault → Type 0
+ReadsMessage forms front rest (Ok msg) = IsWhole forms front (letter_of msg)
+ReadsMessage forms front rest (Err Ended) = (front_of forms (front ++ rest) ≡ NoByte) × (length front ≡ 0)
+ReadsMessage forms front rest (Err (Faulty code)) = IsWrong forms front rest code
+ReadsMessage forms front rest (Err Source) = length front ≤ read_of forms (front ++ rest)
+ReadsMessage forms front rest (Err Want) = length front ≤ read_of forms (front ++ rest)

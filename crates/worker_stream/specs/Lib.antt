@@ -7,3 +7,9 @@ pub mod Numbers
 pub mod Back
 pub mod Fronts
 pub mod Sent
+pub mod Worker
+pub mod Serving
+pub mod Walks
+pub mod Steps
+pub mod Laws
+pub mod Prompt

@@ -1,11 +1,10 @@
 // Messages from a source of bytes.
-ghost use Rattle.std.specs.Prelude.{◌≡◌, ◌≤◌, ◌<◌, [], ℕ, List, length, take, Some, Err, IfErr, IfOk, OnOk, OnErr};
+ghost use Rattle.std.specs.Prelude.{◌≡◌, ◌≢◌, ◌≤◌, ◌<◌, [], ℕ, List, length, min, take, Some, Err, IfErr, IfOk, OnOk, OnErr};
 ghost use Rattle.vert_base.specs.HeaderBytes.{is_proper};
 ghost use Rattle.outside.specs.Bytes.{led_by};
 ghost use Rattle.outside.specs.Causes.{Rose};
 ghost use Rattle.dep_message.specs.Messages.{forms_of};
-ghost use Rattle.worker_stream.specs.declared.reading.ReadFault.TheVariants.{Faulty};
-ghost use Rattle.worker_stream.specs.Fronts.{ReadsBody, ReadsHeader, ReadsMessage, front_with_body, front_with_name};
+ghost use Rattle.worker_stream.specs.Fronts.{ReadsBody, ReadsHeader, ReadsMessage, Wrong, front_with_body, front_with_name, read_with_name, told};
 
 use dep_message::{HEADER, Header, fits};
 use outside::{Source, SourceFault};
@@ -28,11 +27,10 @@ pub(crate) fn fill<I: Source>(input: &mut I, into: &mut [u8]) -> Result<usize, S
     ensures within { IfOk result (λ n. n ≤ length into.old) }
     ensures taken { IfOk result (λ n.
         I.left input.old ≡ led_by (take n into.new) (I.left input.new)) }
-    ensures whole { IfOk result (λ n. n < length into.old → (rest : List ℕ) →
-        I.left input.new ≡ Some rest → rest ≡ []) }
+    ensures whole { IfOk result (λ n. n < length into.old → told (I.left input.new) ≡ []) }
     ensures counted { OnOk result (I.faults input.new ≡ I.faults input.old) }
-    ensures lost { OnErr result ((front : List ℕ) ×
-        (I.left input.old ≡ led_by front (I.left input.new))) }
+    ensures lost { OnErr result ((front : List ℕ) × (length front ≤ length into.old)
+        × (I.left input.old ≡ led_by front (I.left input.new))) }
     ensures failed { OnErr result (Rose (I.faults input.old) (I.faults input.new)) }
 {
     let mut count = 0;
@@ -59,8 +57,12 @@ fn form_of(name: &Name, size: u32, part: &Part) -> Result<BodyShape, u8>
     ensures form { (bytes : List ℕ) → IfOk result (λ shape.
         front_with_name (forms_of part.now) (Some name.now) size bytes
         ≡ front_with_body name.now shape size bytes) }
+    ensures read { (left : ℕ) → IfOk result (λ _.
+        read_with_name (forms_of part.now) (Some name.now) size left ≡ min size left) }
     ensures fault { (bytes : List ℕ) → IfErr result (λ code.
-        front_with_name (forms_of part.now) (Some name.now) size bytes ≡ Err (Faulty code)) }
+        front_with_name (forms_of part.now) (Some name.now) size bytes ≡ Wrong code) }
+    ensures unread { (left : ℕ) → OnErr result
+        (read_with_name (forms_of part.now) (Some name.now) size left ≡ 0) }
 {
     if !is_proper(name) {
         return Err(3);
@@ -79,10 +81,9 @@ fn form_of(name: &Name, size: u32, part: &Part) -> Result<BodyShape, u8>
 
 // The header at the front of the input.
 fn read_header<I: Source>(input: &mut I) -> Result<Header, ReadFault>
-    ensures answer { (bytes : List ℕ) → I.left input.old ≡ Some bytes →
-        ReadsHeader bytes (I.left input.new) result }
-    ensures lost { (front : List ℕ) × (I.left input.old ≡ led_by front (I.left input.new)) }
-    ensures counted { OnOk result (I.faults input.new ≡ I.faults input.old) }
+    ensures answer { (front : List ℕ) × (I.left input.old ≡ led_by front (I.left input.new))
+        × ReadsHeader front (told (I.left input.new)) result }
+    ensures counted { result ≢ Err ReadFault.Source → I.faults input.new ≡ I.faults input.old }
     ensures failed { result ≡ Err ReadFault.Source →
         Rose (I.faults input.old) (I.faults input.new) }
 {
@@ -102,10 +103,10 @@ fn read_header<I: Source>(input: &mut I) -> Result<Header, ReadFault>
 
 // So many bytes at the front of the input.
 fn read_body<I: Source>(alloc: Global, input: &mut I, size: u32) -> Result<Vec<u8>, ReadFault>
-    ensures answer { (bytes : List ℕ) → I.left input.old ≡ Some bytes →
-        ReadsBody size bytes (I.left input.new) result }
-    ensures lost { (front : List ℕ) × (I.left input.old ≡ led_by front (I.left input.new)) }
-    ensures counted { OnOk result (I.faults input.new ≡ I.faults input.old) }
+    ensures answer { (front : List ℕ) × (I.left input.old ≡ led_by front (I.left input.new))
+        × ReadsBody size front (told (I.left input.new)) result }
+    ensures small { size < 4294967296 }
+    ensures counted { result ≢ Err ReadFault.Source → I.faults input.new ≡ I.faults input.old }
     ensures failed { result ≡ Err ReadFault.Source →
         Rose (I.faults input.old) (I.faults input.new) }
 {
@@ -131,10 +132,9 @@ pub(crate) fn read_message<I: Source>(
     input: &mut I,
     part: &Part,
 ) -> Result<Message, ReadFault>
-    ensures answer { (bytes : List ℕ) → I.left input.old ≡ Some bytes →
-        ReadsMessage (forms_of part.now) bytes (I.left input.new) result }
-    ensures lost { (front : List ℕ) × (I.left input.old ≡ led_by front (I.left input.new)) }
-    ensures counted { OnOk result (I.faults input.new ≡ I.faults input.old) }
+    ensures answer { (front : List ℕ) × (I.left input.old ≡ led_by front (I.left input.new))
+        × ReadsMessage (forms_of part.now) front (told (I.left input.new)) result }
+    ensures counted { result ≢ Err ReadFault.Source → I.faults input.new ≡ I.faults input.old }
     ensures failed { result ≡ Err ReadFault.Source →
         Rose (I.faults input.old) (I.faults input.new) }
 {

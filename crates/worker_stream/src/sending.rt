@@ -1,10 +1,9 @@
 // Messages into a sink.
-ghost use Rattle.std.specs.Prelude.{◌≡◌, ◌<◌, ◌^◌, Err, OnErr, OnOk, length, map};
+ghost use Rattle.std.specs.Prelude.{map};
 ghost use Rattle.std.specs.List.{All};
 ghost use Rattle.vert_base.specs.Letters.{letter_of};
-ghost use Rattle.outside.specs.Bytes.{GainedPart, gained};
-ghost use Rattle.outside.specs.Causes.{Rose};
-ghost use Rattle.worker_stream.specs.Sent.{spelled_letter, spelled_letters};
+ghost use Rattle.dep_message.specs.Laws.{AreBytes};
+ghost use Rattle.worker_stream.specs.Sent.{IsShort, Sends, spelled_letter, spelled_letters};
 
 use array_text::put_all;
 use dep_message::encode;
@@ -19,16 +18,20 @@ pub(crate) enum SendFault {
     Want,
 }
 
+// The numbers of bytes are below 256.
+fn are_bytes(bytes: &[u8])
+    ensures { AreBytes bytes.now }
+{
+    let _count = bytes.len();
+}
+
 // Writes the spelling of a message.
 fn put_message<O: Sink>(alloc: Global, out: &mut O, msg: &Message) -> Result<(), SendFault>
-    requires { length msg.now.body.items < 2 ^ 32 }
-    ensures whole { OnOk result (O.held out.new
-        ≡ gained (O.held out.old) (spelled_letter (letter_of msg.now))) }
-    ensures part { OnErr result (GainedPart (O.held out.old) (O.held out.new)
-        (spelled_letter (letter_of msg.now))) }
-    ensures counted { OnOk result (O.faults out.new ≡ O.faults out.old) }
-    ensures failed { result ≡ Err SendFault.Sink → Rose (O.faults out.old) (O.faults out.new) }
+    requires { IsShort (letter_of msg.now) }
+    ensures { Sends O.held O.faults O.spare out.old out.new
+        (spelled_letter (letter_of msg.now)) result }
 {
+    are_bytes(&msg.body);
     let bytes = match encode(alloc, msg) {
         Ok(bytes) => bytes,
         Err(_) => return Err(SendFault::Want),
@@ -45,16 +48,15 @@ pub(crate) fn put_messages<O: Sink>(
     out: &mut O,
     messages: &[Message],
 ) -> Result<(), SendFault>
-    requires { All (λ msg. length msg.body.items < 2 ^ 32) messages.now }
-    ensures whole { OnOk result (O.held out.new
-        ≡ gained (O.held out.old) (spelled_letters (map letter_of messages.now))) }
-    ensures part { OnErr result (GainedPart (O.held out.old) (O.held out.new)
-        (spelled_letters (map letter_of messages.now))) }
-    ensures counted { OnOk result (O.faults out.new ≡ O.faults out.old) }
-    ensures failed { result ≡ Err SendFault.Sink → Rose (O.faults out.old) (O.faults out.new) }
+    requires { All (λ msg. IsShort (letter_of msg)) messages.now }
+    ensures { Sends O.held O.faults O.spare out.old out.new
+        (spelled_letters (map letter_of messages.now)) result }
 {
     for msg in messages {
-        put_message(alloc, out, msg)?;
+        match put_message(alloc, out, msg) {
+            Ok(()) => {}
+            Err(fault) => return Err(fault),
+        }
     }
     Ok(())
 }

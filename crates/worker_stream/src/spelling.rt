@@ -2,17 +2,18 @@
 ghost use Rattle.std.specs.Prelude.{◌≡◌, ◌++◌, ◌<◌, ◌≤◌, ◌^◌, IfOk, OnOk, length};
 ghost use Rattle.std.specs.List.{All, flat_map};
 ghost use Rattle.program_reader.specs.Accepted.{Says};
-ghost use Rattle.symple_face.specs.Lawful.{AreCounts};
+ghost use Rattle.symple_face.specs.Lawful.{AreCounts, CanRun};
 ghost use Rattle.symple_face.specs.PartViews.{plain_of};
 ghost use Rattle.vert_base.specs.HeaderBytes.{four_bytes};
 ghost use Rattle.worker_stream.specs.Back.{IsWritable};
 ghost use Rattle.worker_stream.specs.PartFiles.{behind_count, degree_bytes, edge_bytes, eight_bytes, head_bytes, spelled_part};
 
 use crate::sections::MAGIC;
+use instrument::Split;
 use std::alloc::{AllocError, Global};
 use symple_face::{Degree, Part};
 use vert_base::{Edge, Want};
-use word_kinds::edges_have_weights;
+use word_kinds::{edges_have_weights, literals_are_words};
 
 #[tactic(auto, unfolding(vert_base::specs::HeaderBytes::four_bytes))]
 fn push_four(out: &mut Vec<u8>, number: u32) -> Result<(), AllocError>
@@ -145,6 +146,19 @@ fn degrees_have_counts(degrees: &[Degree])
     for degree in degrees {
         counts_fit(degree);
     }
+}
+
+/// Reading a part tells that its machine can run.
+pub(crate) fn tells_can_run(part: &Part)
+    ensures { CanRun (plain_of part.now) part.now.split.value }
+{
+    let split: &Split = &part.split;
+    literals_are_words(&split.program);
+    edges_have_weights(&part.scan);
+    edges_have_weights(&part.push);
+    degrees_have_counts(&part.degrees);
+    let _ends = part.cuts.ends();
+    let _machine = part.at.number();
 }
 
 // How many bytes the file has.

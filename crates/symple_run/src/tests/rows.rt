@@ -340,15 +340,9 @@ symple: unknown command
 $
 bfs diamond Usage
 symple: unknown command
-$ demo 1
-bfs diamond Usage
-symple: unknown command
 $ record p g s
 bfs diamond Usage
 symple: bad arguments
-$ record p g s --machines 1 --seed 1
-bfs diamond Usage
-symple: unknown command
 $ run p g
 bfs diamond Usage
 symple: bad arguments
@@ -428,7 +422,8 @@ show p
 free p";
 
 /// Runs with `--log`: behind `$` the words; a line with the program under `p`, the graph under `g`, and how many
-/// events of each kind there are; the lines that are among the others; behind a line `=` what is left without events.
+/// events of each kind there are; the lines that are among the others, and behind `!` what is in none of them; behind a
+/// line `=` what is left without events.
 pub(super) static LOGS: &str = "$ run p g --machines 2 --log
 bfs diamond 34 30
 take dep 1 0 0 0 1 0201000000000000010100000002
@@ -452,12 +447,34 @@ vertex alive
 3 false
 $ run p g --machines 3 --log --rounds
 sum weighted-cycle 29 26
+!take dep
 =
 round 1 dense 3 4 4
 vertex mass
 0 -3
 1 5
 2 11
+$ run p g --machines 2 --log
+first0 diamond 3 2
+take tally 0 1 0 05000000000000010018000000020000000000000001000000000000000000000000000000
+take verdict 1 0 1 0601000000000000010100000000
+!take dep
+=
+vertex pick
+0 -1
+1 -1
+2 -1
+3 -1
+$ run p g --machines 2 --log
+halve path 29 18
+take tally 0 1 0 050000000000000100200000000100000000000000000000000000000000000000000000000100000000000000
+take verdict 1 0 1 06010000000000000109000000010300000000000000
+!take dep
+=
+vertex c
+0 0
+1 0
+2 1
 $ run p g --machines 64 --log
 first0 diamond 65 126
 =

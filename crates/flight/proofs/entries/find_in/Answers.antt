@@ -8,15 +8,15 @@ use Rattle.flight.proofs.entries.find_in.Goals as goal
 
 pub returns-in_err-entry-clause-none : goal.returns-in_err-entry-clause-none
 returns-in_err-entry-clause-none c =
-    let past : length c.args.entries.now ≤ c.place_of-at.result = search rules in
+    let past : length c.args.entries.now.items ≤ c.place_of-at.result = search rules in
     rw c.from_residual.ensures
-    (nowhere c.args.name.now c.args.entries.now c.place_of-at.result c.requires c.place_of-at.ensures.value
+    (nowhere c.args.name.now c.args.entries.now.items c.place_of-at.result c.requires c.place_of-at.ensures.value
     (λ other within. absurd (omega (arith, past, within))))
 
 pub returns-then-is_before-clause-none : goal.returns-then-is_before-clause-none
 returns-then-is_before-clause-none c =
     let x = c.args.name.now in
-    let es : List Entry = c.args.entries.now in
+    let es : List Entry = c.args.entries.now.items in
     let is : c.in_ok-entry.entry.now ≡ slice_index_or es c.place_of-at.result c.in_ok-entry.entry.now = search rules in
     let before : is_before x c.in_ok-entry.entry.now.name ≡ true = search rules in
     nowhere x es c.place_of-at.result c.requires c.place_of-at.ensures.value (λ other within.
@@ -26,7 +26,7 @@ returns-then-is_before-clause-none c =
 pub returns-else-is_before-clause-some : goal.returns-else-is_before-clause-some
 returns-else-is_before-clause-some c =
     let x = c.args.name.now in
-    let es : List Entry = c.args.entries.now in
+    let es : List Entry = c.args.entries.now.items in
     let within : c.place_of-at.result < length es = search rules in
     let is : c.in_ok-entry.entry.now ≡ slice_index_or es c.place_of-at.result c.in_ok-entry.entry.now = search rules in
     let after : is_before x c.in_ok-entry.entry.now.name ≡ false = search rules in

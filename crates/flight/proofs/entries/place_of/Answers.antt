@@ -1,4 +1,4 @@
-use Rattle.std.proofs.Common.{rules, of_calls}
+use Rattle.std.proofs.Common.{◌≤◌, length, rules, arith, of_calls}
 use Rattle.std.proofs.lemmas.Fn.{always_returns_same}
 use Rattle.vert_base.specs.Names.{is_before}
 use Rattle.flight.specs.declared.entries.Entry.{Entry}
@@ -10,5 +10,6 @@ returns-clause-value c = λ messages.
     let x = c.args.name.now in
     let point = c.partition_point.ensures.partitioned (λ (e : Entry). is_before e.name x)
     (always_returns_same _ _ _ (λ a r f k. search (rules, of_calls)))
-    (parted messages x c.args.entries.now (c.requires messages)) in
-    point_is messages x c.args.entries.now c.partition_point.result c.partition_point.ensures.bound point
+    (parted messages x c.args.entries.now.items (c.requires messages)) in
+    let within : c.partition_point.result ≤ length c.args.entries.now.items = omega arith in
+    point_is messages x c.args.entries.now.items c.partition_point.result within point

@@ -1,7 +1,7 @@
 use Rattle.std.proofs.Common.{◌≡◌, false}
 use Rattle.symple_face.specs.Cluster.{events_left}
 use Rattle.symple_run.specs.Played.{LeadsOn}
-use Rattle.symple_run.specs.States.{sink_state}
+use Rattle.command_steps.specs.States.{sink_state}
 use Rattle.symple_run.proofs.machines.play_out.Given as goal
 
 -- no Want has ended the machines, and a run that goes on here goes on from the start

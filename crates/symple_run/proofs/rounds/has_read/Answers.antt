@@ -1,4 +1,4 @@
-use Rattle.std.proofs.Common.{◌≡◌, ◌<◌, ◌≤◌, ℕ, length, map, ap, ◌∙◌, arith}
+use Rattle.std.proofs.Common.{◌≡◌, ◌<◌, ◌≤◌, length, ap, ◌∙◌, arith}
 use Rattle.circulant_plan.specs.Ring.{order_of}
 use Rattle.symple_run.proofs.ReadTurns.{read_none, read_none_more, read_some, read_there}
 use Rattle.symple_run.proofs.rounds.has_read.Goals as goal

@@ -1,4 +1,4 @@
-use Rattle.std.proofs.Common.{◌≡◌, ◌<◌, ◌≤◌, List, ℕ, ◌++◌, codes, length, sym, ap, subst, ◌∙◌, arith}
+use Rattle.std.proofs.Common.{◌≡◌, ◌<◌, List, ℕ, ◌++◌, codes, sym, ap, subst, ◌∙◌, arith}
 use Rattle.array_text.specs.Reads.{sources_text}
 use Rattle.array_text.proofs.WritesLaws.{writes_failed, writes_nothing, writes_same, writes_then}
 use Rattle.chunk_split.specs.Chunks.{Holds, vertices_of}

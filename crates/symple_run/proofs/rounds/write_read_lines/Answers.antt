@@ -1,4 +1,4 @@
-use Rattle.std.proofs.Common.{◌≡◌, ◌<◌, ◌≤◌, ◌+◌, ℕ, drop, length, map, subst, arith}
+use Rattle.std.proofs.Common.{◌<◌, ◌≤◌, ◌+◌, ℕ, drop, length, map, subst, arith}
 use Rattle.array_text.proofs.WritesLaws.{writes_failed, writes_nothing, writes_same, writes_then}
 use Rattle.schedule_laws.specs.Layout.{reads_in, vertices_in}
 use Rattle.schedule_laws.specs.Texts.{read_lines}

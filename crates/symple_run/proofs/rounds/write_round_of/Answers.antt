@@ -1,4 +1,4 @@
-use Rattle.std.proofs.Common.{List, [], ℕ, map, ap, sym, ◌∙◌, arith}
+use Rattle.std.proofs.Common.{[], map, ap, sym, ◌∙◌, arith}
 use Rattle.std.specs.Prelude.{if◌then◌else◌}
 use Rattle.array_text.proofs.WritesLaws.{writes_failed, writes_same, writes_then}
 use Rattle.schedule_laws.specs.Layout.{reads_in, vertices_in}

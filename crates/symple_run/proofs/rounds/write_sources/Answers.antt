@@ -1,10 +1,10 @@
-use Rattle.std.proofs.Common.{◌≡◌, ◌<◌, ◌≤◌, ℕ, length, map, sym, ap, ◌∙◌, arith}
+use Rattle.std.proofs.Common.{◌≡◌, ◌<◌, ◌≤◌, length, ap, ◌∙◌, arith}
 use Rattle.std.specs.List.{range_with_len}
 use Rattle.array_text.specs.Reads.{sources_text}
 use Rattle.array_text.proofs.WritesLaws.{writes_same}
 use Rattle.circulant_plan.specs.Ring.{order_of}
 use Rattle.symple_run.proofs.ReadTurns.{read_there, step_text, steps_text}
-use Rattle.symple_run.proofs.TextLaws.{all_numbers, all_put, below_numbers, number_at, one_failed, one_more}
+use Rattle.command_steps.proofs.TextLaws.{all_numbers, all_put, below_numbers, number_at, one_failed, one_more}
 use Rattle.symple_run.proofs.rounds.write_sources.Goals as goal
 
 pub returns-in_err-write_reads : goal.returns-in_err-write_reads

@@ -1,4 +1,4 @@
-use Rattle.symple_run.proofs.FlushLaws.{put_failed, writes_flushed}
+use Rattle.command_steps.proofs.FlushLaws.{put_failed, writes_flushed}
 use Rattle.symple_run.proofs.table.put_table.Goals as goal
 
 pub returns-in_err-write_table : goal.returns-in_err-write_table

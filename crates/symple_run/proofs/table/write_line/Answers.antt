@@ -1,11 +1,10 @@
-use Rattle.std.proofs.Common.{◌≡◌, ◌<◌, List, ℕ, length, sym, ap, subst, ◌∙◌, arith}
+use Rattle.std.proofs.Common.{◌≡◌, ◌<◌, List, ℕ, sym, ap, subst, ◌∙◌, arith}
 use Rattle.array_text.specs.Tables.{row_text}
 use Rattle.array_text.proofs.WritesLaws.{writes_same}
 use Rattle.chunk_split.specs.Chunks.{Holds, vertices_of}
 use Rattle.instrument.specs.declared.split.Split.{Split}
 use Rattle.symple_face.specs.Parts.{PlainPart}
-use Rattle.symple_run.proofs.WorldLaws.{IsOfRun, ends_in_is, line_is, of_run, own_lies, owner_is, row_is, some_sites, vertex_count}
-use Rattle.vert_base.specs.declared.value.Row.{Row}
+use Rattle.symple_run.proofs.WorldLaws.{ends_in_is, line_is, of_run, own_lies, owner_is, row_is, some_sites, vertex_count}
 use Rattle.symple_run.proofs.table.write_line.Goals as goal
 
 pub site-requires : goal.site-requires

@@ -1,4 +1,4 @@
-use Rattle.std.proofs.Common.{◌≡◌, List, ℕ, ◌++◌, sym, ap, ◌∙◌, arith}
+use Rattle.std.proofs.Common.{◌≡◌, ◌++◌, ap, ◌∙◌, arith}
 use Rattle.array_text.specs.Tables.{header_text}
 use Rattle.array_text.proofs.WritesLaws.{writes_failed, writes_same, writes_then}
 use Rattle.instrument.specs.declared.split.Split.{Split}

@@ -1,6 +1,6 @@
 use Rattle.std.proofs.lemmas.Result.{err_from_is_err_and}
 use Rattle.symple_run.specs.Played.{IsPlayed}
-use Rattle.symple_run.proofs.WalkLaws.{line_obeyed, words_refused}
+use Rattle.command_steps.proofs.WalkLaws.{line_obeyed, words_refused}
 use Rattle.symple_words.specs.Views.{line_view, words_of}
 use Rattle.symple_run.proofs.top.obey.Goals as goal
 

@@ -1,12 +1,13 @@
 use Rattle.std.proofs.Common.{List, ℕ, sym, ap, ◌∙◌}
-use Rattle.symple_run.specs.Commands.{asked, free_order, plan_order, show_order}
+use Rattle.command_steps.specs.Commands.{asked, demo_order, free_order, plan_order, renew_order, replay_order, resume_order, show_order}
 use Rattle.symple_run.specs.Played.{IsPlayed}
-use Rattle.symple_run.specs.States.{Left, Outside, outside, shelf_state, sink_state}
-use Rattle.symple_run.specs.Walks.{fault_after}
-use Rattle.symple_run.proofs.LeavesLaws.{unplayed}
-use Rattle.symple_run.proofs.WalkLaws.{as_order}
+use Rattle.command_steps.specs.States.{Left, Outside, outside, shelf_state, sink_state}
+use Rattle.command_steps.specs.Walks.{fault_after}
+use Rattle.command_steps.proofs.LeavesLaws.{unplayed}
+use Rattle.command_steps.proofs.WalkLaws.{as_order}
 use Rattle.symple_words.specs.declared.line.Line.{Line}
-use Rattle.symple_words.specs.Views.{line_view}
+use Rattle.symple_words.specs.Lines.{RecordOf}
+use Rattle.symple_words.specs.Views.{job_view, line_view}
 use Rattle.symple_run.proofs.top.perform.Goals as goal
 
 pub returns-in-RunLine-clause-order : goal.returns-in-RunLine-clause-order
@@ -22,13 +23,13 @@ returns-in-PlanLine-clause-order g c =
     (shelf_state g.H.Shelf.files g.H.Shelf.loads g.H.Shelf.stores c.args.shelf.now)
     (sink_state g.O.Sink.held g.O.Sink.faults g.O.Sink.spare c.args.out.now) input in
     let new : Left → Outside = λ input. outside
-    (shelf_state g.H.Shelf.files g.H.Shelf.loads g.H.Shelf.stores c.plan.new.shelf)
-    (sink_state g.O.Sink.held g.O.Sink.faults g.O.Sink.spare c.plan.new.out) input in
-    let ended = fault_after c.plan.result in
+    (shelf_state g.H.Shelf.files g.H.Shelf.loads g.H.Shelf.stores c.show_plan.new.shelf)
+    (sink_state g.O.Sink.held g.O.Sink.faults g.O.Sink.spare c.show_plan.new.out) input in
+    let ended = fault_after c.show_plan.result in
     λ input. as_order (IsPlayed g.S.Site.work) order _ (old input) (new input) ended
     (ap (λ (name : List ℕ). plan_order name here.form here.machines) c.deref.ensures
     ∙ ap (λ (line : Line). asked (line_view line)) (sym here.is))
-    (unplayed (IsPlayed g.S.Site.work) order (old input) (new input) ended (c.plan.ensures.order input))
+    (unplayed (IsPlayed g.S.Site.work) order (old input) (new input) ended (c.show_plan.ensures.order input))
 
 pub returns-in-ShowLine-clause-order : goal.returns-in-ShowLine-clause-order
 returns-in-ShowLine-clause-order g c =
@@ -59,3 +60,43 @@ returns-in-FreeLine-clause-order g c =
     (ap free_order c.deref-in-FreeLine.ensures
     ∙ ap (λ (line : Line). asked (line_view line)) (sym c.in-FreeLine.is))
     (unplayed (IsPlayed g.S.Site.work) order (old input) (new input) ended (c.tell_freedom.ensures.order input))
+
+pub returns-in-RecordLine-clause-order : goal.returns-in-RecordLine-clause-order
+returns-in-RecordLine-clause-order g c =
+    let here = c.in-RecordLine in
+    λ input. as_order (IsPlayed g.S.Site.work) _ _ _ _ _
+    (ap (λ (name : List ℕ). asked (RecordOf (job_view here.job) name here.machines here.seed here.lossy))
+    c.deref-in-RecordLine.ensures
+    ∙ ap (λ (line : Line). asked (line_view line)) (sym here.is))
+    (c.record_line.ensures.order input)
+
+pub returns-in-ReplayLine-clause-order : goal.returns-in-ReplayLine-clause-order
+returns-in-ReplayLine-clause-order g c =
+    let here = c.in-ReplayLine in
+    λ input. as_order (IsPlayed g.S.Site.work) _ _ _ _ _
+    (ap (λ (name : List ℕ). replay_order (job_view here.job) name) c.deref-in-ReplayLine.ensures
+    ∙ ap (λ (line : Line). asked (line_view line)) (sym here.is))
+    (c.replay.ensures.order input)
+
+pub returns-in-RenewLine-clause-order : goal.returns-in-RenewLine-clause-order
+returns-in-RenewLine-clause-order g c =
+    let here = c.in-RenewLine in
+    λ input. as_order (IsPlayed g.S.Site.work) _ _ _ _ _
+    (ap (λ (name : List ℕ). renew_order name c.deref-in-RenewLine-2.result.now) c.deref-in-RenewLine.ensures
+    ∙ ap (renew_order _) c.deref-in-RenewLine-2.ensures
+    ∙ ap (λ (line : Line). asked (line_view line)) (sym here.is))
+    (c.renew.ensures.order g.S.Site.work
+    (sink_state g.O.Sink.held g.O.Sink.faults g.O.Sink.spare c.args.out.now) input)
+
+pub returns-in-DemoLine-clause-order : goal.returns-in-DemoLine-clause-order
+returns-in-DemoLine-clause-order g c = λ input.
+    as_order (IsPlayed g.S.Site.work) (demo_order c.in-DemoLine.seed c.in-DemoLine.machines) _ _ _ _
+    (ap (λ (line : Line). asked (line_view line)) (sym c.in-DemoLine.is))
+    (c.show.ensures (shelf_state g.H.Shelf.files g.H.Shelf.loads g.H.Shelf.stores c.args.shelf.now) input)
+
+pub returns-in-ResumeLine-clause-order : goal.returns-in-ResumeLine-clause-order
+returns-in-ResumeLine-clause-order g c =
+    let here = c.in-ResumeLine in
+    λ input. as_order (IsPlayed g.S.Site.work) _ _ _ _ _
+    (ap (λ (name : List ℕ). resume_order (job_view here.job) name here.machines) c.deref-in-ResumeLine.ensures
+    ∙ ap (λ (line : Line). asked (line_view line)) (sym here.is)) (c.resume.ensures.order input)

@@ -1,12 +1,17 @@
 use Rattle.std.proofs.Common.{None, Some, refl}
-use Rattle.symple_run.specs.Faults.{fault_of}
-use Rattle.symple_run.specs.Notes.{note_text}
+use Rattle.command_steps.specs.Faults.{fault_of}
+use Rattle.command_steps.specs.Notes.{note_text}
+use Rattle.command_steps.specs.States.{input_state}
+use Rattle.symple_run.proofs.ImagedRuns.{imaged_stores}
+use Rattle.symple_run.proofs.LeftImages.{tells_images}
+use Rattle.command_steps.proofs.LeavesLaws.{weaker}
+use Rattle.command_steps.proofs.OrderLaws.{nothing_stored, others_stay}
 use Rattle.symple_run.specs.Played.{IsPlayed}
 use Rattle.symple_run.specs.SourceRuns.{IsSourceRun}
-use Rattle.symple_run.specs.States.{input_state}
-use Rattle.symple_run.proofs.CoreRuns.{core_runs, played_printed}
-use Rattle.symple_run.proofs.HeadLaws.{alike_by, completes, free_answer, noted_by, quiet_order, source_printed}
-use Rattle.symple_run.proofs.LeavesLaws.{quiet_leaves, weaker}
+use Rattle.symple_run.proofs.CoreRuns.{core_runs}
+use Rattle.symple_run.proofs.HeadLaws.{alike_by, completes, free_answer, noted_by}
+use Rattle.symple_run.proofs.ReplayLaws.{replays_gain_the_same}
+use Rattle.symple_run.proofs.TaskLaws.{played_are, told_are}
 use Rattle.symple_words.specs.Views.{words_of}
 use Rattle.symple_run.proofs.top.symple.Goals as goal
 
@@ -18,6 +23,53 @@ returns-in-Ok-clause-answer g c = record {
   noted = refl;
 }
 
+pub returns-in-Ok-clause-core : goal.returns-in-Ok-clause-core
+returns-in-Ok-clause-core g c = λ core. record {
+  outcome = None;
+  leaves = weaker (IsPlayed g.S.Site.work) IsSourceRun
+      (core_runs g.S.Site.work g.S.Site.sound (g.met.S.Site.core core) (record {
+        plain = c.chosen_runs_are_complete.ensures.plain;
+        drawn = c.chosen_runs_are_complete.ensures.drawn;
+        reach = c.worlds_are_in_order.ensures.reach;
+        goes = c.choices_are_in_order.ensures.unfinished;
+      }) g.met.S.Restart.restart_lawful c.images_read_back.ensures.ready) _ _ _ _
+      (c.in-Ok.ensures.order (input_state g.I.Source.left g.I.Source.faults c.args.input.now));
+  status_is = refl;
+  noted = refl;
+}
+
+pub returns-in-Ok-clause-complete : goal.returns-in-Ok-clause-complete
+returns-in-Ok-clause-complete g c =
+    completes (IsPlayed g.S.Site.work) (played_are g.S.Site.work) (words_of c.args.words.now) _ _ None _
+    (c.in-Ok.ensures.order (input_state g.I.Source.left g.I.Source.faults c.args.input.now)) refl
+
+pub returns-in-Ok-clause-whole : goal.returns-in-Ok-clause-whole
+returns-in-Ok-clause-whole g c = λ core.
+    completes IsSourceRun told_are (words_of c.args.words.now) _ _ None _
+    (weaker (IsPlayed g.S.Site.work) IsSourceRun
+    (core_runs g.S.Site.work g.S.Site.sound (g.met.S.Site.core core) (record {
+      plain = c.chosen_runs_are_complete.ensures.plain;
+      drawn = c.chosen_runs_are_complete.ensures.drawn;
+      reach = c.worlds_are_in_order.ensures.reach;
+      goes = c.choices_are_in_order.ensures.unfinished;
+    }) g.met.S.Restart.restart_lawful c.images_read_back.ensures.ready) _ _ _ _
+    (c.in-Ok.ensures.order (input_state g.I.Source.left g.I.Source.faults c.args.input.now))) refl
+
+pub returns-in-Ok-clause-others : goal.returns-in-Ok-clause-others
+returns-in-Ok-clause-others g c =
+    others_stay (IsPlayed g.S.Site.work) (played_are g.S.Site.work) (words_of c.args.words.now) _ _ None
+    (c.in-Ok.ensures.order (input_state g.I.Source.left g.I.Source.faults c.args.input.now))
+
+pub returns-in-Ok-clause-quiet : goal.returns-in-Ok-clause-quiet
+returns-in-Ok-clause-quiet g c =
+    nothing_stored (IsPlayed g.S.Site.work) (played_are g.S.Site.work) (words_of c.args.words.now) _ _ None
+    (c.in-Ok.ensures.order (input_state g.I.Source.left g.I.Source.faults c.args.input.now))
+
+pub returns-in-Ok-clause-free : goal.returns-in-Ok-clause-free
+returns-in-Ok-clause-free g c =
+    free_answer (IsPlayed g.S.Site.work) (words_of c.args.words.now) _ _ None _
+    (c.in-Ok.ensures.order (input_state g.I.Source.left g.I.Source.faults c.args.input.now)) refl (alike_by c.order_free_programs.ensures.runs)
+
 pub returns-in-Err-clause-answer : goal.returns-in-Err-clause-answer
 returns-in-Err-clause-answer g c = record {
   outcome = Some (fault_of c.in-Err.failure);
@@ -26,79 +78,98 @@ returns-in-Err-clause-answer g c = record {
   noted = noted_by (note_text (fault_of c.in-Err.failure)) c.write_note.result c.write_note.ensures;
 }
 
-pub returns-in-Ok-clause-core : goal.returns-in-Ok-clause-core
-returns-in-Ok-clause-core g c = λ core. record {
-  outcome = None;
-  leaves =
-      weaker (IsPlayed g.S.Site.work) IsSourceRun
-      (core_runs g.S.Site.work g.S.Site.sound (g.met.S.Site.core core) c.chosen_runs_are_complete.ensures.plain) _ _ _ _
-      (c.in-Ok.ensures.order (input_state g.I.Source.left g.I.Source.faults c.args.input.now));
-  status_is = refl;
-  noted = refl;
-}
-
 pub returns-in-Err-clause-core : goal.returns-in-Err-clause-core
 returns-in-Err-clause-core g c = λ core. record {
   outcome = Some (fault_of c.in-Err.failure);
-  leaves =
-      weaker (IsPlayed g.S.Site.work) IsSourceRun
-      (core_runs g.S.Site.work g.S.Site.sound (g.met.S.Site.core core) c.chosen_runs_are_complete.ensures.plain) _ _ _ _
+  leaves = weaker (IsPlayed g.S.Site.work) IsSourceRun
+      (core_runs g.S.Site.work g.S.Site.sound (g.met.S.Site.core core) (record {
+        plain = c.chosen_runs_are_complete.ensures.plain;
+        drawn = c.chosen_runs_are_complete.ensures.drawn;
+        reach = c.worlds_are_in_order.ensures.reach;
+        goes = c.choices_are_in_order.ensures.unfinished;
+      }) g.met.S.Restart.restart_lawful c.images_read_back.ensures.ready) _ _ _ _
       (c.in-Err.ensures.order (input_state g.I.Source.left g.I.Source.faults c.args.input.now));
   status_is = c.status.ensures;
   noted = noted_by (note_text (fault_of c.in-Err.failure)) c.write_note.result c.write_note.ensures;
 }
 
-pub returns-in-Ok-clause-complete : goal.returns-in-Ok-clause-complete
-returns-in-Ok-clause-complete g c =
-    completes (IsPlayed g.S.Site.work) (played_printed g.S.Site.work) (words_of c.args.words.now) _ _ None _
-    (c.in-Ok.ensures.order (input_state g.I.Source.left g.I.Source.faults c.args.input.now)) refl
-
 pub returns-in-Err-clause-complete : goal.returns-in-Err-clause-complete
 returns-in-Err-clause-complete g c =
-    completes (IsPlayed g.S.Site.work) (played_printed g.S.Site.work) (words_of c.args.words.now) _ _
-    (Some (fault_of c.in-Err.failure)) _
+    completes (IsPlayed g.S.Site.work) (played_are g.S.Site.work) (words_of c.args.words.now) _ _ (Some (fault_of c.in-Err.failure)) _
     (c.in-Err.ensures.order (input_state g.I.Source.left g.I.Source.faults c.args.input.now)) c.status.ensures
-
-pub returns-in-Ok-clause-whole : goal.returns-in-Ok-clause-whole
-returns-in-Ok-clause-whole g c = λ core.
-    completes IsSourceRun source_printed (words_of c.args.words.now) _ _ None _
-    (weaker (IsPlayed g.S.Site.work) IsSourceRun
-    (core_runs g.S.Site.work g.S.Site.sound (g.met.S.Site.core core) c.chosen_runs_are_complete.ensures.plain) _ _ _ _
-    (c.in-Ok.ensures.order (input_state g.I.Source.left g.I.Source.faults c.args.input.now))) refl
 
 pub returns-in-Err-clause-whole : goal.returns-in-Err-clause-whole
 returns-in-Err-clause-whole g c = λ core.
-    completes IsSourceRun source_printed (words_of c.args.words.now) _ _ (Some (fault_of c.in-Err.failure)) _
+    completes IsSourceRun told_are (words_of c.args.words.now) _ _ (Some (fault_of c.in-Err.failure)) _
     (weaker (IsPlayed g.S.Site.work) IsSourceRun
-    (core_runs g.S.Site.work g.S.Site.sound (g.met.S.Site.core core) c.chosen_runs_are_complete.ensures.plain) _ _ _ _
+    (core_runs g.S.Site.work g.S.Site.sound (g.met.S.Site.core core) (record {
+      plain = c.chosen_runs_are_complete.ensures.plain;
+      drawn = c.chosen_runs_are_complete.ensures.drawn;
+      reach = c.worlds_are_in_order.ensures.reach;
+      goes = c.choices_are_in_order.ensures.unfinished;
+    }) g.met.S.Restart.restart_lawful c.images_read_back.ensures.ready) _ _ _ _
     (c.in-Err.ensures.order (input_state g.I.Source.left g.I.Source.faults c.args.input.now))) c.status.ensures
 
-pub returns-in-Ok-clause-free : goal.returns-in-Ok-clause-free
-returns-in-Ok-clause-free g c =
-    free_answer (IsPlayed g.S.Site.work) (words_of c.args.words.now) _ _ None _
+pub returns-in-Err-clause-others : goal.returns-in-Err-clause-others
+returns-in-Err-clause-others g c =
+    others_stay (IsPlayed g.S.Site.work) (played_are g.S.Site.work) (words_of c.args.words.now) _ _ (Some (fault_of c.in-Err.failure))
+    (c.in-Err.ensures.order (input_state g.I.Source.left g.I.Source.faults c.args.input.now))
+
+pub returns-in-Err-clause-quiet : goal.returns-in-Err-clause-quiet
+returns-in-Err-clause-quiet g c =
+    nothing_stored (IsPlayed g.S.Site.work) (played_are g.S.Site.work) (words_of c.args.words.now) _ _ (Some (fault_of c.in-Err.failure))
+    (c.in-Err.ensures.order (input_state g.I.Source.left g.I.Source.faults c.args.input.now))
+
+pub returns-in-Ok-clause-replays : goal.returns-in-Ok-clause-replays
+returns-in-Ok-clause-replays g c = replays_gain_the_same g.S.Site.work g.S.Site.sound (record {
+  plain = c.chosen_runs_are_complete.ensures.plain;
+  drawn = c.chosen_runs_are_complete.ensures.drawn;
+  reach = c.worlds_are_in_order.ensures.reach;
+  goes = c.choices_are_in_order.ensures.unfinished;
+})
+
+pub returns-in-Err-clause-replays : goal.returns-in-Err-clause-replays
+returns-in-Err-clause-replays g c = replays_gain_the_same g.S.Site.work g.S.Site.sound (record {
+  plain = c.chosen_runs_are_complete.ensures.plain;
+  drawn = c.chosen_runs_are_complete.ensures.drawn;
+  reach = c.worlds_are_in_order.ensures.reach;
+  goes = c.choices_are_in_order.ensures.unfinished;
+})
+
+pub returns-in-Ok-clause-images : goal.returns-in-Ok-clause-images
+returns-in-Ok-clause-images g c =
+    tells_images (IsPlayed g.S.Site.work) (imaged_stores g.S.Site.work) (words_of c.args.words.now) _ _ None _
     (c.in-Ok.ensures.order (input_state g.I.Source.left g.I.Source.faults c.args.input.now)) refl
-    (alike_by c.order_free_programs.ensures.runs)
 
-pub returns-in-Ok-clause-files : goal.returns-in-Ok-clause-files
-returns-in-Ok-clause-files g c =
-    (quiet_leaves (IsPlayed g.S.Site.work) _
-    (quiet_order (IsPlayed g.S.Site.work) (played_printed g.S.Site.work) (words_of c.args.words.now)) _ _ _
-    (c.in-Ok.ensures.order (input_state g.I.Source.left g.I.Source.faults c.args.input.now))).files
+pub returns-in-Err-clause-images : goal.returns-in-Err-clause-images
+returns-in-Err-clause-images g c =
+    tells_images (IsPlayed g.S.Site.work) (imaged_stores g.S.Site.work) (words_of c.args.words.now) _ _
+    (Some (fault_of c.in-Err.failure)) _
+    (c.in-Err.ensures.order (input_state g.I.Source.left g.I.Source.faults c.args.input.now)) c.status.ensures
 
-pub returns-in-Err-clause-files : goal.returns-in-Err-clause-files
-returns-in-Err-clause-files g c =
-    (quiet_leaves (IsPlayed g.S.Site.work) _
-    (quiet_order (IsPlayed g.S.Site.work) (played_printed g.S.Site.work) (words_of c.args.words.now)) _ _ _
-    (c.in-Err.ensures.order (input_state g.I.Source.left g.I.Source.faults c.args.input.now))).files
+pub returns-in-Ok-clause-kept : goal.returns-in-Ok-clause-kept
+returns-in-Ok-clause-kept g c = λ core.
+    tells_images IsSourceRun (λ play origin image course is. is.stored) (words_of c.args.words.now) _ _ None _
+    (weaker (IsPlayed g.S.Site.work) IsSourceRun
+    (core_runs g.S.Site.work g.S.Site.sound (g.met.S.Site.core core) (record {
+      plain = c.chosen_runs_are_complete.ensures.plain;
+      drawn = c.chosen_runs_are_complete.ensures.drawn;
+      reach = c.worlds_are_in_order.ensures.reach;
+      goes = c.choices_are_in_order.ensures.unfinished;
+    })
+    g.met.S.Restart.restart_lawful c.images_read_back.ensures.ready) _ _ _ _
+    (c.in-Ok.ensures.order (input_state g.I.Source.left g.I.Source.faults c.args.input.now))) refl
 
-pub returns-in-Ok-clause-stores : goal.returns-in-Ok-clause-stores
-returns-in-Ok-clause-stores g c =
-    (quiet_leaves (IsPlayed g.S.Site.work) _
-    (quiet_order (IsPlayed g.S.Site.work) (played_printed g.S.Site.work) (words_of c.args.words.now)) _ _ _
-    (c.in-Ok.ensures.order (input_state g.I.Source.left g.I.Source.faults c.args.input.now))).stores
-
-pub returns-in-Err-clause-stores : goal.returns-in-Err-clause-stores
-returns-in-Err-clause-stores g c =
-    (quiet_leaves (IsPlayed g.S.Site.work) _
-    (quiet_order (IsPlayed g.S.Site.work) (played_printed g.S.Site.work) (words_of c.args.words.now)) _ _ _
-    (c.in-Err.ensures.order (input_state g.I.Source.left g.I.Source.faults c.args.input.now))).stores
+pub returns-in-Err-clause-kept : goal.returns-in-Err-clause-kept
+returns-in-Err-clause-kept g c = λ core.
+    tells_images IsSourceRun (λ play origin image course is. is.stored) (words_of c.args.words.now) _ _
+    (Some (fault_of c.in-Err.failure)) _
+    (weaker (IsPlayed g.S.Site.work) IsSourceRun
+    (core_runs g.S.Site.work g.S.Site.sound (g.met.S.Site.core core) (record {
+      plain = c.chosen_runs_are_complete.ensures.plain;
+      drawn = c.chosen_runs_are_complete.ensures.drawn;
+      reach = c.worlds_are_in_order.ensures.reach;
+      goes = c.choices_are_in_order.ensures.unfinished;
+    })
+    g.met.S.Restart.restart_lawful c.images_read_back.ensures.ready) _ _ _ _
+    (c.in-Err.ensures.order (input_state g.I.Source.left g.I.Source.faults c.args.input.now))) c.status.ensures

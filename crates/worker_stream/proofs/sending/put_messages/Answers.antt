@@ -1,10 +1,8 @@
 -- A message of which a part was written.
-use Rattle.worker_stream.proofs.SentLaws.{on_err, part_here}
+use Rattle.worker_stream.proofs.SentLaws.{sends_here}
 use Rattle.worker_stream.proofs.sending.put_messages.Goals as goal
 
-pub returns-in_err-put_message-clause-part : goal.returns-in_err-put_message-clause-part
-returns-in_err-put_message-clause-part g c =
-    on_err c.from_residual.result _
-    (part_here c.args.messages.now c.loop-msg.msg-index c.msg-item.result _ (g.O.Sink.held c.args.out.now)
-    (g.O.Sink.held c.loop-msg.out) (g.O.Sink.held c.put_message.new.out) c.loop-msg-test.true c.msg-item.is
-    c.loop-msg.invariant.whole c.in_err-put_message.ensures.part)
+pub returns-in-Err : goal.returns-in-Err
+returns-in-Err g c =
+    sends_here c.args.messages.now c.loop-msg.msg-index c.msg-item.result _ c.in-Err.fault c.loop-msg-test.true
+    c.msg-item.is c.loop-msg.invariant c.in-Err.ensures

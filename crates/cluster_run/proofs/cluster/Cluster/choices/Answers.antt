@@ -1,4 +1,6 @@
-use Rattle.std.proofs.Common.{◌≡◌, ◌∙◌, length, sym}
+use Rattle.std.proofs.Common.{◌≡◌, ◌∙◌, false, ap, length, sym}
+use Rattle.cluster_run.specs.Driven.{Driven}
+use Rattle.cluster_run.specs.Ready.{flags_of}
 use Rattle.symple_face.specs.Cluster.{choices_of}
 use Rattle.cluster_run.proofs.Chosen.{goes_on, reached_in, seen}
 use Rattle.cluster_run.proofs.cluster.Cluster.choices.Goals as goal
@@ -13,3 +15,8 @@ returns-clause-none g c =
     c.choice_count.ensures in
     let chosen = (goes_on g.S.Site.work g.S.Site.sound g.met.S.Site.lawful c.args.self.now.world reached).chosen in
     ((λ none. chosen.0 (sym is ∙ none)), (λ over. is ∙ chosen.1 over))
+
+pub choice_count-requires-clause-flags : goal.choice_count-requires-clause-flags
+choice_count-requires-clause-flags g c =
+    let on : c.self.inside.ended ≡ false = ap (λ (d : Driven). d.ended) c.self.view_is ∙ c.requires.on in
+    c.deref-2.ensures.value ∙ c.self.invariant.2 on ∙ sym (ap (flags_of g.S.Site.state) c.deref.ensures.value)

@@ -16,7 +16,12 @@ invariant_of-self g c =
     c.from-at.result c.index.result.now lt c.index.ensures c.in-Ready.ensures c.go_site.new.sites.items
     c.go_site.new.flight c.args.machine c.from-at.ensures
     c.in-Ok.ensures.sites c.in-Ok.ensures.flight in
-    (record { few = d.few; reached = λ e. d.reached }, λ e. c.in-Ok.ensures.none)
+    (record { few = d.few; reached = λ e. d.reached }, λ e. c.in-Ok.ensures.none, λ e. c.in-Ok.ensures.flags)
+
+pub go_site-requires-clause-flags : goal.go_site-requires-clause-flags
+go_site-requires-clause-flags g c =
+    let on : c.self.inside.ended ≡ false = ap (λ (d : Driven). d.ended) c.self.view_is ∙ c.requires.on in
+    c.self.invariant.2 on
 
 pub go_site-requires-clause-none : goal.go_site-requires-clause-none
 go_site-requires-clause-none g c =

@@ -6,6 +6,7 @@ use Rattle.symple_face.specs.PartViews.{plain_of}
 use Rattle.symple_face.specs.Restarts.{IsStart}
 use Rattle.symple_face.specs.Work.{plain_start}
 use Rattle.cluster_run.specs.Driven.{Driven, world_of}
+use Rattle.cluster_run.specs.Ready.{flags_of}
 use mathlib.Core.List.{reverse}
 use Rattle.cluster_run.proofs.Moves.{popped}
 use Rattle.cluster_run.proofs.PartLists.{RunsOn, again_reached, begins, first_holds, one_made, rest_holds}
@@ -51,6 +52,7 @@ invariant_of-result g c =
     (plain_start c.args.start.now) w c.requires.one_run runs c.requires.start c.requires.one_split.1 is in (
       record { few = reached_few g.S.Site.work g.S.Site.sound g.met.S.Site.lawful w reached; reached = λ on. reached },
       λ on. c.new-2.ensures.items,
+      λ on. c.in_ok-ready.ensures ∙ ap (flags_of g.S.Site.state) c.deref-2.ensures.value,
     )
 
 pub returns : goal.returns

@@ -1,7 +1,8 @@
-use Rattle.std.proofs.Common.{◌≡◌, length, map, vec_len, false, ap, subst, arith}
+use Rattle.std.proofs.Common.{◌≡◌, ◌∙◌, length, map, vec_len, false, ap, subst, arith}
 use Rattle.std.specs.List.{All}
 use Rattle.symple_face.specs.Cluster.{World}
 use Rattle.cluster_run.specs.Driven.{Driven}
+use Rattle.cluster_run.specs.Ready.{flags_of}
 use Rattle.cluster_run.proofs.PartLists.{RunsOn, anew_reached, begins}
 use Rattle.cluster_run.proofs.Results.{reached_few}
 use Rattle.cluster_run.proofs.cluster.Cluster.start.Goals as goal
@@ -21,6 +22,7 @@ invariant_of-result g c =
     c.requires.one_split.1 is in (
       record { few = reached_few g.S.Site.work g.S.Site.sound g.met.S.Site.lawful w reached; reached = λ on. reached },
       λ on. c.new-2.ensures.items,
+      λ on. c.in_ok-ready.ensures ∙ ap (flags_of g.S.Site.state) c.deref-2.ensures.value,
     )
 
 pub returns : goal.returns

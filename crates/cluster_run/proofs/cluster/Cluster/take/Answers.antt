@@ -22,6 +22,7 @@ invariant_of-self g c =
             (world_of g.S.Site.state c.self.inside.sites.items ms)) (sym same) (c.self.invariant.0.reached on);
       },
       c.self.invariant.1,
+      c.self.invariant.2,
     )
 
 pub take_site-requires-clause-within : goal.take_site-requires-clause-within
@@ -42,6 +43,11 @@ take_site-requires-clause-takeable g c =
     c.self.inside.flight (c.self.invariant.0.reached on)
     c.args.name.now (letter_of c.in-Some.message) flies
 
+pub take_site-requires-clause-flags : goal.take_site-requires-clause-flags
+take_site-requires-clause-flags g c =
+    let on : c.self.inside.ended ≡ false = ap (λ (d : Driven). d.ended) c.self.view_is ∙ c.requires.on in
+    c.self.invariant.2 on
+
 pub invariant_of-self-in-Some : goal.invariant_of-self-in-Some
 invariant_of-self-in-Some g c =
     let on : c.self.inside.ended ≡ false = ap (λ (d : Driven). d.ended) c.self.view_is ∙ c.requires.on in
@@ -52,7 +58,7 @@ invariant_of-self-in-Some g c =
     c.self.inside.flight (c.self.invariant.0.reached on)
     c.args.name.now (letter_of c.in-Some.message) flies
     c.take_site.new.sites.items c.pick.new.self c.take_site.ensures.sites c.pick.ensures.rest in
-    (record { few = d.few; reached = λ e. d.reached }, c.self.invariant.1)
+    (record { few = d.few; reached = λ e. d.reached }, c.self.invariant.1, λ e. c.take_site.ensures.flags)
 
 pub returns-in-None-clause-refused : goal.returns-in-None-clause-refused
 returns-in-None-clause-refused g c =

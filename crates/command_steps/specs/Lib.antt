@@ -1,0 +1,12 @@
+pub mod Comes
+pub mod Commands
+pub mod Courses
+pub mod Faults
+pub mod FileWalks
+pub mod Leaves
+pub mod Notes
+pub mod Orders
+pub mod Outputs
+pub mod Quiet
+pub mod States
+pub mod Walks

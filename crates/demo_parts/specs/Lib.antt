@@ -1,0 +1,4 @@
+pub mod DrawnGraphs
+pub mod ShownTexts
+pub mod Sinks
+pub mod WordStreams

@@ -1,0 +1,224 @@
+-- What is known of the courses of tasks: of those that machines of a kind take, and of those that the source tells.
+use Rattle.std.proofs.Common.{List, None, Option, [], inl, inr, refl, sym, ℕ, ◌∙◌, ◌∷◌, ◌≡◌}
+use Rattle.command_steps.specs.Commands.{image_name, names_of}
+use Rattle.command_steps.specs.Comes.{Comes}
+use Rattle.command_steps.specs.Courses.{TakesNothing, course_end}
+use Rattle.command_steps.specs.Notes as note
+use Rattle.command_steps.specs.Orders.{Course, Drawn, DrawnLossy, Fails, Followed, Imaged, IsOver, Keeps, Parted, Plain, Play, Prints, Renewed, Resumed, Served, Shown, Takes, Task, follows}
+use Rattle.command_steps.specs.Quiet.{IsNoneOf, IsQuiet, Spares}
+use Rattle.command_steps.proofs.ComesLaws.{Must}
+use Rattle.command_steps.proofs.OrderLaws.{AreCourses, ends_alike}
+use Rattle.outside.specs.Files.{File}
+use Rattle.symple_face.specs.CoreWork.{core_work}
+use Rattle.symple_face.specs.Work.{Work}
+use Rattle.symple_run.specs.Followed.{IsFaulty, IsFollowed, Tells}
+use Rattle.symple_run.specs.SourceSchedules.{IsSourceReplay}
+use Rattle.symple_run.proofs.CourseShapes.{same_alike}
+use Rattle.symple_run.proofs.TextTasks.{drawn_calm, drawn_same, drawn_spares, follow_calm, follow_quiet, follow_spares, followed_same, renew_calm, renew_spares, renewed_same}
+use Rattle.symple_run.specs.Played.{IsPlayed}
+use Rattle.symple_run.specs.SourceRuns.{IsPrinted, IsSourcePlay, IsSourceRun}
+use Rattle.symple_run.specs.KeptImages.{StoresImages}
+use Rattle.symple_run.proofs.CoreRuns.{plain_printed}
+use Rattle.symple_run.proofs.ShowLaws.{show_printed, source_show_printed}
+use Rattle.symple_run.proofs.ImagedRuns.{imaged_stores, resumed_printed}
+
+module _ (courses : Task → Course → Type 0) where
+  printed_quiet : (course : Course) → IsPrinted course → IsQuiet courses (follows course)
+  printed_quiet IsOver is = tt
+  printed_quiet (Fails fault) is = absurd is
+  printed_quiet (Prints text rest) is = printed_quiet rest is
+  printed_quiet (Keeps name bytes rest) is = absurd is
+  printed_quiet (Takes used text rest) is = absurd is
+
+  printed_spares : (name : List ℕ) (course : Course) → IsPrinted course → Spares courses name (follows course)
+  printed_spares name IsOver is = tt
+  printed_spares name (Fails fault) is = absurd is
+  printed_spares name (Prints text rest) is = printed_spares name rest is
+  printed_spares name (Keeps other bytes rest) is = absurd is
+  printed_spares name (Takes used text rest) is = absurd is
+
+printed_calm : (course : Course) → IsPrinted course → TakesNothing course
+printed_calm IsOver is = tt
+printed_calm (Fails fault) is = absurd is
+printed_calm (Prints text rest) is = printed_calm rest is
+printed_calm (Keeps name bytes rest) is = absurd is
+printed_calm (Takes used text rest) is = absurd is
+
+printed_well : (course : Course) → IsPrinted course → course_end course ≡ None
+printed_well IsOver is = refl
+printed_well (Fails fault) is = absurd is
+printed_well (Prints text rest) is = printed_well rest is
+printed_well (Keeps name bytes rest) is = absurd is
+printed_well (Takes used text rest) is = absurd is
+
+-- two courses that put texts and are over come out alike
+printed_alike : (courses : Task → Course → Type 0) (course other : Course) → IsPrinted course → IsPrinted other →
+    (files : List File) (input : Option (List ℕ)) (outcome : Option note.Fault) →
+    Comes courses (follows course) files input outcome → Must courses (follows other) files input outcome
+printed_alike courses course other is same files input outcome =
+    ends_alike courses files input outcome course other (printed_calm course is) (printed_calm other same)
+    (printed_well course is ∙ sym (printed_well other same))
+
+-- ---- courses that store images
+module _ (image : List ℕ) where
+  stores_spares : (courses : Task → Course → Type 0) (name : List ℕ) (course : Course) → StoresImages image course →
+      IsNoneOf name (image_name image 0 ∷ image_name image 1 ∷ []) → Spares courses name (follows course)
+  stores_spares courses name IsOver is none = tt
+  stores_spares courses name (Fails fault) is none = absurd is
+  stores_spares courses name (Prints text rest) is none = stores_spares courses name rest is none
+  stores_spares courses name (Keeps other bytes rest) (inl first, is) none = (
+    λ same. none.0 (same ∙ first),
+    stores_spares courses name rest is none,
+  )
+  stores_spares courses name (Keeps other bytes rest) (inr second, is) none = (
+    λ same. none.1.0 (same ∙ second),
+    stores_spares courses name rest is none,
+  )
+  stores_spares courses name (Takes used text rest) is none = absurd is
+
+  stores_calm : (course : Course) → StoresImages image course → TakesNothing course
+  stores_calm IsOver is = tt
+  stores_calm (Fails fault) is = absurd is
+  stores_calm (Prints text rest) is = stores_calm rest is
+  stores_calm (Keeps other bytes rest) is = stores_calm rest is.1
+  stores_calm (Takes used text rest) is = absurd is
+
+  stores_well : (course : Course) → StoresImages image course → course_end course ≡ None
+  stores_well IsOver is = refl
+  stores_well (Fails fault) is = absurd is
+  stores_well (Prints text rest) is = stores_well rest is
+  stores_well (Keeps other bytes rest) is = stores_well rest is.1
+  stores_well (Takes used text rest) is = absurd is
+
+  stores_alike : (courses : Task → Course → Type 0) (course other : Course) → StoresImages image course →
+      StoresImages image other → (files : List File) (input : Option (List ℕ)) (outcome : Option note.Fault) →
+      Comes courses (follows course) files input outcome → Must courses (follows other) files input outcome
+  stores_alike courses course other is same files input outcome =
+      ends_alike courses files input outcome course other (stores_calm course is) (stores_calm other same)
+      (stores_well course is ∙ sym (stores_well other same))
+
+source_printed : (play : Play) (course : Course) → IsSourcePlay play course → IsPrinted course
+source_printed play course is = is.printed
+
+-- a name is among names
+no_names : (name : List ℕ) → name ∷ [] ≡ [] → ⊥
+no_names name none = cc
+
+-- a replay that the source tells is one of cores
+source_followed : (play : ℕ → Play) (text : List ℕ) (course : Course) → IsSourceReplay play text course →
+    IsFollowed core_work play text course
+source_followed play text course (Tells machines events says is) = Tells machines events says is.0
+source_followed play text course (IsFaulty why real gives is) = IsFaulty why real gives is
+
+-- those of machines of a kind
+module _ (work : Work) where
+  played_alike : (task : Task) (course other : Course) → IsPlayed work task course → IsPlayed work task other →
+      (files : List File) (input : Option (List ℕ)) (outcome : Option note.Fault) →
+      Comes (IsPlayed work) (follows course) files input outcome → Must (IsPlayed work) (follows other) files input outcome
+  played_alike (Plain play) course other is same = printed_alike (IsPlayed work) course other (plain_printed work play course is) (plain_printed work play other same)
+  played_alike (Imaged play origin image) course other is same = stores_alike image (IsPlayed work) course other (imaged_stores work play origin image course is) (imaged_stores work play origin image other same)
+  played_alike (Resumed play origin even odd) course other is same = printed_alike (IsPlayed work) course other (resumed_printed work play origin even odd course is) (resumed_printed work play origin even odd other same)
+  played_alike (Drawn play seed schedule) course other is same = same_alike (IsPlayed work) course other
+      (drawn_same work play seed schedule course other is same) (drawn_calm work play seed schedule course is)
+  played_alike (DrawnLossy play seed schedule) course other is same = absurd is
+  played_alike (Followed play schedule) course other is same = same_alike (IsPlayed work) course other
+      (followed_same work play schedule course other is same) (follow_calm work play schedule course is)
+  played_alike (Shown seed machines) course other is same =
+      printed_alike (IsPlayed work) course other (show_printed work seed machines course is)
+      (show_printed work seed machines other same)
+  played_alike (Renewed schedule target) course other is same = same_alike (IsPlayed work) course other
+      (renewed_same schedule target course other is same) (renew_calm schedule target course is)
+  played_alike (Parted play program prefix) course other is same = absurd is
+  played_alike (Served part rows) course other is same = absurd is
+
+  played_spares : (task : Task) (course : Course) → IsPlayed work task course → (name : List ℕ) →
+      IsNoneOf name (names_of task) → Spares (IsPlayed work) name (follows course)
+  played_spares (Plain play) course is = λ name none. printed_spares (IsPlayed work) name course (plain_printed work play course is)
+  played_spares (Imaged play origin image) course is = λ name none. stores_spares image (IsPlayed work) name course (imaged_stores work play origin image course is) none
+  played_spares (Resumed play origin even odd) course is = λ name none. printed_spares (IsPlayed work) name course (resumed_printed work play origin even odd course is)
+  played_spares (Drawn play seed schedule) course is = λ name none.
+      drawn_spares work (IsPlayed work) play seed schedule name none.0 course is
+  played_spares (DrawnLossy play seed schedule) course is = absurd is
+  played_spares (Followed play schedule) course is = λ name none.
+      follow_spares work play schedule (IsPlayed work) name course is
+  played_spares (Shown seed machines) course is = λ name none.
+      printed_spares (IsPlayed work) name course (show_printed work seed machines course is)
+  played_spares (Renewed schedule target) course is = λ name none.
+      renew_spares (IsPlayed work) schedule target name none.0 course is
+  played_spares (Parted play program prefix) course is = absurd is
+  played_spares (Served part rows) course is = absurd is
+
+  played_quiet : (task : Task) (course : Course) → IsPlayed work task course → names_of task ≡ [] →
+      IsQuiet (IsPlayed work) (follows course)
+  played_quiet (Plain play) course is = λ none. printed_quiet (IsPlayed work) course (plain_printed work play course is)
+  played_quiet (Imaged play origin image) course is = λ none. cc
+  played_quiet (Resumed play origin even odd) course is = λ none. printed_quiet (IsPlayed work) course (resumed_printed work play origin even odd course is)
+  played_quiet (Drawn play seed schedule) course is = λ none. absurd (no_names schedule none)
+  played_quiet (DrawnLossy play seed schedule) course is = absurd is
+  played_quiet (Followed play schedule) course is = λ none. follow_quiet work play schedule (IsPlayed work) course is
+  played_quiet (Shown seed machines) course is = λ none.
+      printed_quiet (IsPlayed work) course (show_printed work seed machines course is)
+  played_quiet (Renewed schedule target) course is = λ none. absurd (no_names target none)
+  played_quiet (Parted play program prefix) course is = absurd is
+  played_quiet (Served part rows) course is = absurd is
+
+  pub played_are : AreCourses (IsPlayed work)
+  played_are = record { alike = played_alike; spares = played_spares; quiet = played_quiet }
+
+-- and those that the source tells
+told_alike : (task : Task) (course other : Course) → IsSourceRun task course → IsSourceRun task other →
+    (files : List File) (input : Option (List ℕ)) (outcome : Option note.Fault) →
+    Comes IsSourceRun (follows course) files input outcome → Must IsSourceRun (follows other) files input outcome
+told_alike (Plain play) course other is same = printed_alike IsSourceRun course other (source_printed play course is) (source_printed play other same)
+told_alike (Imaged play origin image) course other is same = stores_alike image IsSourceRun course other is.stored same.stored
+told_alike (Resumed play origin even odd) course other is same = printed_alike IsSourceRun course other is.printed same.printed
+told_alike (Drawn play seed schedule) course other is same = same_alike IsSourceRun course other
+    (drawn_same core_work play seed schedule course other is.played same.played)
+    (drawn_calm core_work play seed schedule course is.played)
+told_alike (DrawnLossy play seed schedule) course other is same = absurd is
+told_alike (Followed play schedule) course other is same = same_alike IsSourceRun course other
+    (followed_same core_work play schedule course other (source_followed play schedule course is)
+    (source_followed play schedule other same))
+    (follow_calm core_work play schedule course (source_followed play schedule course is))
+told_alike (Shown seed machines) course other is same =
+    printed_alike IsSourceRun course other (source_show_printed seed machines course is)
+    (source_show_printed seed machines other same)
+told_alike (Renewed schedule target) course other is same = same_alike IsSourceRun course other
+    (renewed_same schedule target course other is same) (renew_calm schedule target course is)
+told_alike (Parted play program prefix) course other is same = absurd is
+told_alike (Served part rows) course other is same = absurd is
+
+told_spares : (task : Task) (course : Course) → IsSourceRun task course → (name : List ℕ) →
+    IsNoneOf name (names_of task) → Spares IsSourceRun name (follows course)
+told_spares (Plain play) course is = λ name none. printed_spares IsSourceRun name course (source_printed play course is)
+told_spares (Imaged play origin image) course is = λ name none. stores_spares image IsSourceRun name course is.stored none
+told_spares (Resumed play origin even odd) course is = λ name none. printed_spares IsSourceRun name course is.printed
+told_spares (Drawn play seed schedule) course is = λ name none.
+    drawn_spares core_work IsSourceRun play seed schedule name none.0 course is.played
+told_spares (DrawnLossy play seed schedule) course is = absurd is
+told_spares (Followed play schedule) course is = λ name none.
+    follow_spares core_work play schedule IsSourceRun name course (source_followed play schedule course is)
+told_spares (Shown seed machines) course is = λ name none.
+    printed_spares IsSourceRun name course (source_show_printed seed machines course is)
+told_spares (Renewed schedule target) course is = λ name none.
+    renew_spares IsSourceRun schedule target name none.0 course is
+told_spares (Parted play program prefix) course is = absurd is
+told_spares (Served part rows) course is = absurd is
+
+told_quiet : (task : Task) (course : Course) → IsSourceRun task course → names_of task ≡ [] →
+    IsQuiet IsSourceRun (follows course)
+told_quiet (Plain play) course is = λ none. printed_quiet IsSourceRun course (source_printed play course is)
+told_quiet (Imaged play origin image) course is = λ none. cc
+told_quiet (Resumed play origin even odd) course is = λ none. printed_quiet IsSourceRun course is.printed
+told_quiet (Drawn play seed schedule) course is = λ none. absurd (no_names schedule none)
+told_quiet (DrawnLossy play seed schedule) course is = absurd is
+told_quiet (Followed play schedule) course is = λ none.
+    follow_quiet core_work play schedule IsSourceRun course (source_followed play schedule course is)
+told_quiet (Shown seed machines) course is = λ none.
+    printed_quiet IsSourceRun course (source_show_printed seed machines course is)
+told_quiet (Renewed schedule target) course is = λ none. absurd (no_names target none)
+told_quiet (Parted play program prefix) course is = absurd is
+told_quiet (Served part rows) course is = absurd is
+
+pub told_are : AreCourses IsSourceRun
+told_are = record { alike = told_alike; spares = told_spares; quiet = told_quiet }

@@ -1,7 +1,0 @@
-use Rattle.std.proofs.Common.{codes}
-use Rattle.array_text.proofs.WritesLaws.{writes_same}
-use Rattle.symple_run.proofs.LineLaws.{same_name}
-use Rattle.symple_run.proofs.failure.write_unread.Goals as goal
-
-pub returns : goal.returns
-returns g c = writes_same (same_name (codes "symple: cannot read ") _ _ c.as_bytes.ensures.value) c.put_pieces.ensures
