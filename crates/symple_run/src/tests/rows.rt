@@ -352,7 +352,7 @@ symple: bad arguments
 $ run p g --machines 0
 bfs diamond Usage
 symple: bad arguments
-$ run p g --machines 1 --image i
+$ run p g --machines 1 --image
 bfs diamond Usage
 symple: bad arguments
 $ run p g --machines 1 --weighted
