@@ -3,10 +3,10 @@ use Rattle.std.proofs.Common.{◌≡◌, ℕ, List, Option, Some, None, refl, ap
 use Rattle.std.specs.Prelude.{option_map}
 use Rattle.edge_reader.specs.EdgeList.{Graph}
 use Rattle.outside.specs.Files.{with_file}
-use Rattle.command_steps.specs.FileWalks.{FailsToStore, FailsToTry, HasTried, HasTriedNone, NotKept, NotTried, WantsToStore, WantsToTry}
-use Rattle.command_steps.specs.Leaves.{IsNone, IsThere, Leaves, NotStored, Stored, TryFailed, WantsAtStore, WantsAtTry}
+use Rattle.command_steps.specs.FileWalks.{FailsToStore, FailsToTry, HasBytes, HasTried, HasTriedNone, NoBytes, NotKept, NotThere, NotTried, WantsForBytes, WantsToStore, WantsToTry}
+use Rattle.command_steps.specs.Leaves.{IsNone, IsThere, Leaves, Loaded, NotLoaded, NotStored, Stored, TryFailed, WantsAtLoad, WantsAtStore, WantsAtTry}
 use Rattle.command_steps.specs.Notes.{Fault}
-use Rattle.command_steps.specs.Orders.{Course, Order, Stores, Task, Tries}
+use Rattle.command_steps.specs.Orders.{Course, Loads, Order, Stores, Task, Tries}
 use Rattle.command_steps.specs.States.{Held, Kept, Left, Outside, outside}
 use Rattle.command_steps.specs.Walks.{HasGraph, HasProgram}
 use Rattle.symple_words.specs.declared.line.GraphForm.{GraphForm}
@@ -28,6 +28,26 @@ bytes_from old mid new form name graph bytes same found =
     let P : Kept → Type 0 = λ k. (has : HasGraph k new form name graph) × (has.bytes ≡ bytes) in subst P same found
 
 module _ (courses : Task → Course → Type 0) where
+  -- ---- files that must be there
+
+  -- the file was loaded, and then the rest came; or it was not, and the command ended
+  pub bytes_go :
+      (old new : Kept) (name : List ℕ) (limit : ℕ) (too_long : Fault) (bytes : List ℕ) →
+      HasBytes old new name limit bytes → (next : List ℕ → Order) (out : Held) (input : Left) (after : Outside)
+      (outcome : Option Fault) → Leaves courses (next bytes) (outside new out input) after outcome →
+      Leaves courses (Loads name limit too_long next) (outside old out input) after outcome
+  bytes_go old new name limit too_long bytes has next out input after outcome rest =
+      Loaded bytes has.under has.within
+      (subst (λ (k : Kept). Leaves courses (next bytes) (outside k out input) after outcome) has.same rest)
+
+  pub bytes_stop :
+      (old new : Kept) (name : List ℕ) (limit : ℕ) (too_long fault : Fault) →
+      NoBytes old new name limit too_long fault → (next : List ℕ → Order) (out : Held) (input : Left) →
+      Leaves courses (Loads name limit too_long next) (outside old out input) (outside new out input) (Some fault)
+  bytes_stop old new name limit too_long fault (NotThere why) next out input = NotLoaded fault why refl refl
+  bytes_stop old new name limit too_long fault (WantsForBytes same is) next out input = WantsAtLoad
+      (record { same = ap (λ (k : Kept). outside k out input) same; memory = ap Some is })
+
   -- ---- tries
 
   -- the file was loaded, and then the rest came

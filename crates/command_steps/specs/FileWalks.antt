@@ -8,7 +8,7 @@ use Rattle.outside.specs.Files.{with_file}
 use Rattle.command_steps.specs.declared.failure.Failure.{Failure}
 use Rattle.command_steps.specs.declared.read.Sources.{Sources}
 use Rattle.command_steps.specs.Faults.{fault_of}
-use Rattle.command_steps.specs.Leaves.{HasNoFile, IsUnder, StoreFails}
+use Rattle.command_steps.specs.Leaves.{CannotLoad, HasNoFile, IsUnder, StoreFails}
 use Rattle.command_steps.specs.Notes.{Fault, NoLoad, NoMemory, NoWrite}
 use Rattle.command_steps.specs.States.{Kept}
 use Rattle.command_steps.specs.Walks.{HasBoth, HasGraph, HasProgram, NoBoth, NoGraph, NoProgram}
@@ -34,6 +34,21 @@ GivesSources old new name form of (Ok read) =
     (has : HasBoth old new name form of read.typed (graph_of_edges read.edges))
     × (has.has_program.text ≡ read.program.items) × (has.has_graph.bytes ≡ read.graph.items)
 GivesSources old new name form of (Err failure) = NoBoth old new name form of (fault_of failure)
+
+-- a file of that name has the bytes, and the shelf is as before
+pub record HasBytes (old new : Kept) (name : List ℕ) (limit : ℕ) (bytes : List ℕ) : Type 0 where
+  pub under : IsUnder old.files name (Some bytes)
+  pub within : length bytes ≤ limit
+  pub same : new ≡ old
+
+-- why there are no bytes
+pub data NoBytes (old new : Kept) (name : List ℕ) (limit : ℕ) (too_long fault : Fault) : Type 0 where
+  NotThere : CannotLoad name limit too_long old new fault → NoBytes old new name limit too_long fault
+  WantsForBytes : new ≡ old → fault ≡ NoMemory → NoBytes old new name limit too_long fault
+
+abbrev pub GivesBytes : Kept → Kept → List ℕ → ℕ → Fault → Result (Vec ℕ Global) Failure → Type 0
+GivesBytes old new name limit too_long (Ok bytes) = HasBytes old new name limit bytes.items
+GivesBytes old new name limit too_long (Err why) = NoBytes old new name limit too_long (fault_of why)
 
 -- ---- tries
 

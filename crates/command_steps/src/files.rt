@@ -1,7 +1,8 @@
 ghost use Rattle.std.specs.Prelude.{◌≡◌, ◌≤◌, IfOk};
 ghost use Rattle.std.specs.String.{string_bytes};
 ghost use Rattle.command_steps.specs.Commands.{part_name};
-ghost use Rattle.command_steps.specs.FileWalks.{GivesTried, StoresFile};
+ghost use Rattle.command_steps.specs.Faults.{fault_of};
+ghost use Rattle.command_steps.specs.FileWalks.{GivesBytes, GivesTried, StoresFile};
 ghost use Rattle.command_steps.specs.States.{shelf_state};
 
 use crate::failure::Failure;
@@ -9,6 +10,30 @@ use itoa::Buffer;
 use outside::{LoadFault, Shelf, StoreFault};
 use std::alloc::Global;
 use vert_base::Want;
+
+/// Loads the file of that name, which must be there. One that is longer than `limit` fails by `too_long`.
+///
+/// The failure's name is taken before the load, so that a load that fails needs no memory to say so.
+pub fn load_file<H: Shelf>(
+    alloc: Global,
+    shelf: &mut H,
+    name: &str,
+    limit: u64,
+    too_long: Failure,
+) -> Result<Vec<u8>, Failure>
+    ensures bytes { GivesBytes (shelf_state H.files H.loads H.stores shelf.old)
+        (shelf_state H.files H.loads H.stores shelf.new) name.now limit (fault_of too_long) result }
+    ensures later { H.loads shelf.old ≤ H.loads shelf.new }
+{
+    let unread = String::from_str(alloc, name)?;
+    match shelf.load(alloc, name, limit) {
+        Ok(bytes) => Ok(bytes),
+        Err(LoadFault::TooLong) => Err(too_long),
+        Err(LoadFault::Want) => Err(Failure::Memory),
+        Err(LoadFault::Failed) => Err(Failure::Load(unread)),
+        Err(LoadFault::Missing) => Err(Failure::Load(unread)),
+    }
+}
 
 /// Loads the file of that name, where there is one that isn't longer than `limit`.
 pub fn try_file<H: Shelf>(

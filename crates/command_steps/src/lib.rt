@@ -14,7 +14,7 @@ mod show;
 mod status;
 
 pub use failure::Failure;
-pub use files::{numbered_name, store_file, try_file};
+pub use files::{load_file, numbered_name, store_file, try_file};
 pub use freedom::tell_freedom;
 pub use impossible::Impossible;
 pub use notes::write_note;

@@ -43,7 +43,7 @@ use Rattle.command_steps.specs.Orders.{Course, Drawn, DrawnLossy, Fails, Followe
 use Rattle.symple_run.specs.Followed.{IsFaulty, IsFollowed, IsFollowedPlay, Tells}
 use Rattle.symple_run.specs.Recorded.{IsDrawnPlay}
 use Rattle.symple_run.specs.SourceSchedules.{IsSourceRecord, IsSourceReplay, TellsSource}
-use Rattle.symple_run.specs.Tellings.{by_worlds, followed, lack_of, recorded, told_end, told_event, unless_lacking, unless_refused, why_of}
+use Rattle.machine_runs.specs.Tellings.{by_worlds, followed, lack_of, recorded, told_end, told_event, unless_lacking, unless_refused, why_of}
 use Rattle.symple_face.specs.Restarts.{IsRestartLawful, IsStart}
 use Rattle.symple_run.specs.SourceTexts as sources
 use Rattle.symple_run.specs.Played.{IsFirstWorld, IsPlainPlay, IsPlayed, course_from, log_line}

@@ -14,7 +14,7 @@ use Rattle.delivery_log.specs.declared.form.Form.TheVariants.{Roundless}
 use Rattle.delivery_log.specs.ScheduleTexts.{event_lines, round_after, schedule_text}
 use Rattle.outside.specs.Files.{File}
 use Rattle.symple_run.specs.Followed.{renewed}
-use Rattle.symple_run.specs.Tellings.{Telling, followed, recorded, told_end, told_event, unless_lacking, unless_refused}
+use Rattle.machine_runs.specs.Tellings.{Telling, followed, recorded, told_end, told_event, unless_lacking, unless_refused}
 use Rattle.vert_base.specs.declared.limits.TheConstants.{SCHEDULE_BYTES}
 use Rattle.vert_base.specs.declared.message.Event.{Event}
 

@@ -23,10 +23,10 @@ use Rattle.symple_face.specs.Work.{Work}
 use Rattle.symple_run.specs.FileWalks.{BadText, NotRead, WantsToRead}
 use Rattle.symple_run.specs.Followed.{IsFaulty, Tells}
 use Rattle.symple_run.specs.FollowWalks.{EndsListed, FollowsTo, FollowsUp, Place, PlaysListed, StopsListed, course_at}
-use Rattle.symple_run.specs.PlainPlays.{IsFirstWorld}
+use Rattle.machine_runs.specs.PlainPlays.{IsFirstWorld}
 use Rattle.symple_run.specs.Played.{IsPlayed}
-use Rattle.symple_run.specs.PlayedEvents.{PutsLines, StopsInLines}
-use Rattle.symple_run.specs.Tellings.{by_worlds, followed, lack_of, told_end, told_event, unless_lacking, unless_refused, why_of}
+use Rattle.machine_runs.specs.PlayedEvents.{PutsLines, StopsInLines}
+use Rattle.machine_runs.specs.Tellings.{by_worlds, followed, lack_of, told_end, told_event, unless_lacking, unless_refused, why_of}
 use Rattle.symple_words.specs.declared.line.Lines.{Lines}
 use Rattle.symple_words.specs.Ranges.{AreMachines}
 use Rattle.vert_base.specs.declared.message.Event.{Event}

@@ -30,10 +30,10 @@ use Rattle.symple_face.specs.Restarts.{IsRestartLawful}
 use Rattle.symple_face.specs.State.{State, machine, p_of}
 use Rattle.symple_face.specs.Work.{PlainAhead, PlainStart, Work}
 use Rattle.symple_run.specs.KeptImages.{CanBeKept, KeepsImage, LeavesImages, imaged_from, key_for, start_behind, with_image}
-use Rattle.symple_run.specs.PlainPlays.{IsFirstWorld, ends_round, is_late_judge, judges_late}
+use Rattle.machine_runs.specs.PlainPlays.{IsFirstWorld, ends_round, is_late_judge, judges_late}
 use Rattle.symple_run.specs.Played.{IsPlayed}
-use Rattle.symple_run.specs.PlayedEvents.{PutsLines, StopsInLines}
-use Rattle.symple_run.proofs.PlayLaws.{plain_behind}
+use Rattle.machine_runs.specs.PlayedEvents.{PutsLines, StopsInLines}
+use Rattle.machine_runs.proofs.PlayLaws.{plain_behind}
 use Rattle.symple_words.specs.declared.line.Lines.{Lines}
 use Rattle.vert_base.specs.declared.message.Event.{Event}
 use Rattle.vert_base.specs.declared.message.Event.TheVariants.{Go, Take}

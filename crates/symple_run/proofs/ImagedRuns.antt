@@ -31,9 +31,9 @@ use Rattle.symple_face.specs.Source.{job_of}
 use Rattle.symple_face.specs.State.{State}
 use Rattle.symple_face.specs.Work.{PlainStart, Work}
 use Rattle.symple_run.specs.KeptImages.{IsImagedPlay, StoresImages, imaged_from, key_for, start_behind, with_image}
-use Rattle.symple_run.specs.PlainPlays.{course_from, log_line}
+use Rattle.machine_runs.specs.PlainPlays.{course_from, log_line}
 use Rattle.symple_run.specs.Resumes.{IsImage, IsResumedPlay, Tells, begun_world, later_of}
-use Rattle.symple_run.specs.RunParts.{IsRunOf}
+use Rattle.machine_runs.specs.RunParts.{IsRunOf}
 use Rattle.symple_run.specs.SourceImages.{begun_text, files_kept, images_of, standing_of}
 use Rattle.symple_run.specs.SourceRuns.{IsLogged, IsLoggedFrom, IsPrinted, IsSourceImaged}
 use Rattle.symple_run.specs.SourceTexts as sources

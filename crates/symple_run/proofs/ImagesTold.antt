@@ -51,7 +51,7 @@ use Rattle.symple_face.specs.Work.{PlainStart}
 use Rattle.work_laws.specs.Sound.{FitsSpot, core_sound}
 use Rattle.work_laws.proofs.Whole.{core_lawful}
 use Rattle.symple_run.specs.KeptImages.{imaged_from, start_behind, with_image}
-use Rattle.symple_run.specs.PlainPlays.{IsFirstWorld, judges_late, is_late_judge}
+use Rattle.machine_runs.specs.PlainPlays.{IsFirstWorld, judges_late, is_late_judge}
 use Rattle.symple_run.specs.SourceImages.{files_kept, image_file, images_of, later_rounds}
 use Rattle.symple_run.specs.SourceTexts as sources
 use Rattle.symple_words.specs.declared.line.Lines.{Lines}

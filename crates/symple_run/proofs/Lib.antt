@@ -3,17 +3,14 @@
 -- The claim (HeadLaws, over the laws of orders in `command_steps`): of each status, each text and each file, by one
 -- definition a command, and where files are told and room is ample a command comes out (`completes`).
 --
--- The chain. What a run of machines leaves, event by event, is PlayLaws; its machines are WorldLaws and PartsFrom. The
--- texts of rows, rounds and reads put piece by piece are those by definition: NumberedLaws, RoundLaws, ReadTurns. The
--- rounds that the demonstration counts, and its lines, are ShowLaws. What is known of the courses of each task is
+-- The chain. What a run of machines leaves, event by event, are laws of `machine_runs`. The rounds that the
+-- demonstration counts, and its lines, are ShowLaws. What is known of the courses of each task is
 -- TaskLaws (of recorded and followed runs CourseShapes and TextTasks), and that for cores they are the source's
 -- CoreRuns. What recording and following leave is RecordLaws and FollowLaws. What runs leave
 -- that store images, and how they go on, is ImagedRuns, ImagesTold, LeftImages and ContinuedLaws.
 pub mod ContinuedLaws
 pub mod CoreRuns
 pub mod CourseShapes
-pub mod FileLaws
-pub mod FirstLaws
 pub mod FollowLaws
 pub mod HeadLaws
 pub mod ImageLaws
@@ -21,18 +18,12 @@ pub mod ImagedRuns
 pub mod ImagesTold
 pub mod InterruptedLaws
 pub mod LeftImages
-pub mod NumberedLaws
-pub mod PartsFrom
-pub mod PlayLaws
-pub mod ReadTurns
 pub mod RecordLaws
 pub mod RenewLaws
 pub mod ReplayLaws
 pub mod ResultLaws
 pub mod ResumeLaws
-pub mod RoundLaws
 pub mod ShowLaws
 pub mod RowsTold
 pub mod TaskLaws
 pub mod TextTasks
-pub mod WorldLaws

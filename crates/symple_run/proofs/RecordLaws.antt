@@ -19,13 +19,13 @@ use Rattle.rand_pcg.specs.Lcg.{Lcg}
 use Rattle.schedule_laws.specs.Layout.{table_of}
 use Rattle.symple_face.specs.Cluster.{World, finished, step}
 use Rattle.symple_face.specs.Work.{Work}
-use Rattle.symple_run.specs.FileWalks.{KeepsBytes}
-use Rattle.symple_run.specs.PlainPlays.{IsFirstWorld}
+use Rattle.command_steps.specs.FileWalks.{StoresFile}
+use Rattle.machine_runs.specs.PlainPlays.{IsFirstWorld}
 use Rattle.symple_run.specs.Played.{IsPlayed}
-use Rattle.symple_run.specs.PlayedEvents.{PutsLines, StopsInLines}
+use Rattle.machine_runs.specs.PlayedEvents.{PutsLines, StopsInLines}
 use Rattle.symple_run.specs.RecordWalks.{HasRecorded, Recordings, RecordsOn, RecordsTo, StopsRecording}
-use Rattle.symple_run.specs.Tellings.{by_worlds, recorded, told_event}
-use Rattle.symple_run.proofs.FileLaws.{kept_goes, kept_stops}
+use Rattle.machine_runs.specs.Tellings.{by_worlds, recorded, told_event}
+use Rattle.command_steps.proofs.FileLaws.{store_goes, store_stops}
 use Rattle.symple_words.specs.declared.line.Lines.{Lines}
 use Rattle.vert_base.specs.declared.limits.TheConstants.{SCHEDULE_BYTES}
 use Rattle.vert_base.specs.declared.message.Event.{Event}
@@ -152,23 +152,23 @@ module _ (work : Work) (lines : Lines) (machines : ℕ) (w : World) (g h : Lcg) 
   run = record { work = work; lines = lines; name = name; machines = machines }
 
   -- the text could not be kept
-  pub unkept : (why : Failure) → KeepsBytes shelf new name bytes (Err why) →
+  pub unkept : (why : Failure) → StoresFile name bytes shelf new (Err why) →
       RecordsOn run [] w g (outside shelf old input) (outside new mid input) (Some (fault_of why))
   unkept why keeps =
       record_ends work lines machines w g h old mid v recording has ends name shelf input (outside new mid input)
       (Some (fault_of why))
-      (kept_stops NoTask shelf new name recording.text why
-      (subst (λ (t : List ℕ). KeepsBytes shelf new name t (Err why)) same keeps) (Puts (table_of work v) Ends) mid input)
+      (store_stops NoTask name recording.text shelf new (fault_of why)
+      (subst (λ (t : List ℕ). StoresFile name t shelf new (Err why)) same keeps) (Puts (table_of work v) Ends) mid input)
 
-  module _ (keeps : KeepsBytes shelf new name bytes (Ok tt)) (last : Held) where
+  module _ (keeps : StoresFile name bytes shelf new (Ok tt)) (last : Held) where
     behind : (outcome : Option Fault) →
         Leaves NoTask (Puts (table_of work v) Ends) (outside new mid input) (outside new last input) outcome →
         RecordsOn run [] w g (outside shelf old input) (outside new last input) outcome
     behind outcome leaves =
         record_ends work lines machines w g h old mid v recording has ends name shelf input (outside new last input)
         outcome
-        (kept_goes NoTask shelf new name recording.text
-        (subst (λ (t : List ℕ). KeepsBytes shelf new name t (Ok tt)) same keeps) (Puts (table_of work v) Ends) mid input
+        (store_goes NoTask name recording.text shelf new
+        (subst (λ (t : List ℕ). StoresFile name t shelf new (Ok tt)) same keeps) (Puts (table_of work v) Ends) mid input
         (outside new last input) outcome leaves)
 
     -- it was, and the table was put, or could not be

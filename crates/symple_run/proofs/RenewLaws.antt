@@ -17,10 +17,11 @@ use Rattle.delivery_log.specs.Says.{Says}
 use Rattle.delivery_log.specs.ScheduleTexts.{event_lines, last_round, schedule_text, text_of}
 use Rattle.delivery_log.proofs.ReadLaws.{text_more}
 use Rattle.symple_face.specs.Work.{Work}
-use Rattle.symple_run.specs.FileWalks.{BadText, KeepsBytes, NotRead, WantsToRead}
+use Rattle.command_steps.specs.FileWalks.{StoresFile}
+use Rattle.symple_run.specs.FileWalks.{BadText, NotRead, WantsToRead}
 use Rattle.symple_run.specs.Followed.{IsFaulty, Tells, renewed}
 use Rattle.symple_run.specs.Played.{IsPlayed}
-use Rattle.symple_run.proofs.FileLaws.{kept_goes, kept_stops}
+use Rattle.command_steps.proofs.FileLaws.{store_goes, store_stops}
 use Rattle.vert_base.specs.declared.limits.TheConstants.{SCHEDULE_BYTES}
 use Rattle.vert_base.specs.declared.message.Event.{Event}
 
@@ -58,19 +59,19 @@ long_or_wants machines es fs same fault = subst (λ (list : List Event). (fault 
     ⊎ ((fault ≡ LongSchedule) × (SCHEDULE_BYTES < length (schedule_text Roundless machines list)))) same
 
 module _ (work : Work) (text target : List ℕ) where
-  ends : (bytes : List ℕ) (old new : Kept) (result : Result (Unit {0}) Failure) → KeepsBytes old new target bytes result →
+  ends : (bytes : List ℕ) (old new : Kept) (result : Result (Unit {0}) Failure) → StoresFile target bytes old new result →
       (out : Held) (input : Left) →
       Leaves (IsPlayed work) (Stores target bytes Ends) (outside old out input) (outside new out input)
       (fault_after result)
-  ends bytes old new (Ok done) keeps out input = kept_goes (IsPlayed work) old new target bytes keeps Ends out input
+  ends bytes old new (Ok done) keeps out input = store_goes (IsPlayed work) target bytes old new keeps Ends out input
       (outside new out input) None (record { same = refl; fine = refl })
   ends bytes old new (Err why) keeps out input =
-      kept_stops (IsPlayed work) old new target bytes why keeps Ends out input
+      store_stops (IsPlayed work) target bytes old new (fault_of why) keeps Ends out input
 
   module _ (machines : ℕ) (events : List Event) (says : Says text machines events) where
     -- all events were added, and the text was kept, or could not be
     pub renew_goes : (recording : Recording) → Records recording machines events → (old new : Kept)
-        (result : Result (Unit {0}) Failure) → KeepsBytes old new target recording.text result → (out : Held)
+        (result : Result (Unit {0}) Failure) → StoresFile target recording.text old new result → (out : Held)
         (input : Left) → Leaves (IsPlayed work) (Runs (Renewed text target) follows) (outside old out input)
         (outside new out input) (fault_after result)
     renew_goes recording is old new result keeps out input =

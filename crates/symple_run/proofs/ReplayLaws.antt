@@ -22,12 +22,12 @@ use Rattle.symple_face.specs.Cluster.{World, after, all_possible, finished, poss
 use Rattle.symple_face.specs.State.{State}
 use Rattle.symple_face.specs.Work.{Work}
 use Rattle.symple_run.specs.Followed.{IsFaulty, IsFollowed, Tells}
-use Rattle.symple_run.specs.PlainPlays.{IsFirstWorld, log_line}
+use Rattle.machine_runs.specs.PlainPlays.{IsFirstWorld, log_line}
 use Rattle.symple_run.specs.Recorded.{IsDrawnPlay}
 use Rattle.symple_run.specs.Replays.{GainsTheSame, ReplaysGainTheSame, kept_bytes}
-use Rattle.symple_run.specs.Tellings.{by_worlds, followed, lack_of, recorded, told_end, told_event, unless_lacking, unless_refused, why_of}
+use Rattle.machine_runs.specs.Tellings.{by_worlds, followed, lack_of, recorded, told_end, told_event, unless_lacking, unless_refused, why_of}
 use Rattle.symple_run.proofs.CoreRuns.{ChosenWell, first_reached}
-use Rattle.symple_run.proofs.FirstLaws.{first_same}
+use Rattle.machine_runs.proofs.FirstLaws.{first_same}
 use Rattle.symple_run.proofs.TextTasks.{no_fault, one_form}
 use Rattle.symple_words.specs.declared.line.Lines.{Lines}
 use Rattle.symple_words.specs.Ranges.{AreMachines}

@@ -24,10 +24,10 @@ use Rattle.symple_face.specs.Restarts.{IsStart}
 use Rattle.symple_face.specs.declared.start.Start.{Start}
 use Rattle.symple_face.specs.Work.{PlainStart, Work, plain_start}
 use Rattle.symple_run.specs.KeptImages.{key_for}
-use Rattle.symple_run.specs.PlainPlays.{GoesOn, course_from}
+use Rattle.machine_runs.specs.PlainPlays.{GoesOn, course_from}
 use Rattle.symple_run.specs.Played.{IsPlayed}
 use Rattle.symple_run.specs.Resumes.{Found, HasFile, IsImage, IsReady, Tells, begun_world, later_of}
-use Rattle.symple_run.specs.RunParts.{IsRunOf}
+use Rattle.machine_runs.specs.RunParts.{IsRunOf}
 use Rattle.symple_run.proofs.ImagedRuns.{each_part, later_ready, told_ready}
 use Rattle.vert_base.specs.declared.limits.TheConstants.{IMAGE_BYTES}
 use Rattle.word_kinds.specs.Fits.{IsFitting}

@@ -26,7 +26,7 @@ use Rattle.symple_run.specs.Played.{IsFirstWorld, IsPlayed, ends_round, first_re
 use Rattle.symple_run.specs.Shows.{IsShow, IsSourceShow, reads_in_all, shown_course}
 use Rattle.symple_run.specs.ShowWalks.{CountsOn, HasPlayed, reported}
 use Rattle.symple_run.specs.SourceRuns.{IsPrinted}
-use Rattle.symple_run.proofs.PlayLaws.{gone_report}
+use Rattle.machine_runs.proofs.PlayLaws.{gone_report}
 use Rattle.vert_base.specs.declared.message.Event.{Event}
 use Rattle.vert_base.specs.declared.message.Event.TheVariants.{Go, Take}
 use Rattle.vert_tree.specs.declared.program.Program.{Program}

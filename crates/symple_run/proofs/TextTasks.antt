@@ -16,9 +16,9 @@ use Rattle.symple_face.specs.Cluster.{World}
 use Rattle.symple_face.specs.Work.{Work}
 use Rattle.symple_run.specs.Followed.{ByText, IsFaulty, IsFollowed, IsFollowedPlay, IsRenewed, Tells, renewed, text_fault}
 use Rattle.symple_run.specs.Recorded.{IsDrawnPlay}
-use Rattle.symple_run.specs.Tellings.{by_worlds, followed, recorded}
+use Rattle.machine_runs.specs.Tellings.{by_worlds, followed, recorded}
 use Rattle.symple_run.proofs.CourseShapes.{followed_calm, followed_quiet, followed_spares, recorded_calm, recorded_spares, renewed_calm, renewed_spares}
-use Rattle.symple_run.proofs.FirstLaws.{first_same}
+use Rattle.machine_runs.proofs.FirstLaws.{first_same}
 use Rattle.vert_base.specs.declared.message.Event.{Event}
 
 -- a text that says machines and events has no fault

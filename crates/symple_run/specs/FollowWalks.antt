@@ -8,7 +8,7 @@ use Rattle.command_steps.specs.States.{Held, Kept, Left, Outside, outside}
 use Rattle.delivery_log.specs.declared.form.Form.{Form}
 use Rattle.symple_face.specs.Cluster.{World}
 use Rattle.symple_face.specs.Work.{Work}
-use Rattle.symple_run.specs.Tellings.{by_worlds, followed, told_end, told_event, unless_lacking, unless_refused, why_of}
+use Rattle.machine_runs.specs.Tellings.{by_worlds, followed, told_end, told_event, unless_lacking, unless_refused, why_of}
 use Rattle.symple_words.specs.declared.line.Lines.{Lines}
 use Rattle.vert_base.specs.declared.message.Event.{Event}
 

@@ -10,8 +10,8 @@ use Rattle.delivery_log.specs.Says.{Gives, Says}
 use Rattle.delivery_log.specs.ScheduleTexts.{schedule_text}
 use Rattle.symple_face.specs.Cluster.{World}
 use Rattle.symple_face.specs.Work.{Work}
-use Rattle.symple_run.specs.PlainPlays.{IsFirstWorld}
-use Rattle.symple_run.specs.Tellings.{by_worlds, followed}
+use Rattle.machine_runs.specs.PlainPlays.{IsFirstWorld}
+use Rattle.machine_runs.specs.Tellings.{by_worlds, followed}
 use Rattle.vert_base.specs.declared.limits.TheConstants.{SCHEDULE_BYTES}
 use Rattle.vert_base.specs.declared.message.Event.{Event}
 

@@ -13,7 +13,7 @@ use Rattle.schedule_laws.specs.Layout.{round_lines, table_of}
 use Rattle.schedule_laws.specs.Starts.{start_told}
 use Rattle.symple_face.specs.Cluster.{IsPlainRun, World, step}
 use Rattle.symple_face.specs.Work.{PlainStart, Work}
-use Rattle.symple_run.specs.PlainPlays.{IsFirstWorld, ends_round, log_line}
+use Rattle.machine_runs.specs.PlainPlays.{IsFirstWorld, ends_round, log_line}
 use Rattle.symple_words.specs.declared.line.GraphForm.{GraphForm}
 use Rattle.symple_words.specs.declared.line.Lines.{Lines}
 use Rattle.vert_base.specs.declared.message.Event.{Event}

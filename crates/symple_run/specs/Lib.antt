@@ -3,16 +3,13 @@ pub mod Followed
 pub mod FollowWalks
 pub mod Continued
 pub mod Headline
-pub mod PlainPlays
 pub mod Interrupted
 pub mod KeptImages
 pub mod Played
-pub mod PlayedEvents
 pub mod Recorded
 pub mod RecordWalks
 pub mod Replays
 pub mod Resumes
-pub mod RunParts
 pub mod RunWalks
 pub mod ShowWalks
 pub mod Shows
@@ -20,4 +17,3 @@ pub mod SourceImages
 pub mod SourceRuns
 pub mod SourceSchedules
 pub mod SourceTexts
-pub mod Tellings

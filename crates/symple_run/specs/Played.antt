@@ -6,7 +6,7 @@ use Rattle.symple_run.specs.Recorded.{IsDrawnPlay}
 use Rattle.symple_run.specs.Shows.{IsShow}
 use Rattle.symple_run.specs.KeptImages.{IsImagedPlay}
 use Rattle.symple_run.specs.Resumes.{IsResumedPlay}
-pub use Rattle.symple_run.specs.PlainPlays.{GoesOn, IsFirstWorld, IsPlainPlay, LeadsOn, course_from, ends_round, first_report, is_late_judge, judges_late, line_of, line_with, lines_behind, lines_to, log_line, report_with, rows_of, rows_with}
+pub use Rattle.machine_runs.specs.PlainPlays.{GoesOn, IsFirstWorld, IsPlainPlay, LeadsOn, course_from, ends_round, first_report, is_late_judge, judges_late, line_of, line_with, lines_behind, lines_to, log_line, report_with, rows_of, rows_with}
 
 -- the task may go so, where machines are of this kind; what is not built yet may not
 abbrev pub IsPlayed : Work → Task → Course → Type 0

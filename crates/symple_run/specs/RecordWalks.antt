@@ -9,7 +9,7 @@ use Rattle.delivery_log.specs.Records.{Recording, Records}
 use Rattle.rand_pcg.specs.Lcg.{Lcg}
 use Rattle.symple_face.specs.Cluster.{World}
 use Rattle.symple_face.specs.Work.{Work}
-use Rattle.symple_run.specs.Tellings.{by_worlds, recorded}
+use Rattle.machine_runs.specs.Tellings.{by_worlds, recorded}
 use Rattle.symple_words.specs.declared.line.Lines.{Lines}
 use Rattle.vert_base.specs.declared.message.Event.{Event}
 

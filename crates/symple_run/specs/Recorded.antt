@@ -4,8 +4,8 @@ use Rattle.command_steps.specs.Orders.{Course, Play}
 use Rattle.delivery_log.specs.Choosers.{IsDrawnRun, generator_of}
 use Rattle.symple_face.specs.Cluster.{World}
 use Rattle.symple_face.specs.Work.{Work}
-use Rattle.symple_run.specs.PlainPlays.{IsFirstWorld}
-use Rattle.symple_run.specs.Tellings.{by_worlds, recorded}
+use Rattle.machine_runs.specs.PlainPlays.{IsFirstWorld}
+use Rattle.machine_runs.specs.Tellings.{by_worlds, recorded}
 use Rattle.vert_base.specs.declared.message.Event.{Event}
 
 -- The events are those that the seed draws, and their text is kept under this name.

@@ -15,8 +15,8 @@ use Rattle.symple_face.specs.Restarts.{IsStart}
 use Rattle.symple_face.specs.declared.start.Start.{Start}
 use Rattle.symple_face.specs.Work.{PlainStart, Work, plain_start}
 use Rattle.symple_run.specs.KeptImages.{key_for}
-use Rattle.symple_run.specs.PlainPlays.{course_from}
-use Rattle.symple_run.specs.RunParts.{IsRunOf}
+use Rattle.machine_runs.specs.PlainPlays.{course_from}
+use Rattle.machine_runs.specs.RunParts.{IsRunOf}
 use Rattle.vert_base.specs.declared.limits.TheConstants.{IMAGE_BYTES}
 use Rattle.vert_base.specs.declared.message.Event.{Event}
 use Rattle.word_kinds.specs.Fits.{IsFitting}

@@ -12,7 +12,7 @@ use Rattle.schedule_laws.specs.ToldRounds.{rounds_ended}
 use Rattle.sha2.specs.Sha256.{sha256}
 use Rattle.symple_face.specs.Cluster.{IsPlainRun, World, after}
 use Rattle.symple_face.specs.Work.{Work}
-use Rattle.symple_run.specs.PlainPlays.{IsFirstWorld}
+use Rattle.machine_runs.specs.PlainPlays.{IsFirstWorld}
 use Rattle.symple_run.specs.SourceTexts.{job_of}
 use Rattle.vert_base.specs.declared.message.Event.{Event}
 use Rattle.vert_eval.specs.SourceRun.{Run, source_run}

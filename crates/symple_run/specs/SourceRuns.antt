@@ -17,7 +17,7 @@ use Rattle.symple_run.specs.SourceTexts.{job_of, play_text}
 use Rattle.symple_run.specs.KeptImages.{StoresImages, key_for}
 use Rattle.symple_run.specs.Resumes.{Tells, later_of}
 use Rattle.symple_run.specs.SourceImages.{begun_text, files_kept, images_of}
-use Rattle.symple_run.specs.RunParts.{IsRunOf}
+use Rattle.machine_runs.specs.RunParts.{IsRunOf}
 use Rattle.vert_base.specs.declared.message.Event.{Event}
 use Rattle.vert_eval.specs.SourceRun.{source_run}
 

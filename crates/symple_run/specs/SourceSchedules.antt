@@ -10,7 +10,7 @@ use Rattle.symple_face.specs.CoreWork.{core_work}
 use Rattle.symple_face.specs.Parts.{PlainPart}
 use Rattle.symple_run.specs.Followed.{ByText, IsFollowedPlay}
 use Rattle.symple_run.specs.Recorded.{IsDrawnPlay}
-use Rattle.symple_run.specs.RunParts.{IsRunOf}
+use Rattle.machine_runs.specs.RunParts.{IsRunOf}
 use Rattle.symple_run.specs.SourceTexts.{play_text}
 use Rattle.vert_base.specs.declared.message.Event.{Event}
 

@@ -14,15 +14,13 @@ ghost use Rattle.symple_run.specs.RunWalks.{DoesStoring, GivesKeyed};
 ghost use Rattle.symple_words.specs.Ranges.{AreMachines, IsGraphForm};
 ghost use Rattle.symple_words.specs.Views.{job_view};
 
-use crate::machines::{play_event, started};
-use crate::rounds::ends_round;
-use crate::table::{put_table, vertices};
 use arrayvec::ArrayVec;
 use check_point::{key, write_image};
 use cluster_run::{Cluster, choices_are_in_order};
 use command_steps::{Failure, Sources, load_sources, numbered_name, store_file};
 use delivery_log::plain;
 use edge_reader::Edges;
+use machine_runs::{ends_round, play_event, put_table, started, vertices};
 use outside::{Shelf, Sink};
 use std::alloc::Global;
 use symple_face::{Ahead, Restart, Site, Start};

@@ -6,15 +6,12 @@ mod counts;
 mod files;
 mod following;
 mod images;
-mod machines;
 mod pieces;
 mod recording;
 mod resumes;
-mod rounds;
 mod schedules;
 mod shown;
 mod streams;
-mod table;
 #[cfg(test)]
 mod tests;
 mod top;

@@ -22,13 +22,12 @@ ghost use Rattle.symple_words.specs.Views.{job_view};
 ghost use Rattle.vert_base.specs.declared.limits.TheConstants.{SCHEDULE_BYTES};
 ghost use Rattle.vert_base.specs.declared.message.Event.{Event};
 
-use crate::machines::{play_event, started};
-use crate::schedules::{judged, keep, load_schedule};
-use crate::table::put_table;
+use crate::schedules::{judged, load_schedule};
 use cluster_run::Cluster;
-use command_steps::{Failure, load_both};
+use command_steps::{Failure, load_both, store_file};
 use delivery_log::{Chooser, RecordFault, Recorder, chosen_runs_are_complete};
 use edge_reader::Edges;
+use machine_runs::{play_event, put_table, started};
 use outside::{Shelf, Sink};
 use std::alloc::Global;
 use symple_face::Site;
@@ -80,7 +79,7 @@ fn play_drawn<S: Site, H: Shelf, O: Sink>(
     let mut cluster = started::<S>(alloc, typed, edges, machines, job.draws)?;
     let mut recorder = Recorder::new(alloc, machines)?;
     record_events(&mut cluster, seed, &mut recorder, &job.lines, out)?;
-    keep(shelf, schedule, recorder.text())?;
+    store_file(shelf, schedule, recorder.text())?;
     put_table(&cluster, out)?;
     Ok(())
 }
@@ -149,7 +148,7 @@ pub(crate) fn renew<H: Shelf>(
     let schedule = judged(alloc, &text)?;
     let mut recorder = Recorder::new(alloc, schedule.machines)?;
     add_all(&mut recorder, &schedule.events)?;
-    keep(shelf, target, recorder.text())
+    store_file(shelf, target, recorder.text())
 }
 
 /// Adds events to a recorder.

@@ -16,9 +16,6 @@ ghost use Rattle.symple_run.specs.Shows.{reads_in_all};
 ghost use Rattle.symple_run.specs.ShowWalks.{HasPlayed, reported};
 ghost use Rattle.symple_words.specs.Ranges.{AreMachines};
 
-use crate::machines::started;
-use crate::rounds::ends_round;
-use crate::table::{vertices, write_line};
 use array_text::write_header;
 use arrayvec::ArrayVec;
 use cluster_run::{Cluster, choices_are_in_order};
@@ -26,6 +23,7 @@ use command_steps::{Failure, flush};
 use delivery_log::plain;
 use demo_parts::{TextSink, drawn_edges, write_shown};
 use demo_program::demo_program;
+use machine_runs::{ends_round, started, vertices, write_line};
 use outside::{Sink, SinkFault};
 use sha2::{Digest, Sha256};
 use std::alloc::Global;

@@ -19,11 +19,9 @@ ghost use Rattle.symple_words.specs.Views.{job_view, line_view, words_of};
 
 use crate::following::replay;
 use crate::images::{load_keyed, play_imaged};
-use crate::machines::{play_out, started};
 use crate::recording::{record, renew};
 use crate::resumes::{find_start, later_of, play_resumed, stopped_runs_go_on};
 use crate::shown::show;
-use crate::table::put_table;
 use check_point::images_read_back;
 use cluster_run::{choices_are_in_order, worlds_are_in_order};
 use command_steps::{
@@ -32,6 +30,7 @@ use command_steps::{
 use delivery_log::chosen_runs_are_complete;
 use edge_reader::Edges;
 use instrument::split_of;
+use machine_runs::{play_out, put_table, started};
 use order_free::order_free_programs;
 use outside::{Shelf, Sink, Source};
 use std::alloc::Global;

@@ -11,7 +11,7 @@ use Rattle.edge_reader.specs.EdgeList.{Graph}
 use Rattle.edge_reader.specs.Gives.{graph_of_edges}
 use Rattle.symple_run.specs.Played.{IsPlayed}
 use Rattle.symple_run.specs.RunWalks.{DoesTask}
-use Rattle.symple_run.proofs.FileLaws.{bytes_go, bytes_stop}
+use Rattle.command_steps.proofs.FileLaws.{bytes_go, bytes_stop}
 use Rattle.symple_words.specs.Views.{job_view}
 use Rattle.vert_tree.specs.declared.program.Program.{Program}
 use Rattle.symple_run.proofs.following.replay.Goals as goal

@@ -2,7 +2,7 @@ use Rattle.std.proofs.Common.{◌≡◌, map, length, ap, arith}
 use Rattle.std.proofs.lemmas.List.{length-map}
 use Rattle.schedule_laws.specs.Layout.{row_in, vertices_in}
 use Rattle.symple_face.specs.Work.{PlainStart}
-use Rattle.symple_run.proofs.WorldLaws.{of_run, some_sites, vertex_count}
+use Rattle.machine_runs.proofs.WorldLaws.{of_run, some_sites, vertex_count}
 use Rattle.symple_run.proofs.images.keep_image.Goals as goal
 
 pub site-requires : goal.site-requires

@@ -8,7 +8,7 @@ use Rattle.symple_face.specs.Cluster.{World}
 use Rattle.symple_face.specs.Work.{PlainStart}
 use Rattle.symple_run.specs.KeptImages.{CanBeKept, KeepsImage}
 use Rattle.symple_run.proofs.ImageLaws.{behind_is, imaged_fails, imaged_goes, imaged_stops, judged_can}
-use Rattle.symple_run.proofs.PlayLaws.{not_finished}
+use Rattle.machine_runs.proofs.PlayLaws.{not_finished}
 use Rattle.symple_run.proofs.images.play_out_imaged.Goals as goal
 
 pub events-init : goal.events-init

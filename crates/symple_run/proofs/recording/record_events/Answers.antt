@@ -3,7 +3,7 @@ use Rattle.std.proofs.lemmas.Result.{err_from_is_err_and}
 use Rattle.command_steps.specs.States.{outside, sink_state}
 use Rattle.rand_pcg.specs.Lcg.{Lcg}
 use Rattle.symple_run.specs.RecordWalks.{Recordings, RecordsOn}
-use Rattle.symple_run.proofs.PlayLaws.{not_finished}
+use Rattle.machine_runs.proofs.PlayLaws.{not_finished}
 use Rattle.symple_run.proofs.RecordLaws.{add_stops, drawn_behind, record_goes, record_stops, text_fits}
 use Rattle.symple_run.proofs.recording.record_events.Goals as goal
 

@@ -6,9 +6,10 @@ use Rattle.command_steps.specs.Orders.{Order, Renewed, Runs, follows}
 use Rattle.command_steps.specs.States.{outside, shelf_state}
 use Rattle.delivery_log.specs.Records.{Records}
 use Rattle.delivery_log.specs.Says.{Says}
-use Rattle.symple_run.specs.FileWalks.{KeepsBytes, NotRead}
+use Rattle.command_steps.specs.FileWalks.{StoresFile}
+use Rattle.symple_run.specs.FileWalks.{NotRead}
 use Rattle.symple_run.specs.Played.{IsPlayed}
-use Rattle.symple_run.proofs.FileLaws.{bytes_go, bytes_stop}
+use Rattle.command_steps.proofs.FileLaws.{bytes_go, bytes_stop}
 use Rattle.symple_run.proofs.RenewLaws.{long_or_wants, renew_faulty, renew_goes, renew_stops}
 use Rattle.vert_base.specs.declared.message.Event.{Event}
 use Rattle.symple_run.proofs.recording.renew.Goals as goal
@@ -57,7 +58,7 @@ pub returns-clause-order : goal.returns-clause-order
 returns-clause-order g c =
     let old = shelf_state g.H.Shelf.files g.H.Shelf.loads g.H.Shelf.stores c.args.shelf.now in
     let mid = shelf_state g.H.Shelf.files g.H.Shelf.loads g.H.Shelf.stores c.load_schedule.new.shelf in
-    let new = shelf_state g.H.Shelf.files g.H.Shelf.loads g.H.Shelf.stores c.keep.new.shelf in
+    let new = shelf_state g.H.Shelf.files g.H.Shelf.loads g.H.Shelf.stores c.store_file.new.shelf in
     let next : List ℕ → Order = λ events. Runs (Renewed events c.args.target.now) follows in
     let text = c.in_ok-text.text.items in
     let m = c.in_ok-schedule.schedule.machines in
@@ -66,8 +67,8 @@ returns-clause-order g c =
     let recording = c.add_all.new.recorder in
     let has : Records recording m es = subst (λ (list : List Event). Records recording m list) c.deref-2.ensures.value
     (c.in_ok-add_all.ensures.ok m c.in_ok-recorder.ensures) in
-    let keeps = subst (λ (t : List ℕ). KeepsBytes mid new c.args.target.now t c.keep.result) c.text.ensures
-    c.keep.ensures.kept in
+    let keeps = subst (λ (t : List ℕ). StoresFile c.args.target.now t mid new c.store_file.result) c.text.ensures
+    c.store_file.ensures.stored in
     λ work out input. bytes_go (IsPlayed work) old mid c.args.schedule.now 67108864 LongSchedule text
     c.in_ok-text.ensures.bytes next out input _ _
-    (renew_goes work text c.args.target.now m es says recording has mid new c.keep.result keeps out input)
+    (renew_goes work text c.args.target.now m es says recording has mid new c.store_file.result keeps out input)

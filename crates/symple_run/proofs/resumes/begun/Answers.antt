@@ -8,7 +8,7 @@ use Rattle.symple_face.specs.declared.start.Start.{Start}
 use Rattle.symple_face.specs.PartViews.{plain_of}
 use Rattle.symple_face.specs.Work.{plain_start}
 use Rattle.symple_run.specs.Resumes.{IsReady, begun_world}
-use Rattle.symple_run.proofs.PartsFrom.{ok_more}
+use Rattle.machine_runs.proofs.PartsFrom.{ok_more}
 use Rattle.symple_run.proofs.ResumeLaws.{parts_ready}
 use Rattle.symple_run.proofs.resumes.begun.Goals as goal
 

@@ -2,7 +2,7 @@ use Rattle.std.proofs.Common.{refl}
 use Rattle.std.proofs.lemmas.Result.{err_from_is_err_and}
 use Rattle.command_steps.specs.Commands.{play_of}
 use Rattle.edge_reader.specs.Gives.{graph_of_edges}
-use Rattle.symple_run.proofs.PlayLaws.{table_goes, table_stops}
+use Rattle.machine_runs.proofs.PlayLaws.{table_goes, table_stops}
 use Rattle.symple_run.proofs.ResumeLaws.{resumed_plays}
 use Rattle.symple_words.specs.Views.{job_view}
 use Rattle.symple_run.proofs.resumes.play_resumed.Goals as goal

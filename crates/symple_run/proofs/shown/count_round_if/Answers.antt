@@ -1,5 +1,5 @@
 use Rattle.std.proofs.Common.{arith}
-use Rattle.symple_run.proofs.WorldLaws.{of_run, some_sites}
+use Rattle.machine_runs.proofs.WorldLaws.{of_run, some_sites}
 use Rattle.symple_run.proofs.shown.count_round_if.Goals as goal
 
 pub site-requires : goal.site-requires

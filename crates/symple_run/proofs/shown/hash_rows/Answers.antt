@@ -2,7 +2,7 @@ use Rattle.std.proofs.Common.{◌≡◌, ◌<◌, ◌≤◌, ◌+◌, ◌++◌, 
 use Rattle.schedule_laws.specs.Layout.{vertices_in}
 use Rattle.sha2.specs.Hashers.{Holds256}
 use Rattle.symple_run.specs.Played.{line_of, lines_to}
-use Rattle.symple_run.proofs.WorldLaws.{first_site, lines_all, lines_more, lines_none, of_run}
+use Rattle.machine_runs.proofs.WorldLaws.{first_site, lines_all, lines_more, lines_none, of_run}
 use Rattle.symple_run.proofs.shown.hash_rows.Goals as goal
 
 pub vertices-init : goal.vertices-init

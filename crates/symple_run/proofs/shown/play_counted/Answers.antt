@@ -1,5 +1,5 @@
 use Rattle.std.proofs.Common.{rules, arith, sym}
-use Rattle.symple_run.proofs.PlayLaws.{not_finished}
+use Rattle.machine_runs.proofs.PlayLaws.{not_finished}
 use Rattle.symple_run.proofs.ShowLaws.{count_more, count_none, count_over}
 use Rattle.symple_run.proofs.shown.play_counted.Goals as goal
 

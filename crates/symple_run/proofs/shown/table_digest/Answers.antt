@@ -5,7 +5,7 @@ use Rattle.instrument.specs.declared.split.Split.{Split}
 use Rattle.sha2.specs.Hashers.{Holds256}
 use Rattle.sha2.specs.Sha256.{sha256}
 use Rattle.symple_run.specs.Played.{rows_of}
-use Rattle.symple_run.proofs.WorldLaws.{of_run, some_sites, table_is}
+use Rattle.machine_runs.proofs.WorldLaws.{of_run, some_sites, table_is}
 use Rattle.symple_run.proofs.shown.table_digest.Goals as goal
 
 pub site-requires : goal.site-requires

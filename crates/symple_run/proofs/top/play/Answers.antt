@@ -1,7 +1,7 @@
 use Rattle.std.proofs.lemmas.Result.{err_from_is_err_and}
 use Rattle.command_steps.specs.Commands.{play_of}
 use Rattle.edge_reader.specs.Gives.{graph_of_edges}
-use Rattle.symple_run.proofs.PlayLaws.{run_plays, table_goes, table_stops}
+use Rattle.machine_runs.proofs.PlayLaws.{run_plays, table_goes, table_stops}
 use Rattle.symple_words.specs.Views.{job_view}
 use Rattle.symple_run.proofs.top.play.Goals as goal
 

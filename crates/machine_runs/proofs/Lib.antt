@@ -1,0 +1,14 @@
+-- What machines tell as they play, event by event, is what a run puts.
+--
+-- The claim: whoever chooses the events, each is played behind its own line and before those of the round that it ends
+-- (PlayLaws: `PutsLines` and `StopsInLines` put before whatever comes then), and at the end the table is put.
+--
+-- The chain. The machines are those of the graph's parts, by PartsFrom and FirstLaws. The texts of rows, rounds and
+-- reads that are put piece by piece are those by definition: NumberedLaws, RoundLaws, ReadTurns, WorldLaws.
+pub mod FirstLaws
+pub mod NumberedLaws
+pub mod PartsFrom
+pub mod PlayLaws
+pub mod ReadTurns
+pub mod RoundLaws
+pub mod WorldLaws

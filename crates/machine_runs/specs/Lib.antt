@@ -1,0 +1,4 @@
+pub mod PlainPlays
+pub mod PlayedEvents
+pub mod RunParts
+pub mod Tellings
