@@ -57,7 +57,7 @@ front_of form held (x ∷ es) (f ∷ fs) rest a b e =
     }
 
 -- ---- first lines
-small_machines : (form : Form) (machines : ℕ) → machines ≤ most_machines form → machines ≤ 64
+pub small_machines : (form : Form) (machines : ℕ) → machines ≤ most_machines form → machines ≤ 64
 small_machines Whole machines few = omega (arith, few)
 small_machines Roundless machines few = few
 

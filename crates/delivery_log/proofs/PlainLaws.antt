@@ -27,11 +27,11 @@ plain_step : (b : ℕ) (bs : List ℕ) (t : Bool) → (b == 10) ≡ t → (if t 
 plain_step b bs true same e more = absurd (grind arith)
 plain_step b bs false other e more = (not_feed b other, more e)
 
-plain_line : (bytes : List ℕ) → is_plain bytes ≡ true → IsLine bytes
+pub plain_line : (bytes : List ℕ) → is_plain bytes ≡ true → IsLine bytes
 plain_line [] e = tt
 plain_line (b ∷ bs) e = plain_step b bs (b == 10) refl e (plain_line bs)
 
-joined : (xs ys : List ℕ) → IsLine xs → IsLine ys → IsLine (xs ++ ys)
+pub joined : (xs ys : List ℕ) → IsLine xs → IsLine ys → IsLine (xs ++ ys)
 joined xs ys a b = all_append (λ byte. byte ≢ 10) xs ys a b
 
 no_digit : (b : ℕ) → digit_value b < 10 → b ≢ 10
@@ -41,7 +41,7 @@ digits_are_line : (bytes : List ℕ) → AllDigits 10 bytes → IsLine bytes
 digits_are_line [] all = tt
 digits_are_line (b ∷ bs) all = (no_digit b all.0, digits_are_line bs all.1)
 
-decimal_line : (n : ℕ) → n < 2 ^ 32 → IsLine (decimal n)
+pub decimal_line : (n : ℕ) → n < 2 ^ 32 → IsLine (decimal n)
 decimal_line n small = digits_are_line (decimal n) (decimal_is_IsNumeral n (omega arith)).0.1
 
 -- ---- names
@@ -52,10 +52,10 @@ numbers_line : (numbers : List ℕ) → AllByRecursion (λ n. n < 2 ^ 32) number
 numbers_line [] all = tt
 numbers_line (n ∷ ns) all = joined (number_text n) (numbers_text ns) (spaced n all.0) (numbers_line ns all.1)
 
-wide : (n : ℕ) → n < 256 → n < 2 ^ 32
+pub wide : (n : ℕ) → n < 256 → n < 2 ^ 32
 wide n small = omega arith
 
-pub behind_small : (x : Name) → IsName x → AllByRecursion (λ n. n < 2 ^ 32) (numbers_behind x)
+behind_small : (x : Name) → IsName x → AllByRecursion (λ n. n < 2 ^ 32) (numbers_behind x)
 behind_small x is = choose (has_steps x.kind)
   where
     choose : (b : Bool) → AllByRecursion (λ n. n < 2 ^ 32) (if b then x.step ∷ x.half ∷ x.from ∷ x.to ∷ []
@@ -71,10 +71,14 @@ kind_line Push = plain_line (codes "push") refl
 kind_line Tally = plain_line (codes "tally") refl
 kind_line Verdict = plain_line (codes "verdict") refl
 
-taken_line : (form : Form) (x : Name) → IsName x → IsLine (taken_text form x)
-taken_line Whole x is =
+-- a name's own text
+pub name_line : (x : Name) → IsName x → IsLine (kind_text x.kind ++ numbers_text (x.round ∷ numbers_behind x))
+name_line x is =
     joined (kind_text x.kind) (numbers_text (x.round ∷ numbers_behind x)) (kind_line x.kind)
     (numbers_line (x.round ∷ numbers_behind x) (is.round, behind_small x is))
+
+taken_line : (form : Form) (x : Name) → IsName x → IsLine (taken_text form x)
+taken_line Whole x is = name_line x is
 taken_line Roundless x is =
     joined (kind_text x.kind) (numbers_text (numbers_behind x)) (kind_line x.kind)
     (numbers_line (numbers_behind x) (behind_small x is))

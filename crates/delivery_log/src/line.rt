@@ -24,8 +24,8 @@ fn line_len(text: &[u8]) -> usize
     text.len()
 }
 
-// The first line without its line feed, where it has one, and what stands behind it.
-fn line_at(text: &[u8]) -> Option<(&[u8], &[u8])>
+/// The first line without its line feed, where it has one, and what stands behind it.
+pub fn line_at(text: &[u8]) -> Option<(&[u8], &[u8])>
     ensures line { IfSome result (λ read. IsLine read.0.now) }
     ensures spelled { IfSome result (λ read. text.now ≡ read.0.now ++ 10 ∷ read.1.now) }
     ensures found { (line rest : List ℕ) → IsLine line → text.now ≡ line ++ 10 ∷ rest →

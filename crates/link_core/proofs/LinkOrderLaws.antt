@@ -13,7 +13,8 @@ use Rattle.cluster_run.proofs.Chosen.{choices_there, goes_on}
 use Rattle.cluster_run.proofs.ReachedWorlds.{reached_ties}
 use Rattle.link_core.specs.declared.event.LinkEvent.{LinkEvent}
 use Rattle.link_core.specs.LinkChoices.{link_choices}
-use Rattle.link_core.specs.LinkChoosers.{DrawnLinksArePossible, IsLinkRun, LinkRunsAreComplete, LinkRunsAreOne, SomeLinkIsDrawn, behind_word, link_drawn, word_of}
+use Rattle.link_core.specs.LinkChoosers.{DrawnLinksArePossible, IsLinkRun, LinkRunsAreComplete, LinkRunsAreOne, SomeLinkIsDrawn, link_drawn}
+use Rattle.delivery_log.specs.Choosers.{behind_word, word_of}
 use Rattle.link_core.specs.LinkFaults.{link_fault_of}
 use Rattle.link_core.specs.LinkOrder.{AreLinkChoices, EventsAreOverPlain, IsDeliveredOnce, LinkChoicesArePossible, LinksAreReached, LinkStepsReach, MessagesAreDeliveredOnce, SomeLinkMoves}
 use Rattle.link_core.specs.LinkRuns.{IsLinkReached}

@@ -1,6 +1,5 @@
 pub mod LinkTexts
 pub mod LinkRecords
-pub mod LinkLines
 pub mod LinkSays
 pub mod LinkLaws
 pub mod Piles

@@ -1,27 +1,16 @@
 -- Which of the possible events over links is played next.
 use Rattle.std.specs.Prelude.{◌≡◌, ◌<◌, ◌^◌, ℕ, ◌%◌, true, false, Option, Some, List, [], ◌∷◌, length, slice_get}
-use Rattle.rand_pcg.specs.Lcg.{Lcg, increment_of, started}
-use Rattle.rand_pcg.specs.Pcg.{multiplier_64, pcg32}
+use Rattle.rand_pcg.specs.Lcg.{Lcg}
 use Rattle.vert_base.specs.declared.message.Name.{Name}
 use Rattle.symple_face.specs.Cluster.{finished}
 use Rattle.symple_face.specs.State.{State}
 use Rattle.symple_face.specs.Work.{Work}
 use Rattle.link_core.specs.declared.event.LinkEvent.{LinkEvent}
 use Rattle.link_core.specs.declared.event.LinkEvent.TheVariants.{Go, Take, Lose, Again, Ack, Drop}
+use Rattle.delivery_log.specs.Choosers.{behind_word, word_of}
 use Rattle.link_core.specs.LinkChoices.{link_choices}
 use Rattle.link_core.specs.LinkRuns.{IsLinkReached}
 use Rattle.link_core.specs.Links.{Linked, link_step, links_complete, links_possible}
-
--- the generator of a seed
-abbrev pub link_generator : ℕ → Lcg
-link_generator seed = started 64 multiplier_64 seed (increment_of 64 1)
-
--- the next word of a generator, and the generator behind it
-abbrev pub word_of : Lcg → ℕ
-word_of g = (pcg32 g).0
-
-abbrev pub behind_word : Lcg → Lcg
-behind_word g = (pcg32 g).1
 
 -- the choice that the next word draws
 abbrev pub link_drawn : Lcg → Linked → Option LinkEvent

@@ -1,38 +1,14 @@
 ghost use Rattle.std.specs.Prelude.{◌≡◌, ◌≤◌, ◌<◌, ◌^◌, ◌++◌, ◌∷◌, ℕ, IfSome, List, Some, codes, decimal, length, slice_index};
-ghost use Rattle.std.specs.List.{position_or_len};
 ghost use Rattle.std.specs.Option.{IsSomeAnd};
 ghost use Rattle.vert_base.specs.declared.message.Name.{Name};
 ghost use Rattle.vert_base.specs.NameTexts.{IsName, name_text};
 ghost use Rattle.link_core.specs.declared.event.LinkEvent.{LinkEvent};
 ghost use Rattle.link_core.specs.declared.event.LinkEvent.TheVariants as link;
-ghost use Rattle.link_core.specs.LinkLines.{IsLine, is_feed};
 ghost use Rattle.link_core.specs.LinkTexts.{IsLinkEvent, event_front, event_line, event_text, header_line, word_text};
 
 use crate::event::LinkEvent;
+use delivery_log::line_at;
 use vert_base::{Name, number_in};
-
-// How long the first line is, without its line feed.
-fn line_len(text: &[u8]) -> usize
-    ensures value { result ≡ position_or_len is_feed text.now }
-    ensures within { result ≤ length text.now }
-{
-    for (i, byte) in text.iter().enumerate() {
-        if *byte == b'\n' {
-            return i;
-        }
-    }
-    text.len()
-}
-
-// The first line without its line feed, where it has one, and what stands behind it.
-fn line_at(text: &[u8]) -> Option<(&[u8], &[u8])>
-    ensures spelled { IfSome result (λ read. text.now ≡ read.0.now ++ 10 ∷ read.1.now) }
-    ensures found { (line rest : List ℕ) → IsLine line → text.now ≡ line ++ 10 ∷ rest →
-        IsSomeAnd result (λ read. (read.0.now ≡ line) × (read.1.now ≡ rest)) }
-{
-    let (line, rest) = text.split_at(line_len(text));
-    Some((line, behind(b"\n", rest)?))
-}
 
 // What stands behind a word at the front.
 fn behind<'a>(word: &[u8], line: &'a [u8]) -> Option<&'a [u8]>

@@ -2,7 +2,8 @@
 ghost use Rattle.std.specs.Prelude.{◌≡◌, ◌<◌, ◌≤◌, ◌^◌, ◌↔◌, IfSome, None, true, false, length, slice_get};
 ghost use Rattle.symple_face.specs.Cluster.{finished};
 ghost use Rattle.link_core.specs.LinkChoices.{link_choices};
-ghost use Rattle.link_core.specs.LinkChoosers.{NumbersFit, behind_word, link_drawn, link_generator};
+ghost use Rattle.delivery_log.specs.Choosers.{behind_word, generator_of};
+ghost use Rattle.link_core.specs.LinkChoosers.{NumbersFit, link_drawn};
 ghost use Rattle.link_core.specs.LinkFaults.{link_fault_of};
 ghost use Rattle.link_core.specs.LinkTexts.{IsLinkEvent};
 
@@ -30,7 +31,7 @@ impl Model for LinkChooser {
 impl LinkChooser {
     /// The chooser of a seed.
     pub fn new(seed: u64) -> LinkChooser
-        ensures { result ≡ link_generator seed }
+        ensures { result ≡ generator_of seed }
     {
         LinkChooser {
             generator: Lcg64Xsh32::new(seed, 1),

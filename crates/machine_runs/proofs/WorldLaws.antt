@@ -11,10 +11,11 @@ use Rattle.chunk_split.specs.Chunks.{AreEnds, Holds, vertices_of}
 use Rattle.circulant_plan.specs.Ring.{lies_in}
 use Rattle.vert_base.specs.Ends.{start_of}
 use Rattle.symple_face.specs.Ideal.{owner_of}
-use Rattle.symple_face.proofs.ChunkLaws.{lies_high, lies_is, lies_low}
+use Rattle.symple_face.proofs.ChunkLaws.{lies_high, lies_low}
 use Rattle.round_laws.proofs.FoldScanHalves.{owner_holds}
 use Rattle.round_laws.proofs.IdealSparse.{owner_low}
 use Rattle.instrument.specs.declared.split.Split.{Split}
+use Rattle.mirror_table.proofs.OwnerLaws.{owner_lies}
 use Rattle.cluster_run.specs.Driven.{IsReached}
 use Rattle.cluster_run.proofs.PartsAt.{part_at, parts_count}
 use Rattle.cluster_run.proofs.ReachedWorlds.{reached_ties}
@@ -98,14 +99,11 @@ owner_is ends v k are lt alone =
       lies_high ends (owner_of ends v) v lies,
     )
 
-pub held_lies : (ends : List ℕ) (v m : ℕ) → Holds ends v m → lies_in ends m v ≡ true
-held_lies ends v m h = lies_is (start_of ends m) (slice_index ends m) v h.1 h.2
-
 -- a vertex lies in the chunk of the machine that is asked for it
 pub own_lies : (ends others : List ℕ) (v m number : ℕ) → Holds ends v m → others ≡ ends → number ≡ m →
     lies_in others number v ≡ true
 own_lies ends others v m number h same is =
-    ap (λ (es : List ℕ). lies_in es number v) same ∙ ap (λ (k : ℕ). lies_in ends k v) is ∙ held_lies ends v m h
+    ap (λ (es : List ℕ). lies_in es number v) same ∙ ap (λ (k : ℕ). lies_in ends k v) is ∙ owner_lies ends v m h
 
 pub row_is : (work : Work) (w : World) (ends : List ℕ) (v k : ℕ) (s : State) → ends_in w ≡ ends →
     owner_of ends v ≡ k → slice_get w.sites k ≡ Some s → row_in work w v ≡ work.row s v

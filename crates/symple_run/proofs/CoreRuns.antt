@@ -51,7 +51,7 @@ use Rattle.symple_run.specs.KeptImages.{IsImagedPlay, key_for}
 use Rattle.symple_run.specs.Resumes.{IsResumedPlay, begun_world, later_of}
 use Rattle.symple_run.specs.SourceImages.{begun_text}
 use Rattle.symple_run.specs.SourceRuns.{IsBegunLog, IsLoggedFrom, IsPrinted, IsSourceImaged, IsSourcePlay, IsSourceResumed, IsSourceRun}
-use Rattle.symple_run.proofs.ImagedRuns.{imaged_source, later_logged, later_text, parts_start, resumed_printed}
+use Rattle.symple_run.proofs.ImagedRuns.{imaged_source, later_logged, later_text, parts_start, printed_from, resumed_printed}
 use Rattle.symple_run.proofs.ImagesTold.{images_told}
 use Rattle.symple_words.specs.declared.line.Lines.{Lines}
 use Rattle.vert_base.specs.declared.graph.Edge.{Edge}
@@ -60,11 +60,6 @@ use Rattle.vert_base.specs.declared.message.Event.{Event}
 use Rattle.vert_base.specs.declared.message.Event.TheVariants.{Go, Take}
 use Rattle.vert_eval.specs.SourceRun.{Job, source_run}
 use Rattle.vert_tree.specs.declared.program.Program.{Program}
-
--- ---- the course of a run
-printed_from : (work : Work) (lines : Lines) (w : World) (es : List Event) → IsPrinted (course_from work lines w es)
-printed_from work lines w [] = tt
-printed_from work lines w (e ∷ es) = printed_from work lines (step work w e) es
 
 pub plain_printed : (work : Work) (play : Play) (course : Course) → IsPlainPlay work play course → IsPrinted course
 plain_printed work play course is = subst IsPrinted (sym is.course_is) (printed_from work play.lines _ is.events)

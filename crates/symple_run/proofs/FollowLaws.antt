@@ -15,6 +15,7 @@ use Rattle.delivery_log.specs.declared.form.Form.{Form}
 use Rattle.delivery_log.specs.declared.form.Form.TheVariants.{Whole, Roundless}
 use Rattle.delivery_log.specs.Says.{Says}
 use Rattle.delivery_log.specs.ScheduleTexts.{event_lines, events_lines, most_machines, round_after, schedule_lines, text_of}
+use Rattle.delivery_log.proofs.PairLaws.{small_machines}
 use Rattle.delivery_log.proofs.ReadLaws.{lines_small}
 use Rattle.outside.specs.declared.sink.SinkFault.{SinkFault}
 use Rattle.schedule_laws.specs.Layout.{table_of}
@@ -133,15 +134,11 @@ module _ (work : Work) (lines : Lines) (form : Form) (from : Place) (old : Held)
 
 -- ---- the whole
 -- a text that says machines and events says few
-few_of : (form : Form) (machines : ℕ) → machines ≤ most_machines form → machines ≤ 64
-few_of Whole machines few = omega (arith, few)
-few_of Roundless machines few = few
-
 pub are_machines : (text : List ℕ) (machines : ℕ) (events : List Event) → Says text machines events →
     AreMachines machines
 are_machines text machines events says =
     let some = says.is.some in
-    let few = few_of says.form machines says.is.few in
+    let few = small_machines says.form machines says.is.few in
     (omega arith, omega arith)
 
 pub lines_few : (text : List ℕ) (machines : ℕ) (events : List Event) (says : Says text machines events) →

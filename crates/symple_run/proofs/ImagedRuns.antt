@@ -92,7 +92,7 @@ imaged_stores work play origin image course is =
     subst (StoresImages image) (sym is.course_is) (stores_from work play.lines (key_for play origin) image _ is.events)
 
 -- ---- the course of a run that goes on
-printed_from : (work : Work) (lines : Lines) (w : World) (es : List Event) → IsPrinted (course_from work lines w es)
+pub printed_from : (work : Work) (lines : Lines) (w : World) (es : List Event) → IsPrinted (course_from work lines w es)
 printed_from work lines w [] = tt
 printed_from work lines w (e ∷ es) = printed_from work lines (step work w e) es
 
