@@ -1,6 +1,5 @@
 -- What a world that possible events led to shows of its machines.
 use Rattle.std.proofs.Common.{◌≡◌, ℕ, ◌+◌, ◌<◌, ◌≤◌, List, [], ◌∷◌, ◌++◌, get_or, length, map, take, true, Option, Some, refl, sym, ap, ◌∙◌, arith, slice_get}
-use Rattle.std.specs.Prelude.{slice_index}
 use Rattle.std.specs.List.{range_with_len}
 use Rattle.std.proofs.lemmas.List.FromFn.{get_or-map-range_with_len, length-range_with_len}
 use Rattle.std.proofs.lemmas.List.{length-map}
@@ -9,7 +8,6 @@ use Rattle.vert_eval.specs.Rounds.{empty_row}
 use Rattle.array_text.specs.Tables.{header_text, row_text, rows_text}
 use Rattle.chunk_split.specs.Chunks.{AreEnds, Holds, vertices_of}
 use Rattle.circulant_plan.specs.Ring.{lies_in}
-use Rattle.vert_base.specs.Ends.{start_of}
 use Rattle.symple_face.specs.Ideal.{owner_of}
 use Rattle.symple_face.proofs.ChunkLaws.{lies_high, lies_low}
 use Rattle.round_laws.proofs.FoldScanHalves.{owner_holds}

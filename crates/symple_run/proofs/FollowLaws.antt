@@ -12,9 +12,8 @@ use Rattle.command_steps.specs.Walks.{HandsOn}
 use Rattle.command_steps.specs.States.{Held, Kept, Left, Outside, outside}
 use Rattle.command_steps.proofs.LeavesLaws.{unplayed}
 use Rattle.delivery_log.specs.declared.form.Form.{Form}
-use Rattle.delivery_log.specs.declared.form.Form.TheVariants.{Whole, Roundless}
 use Rattle.delivery_log.specs.Says.{Says}
-use Rattle.delivery_log.specs.ScheduleTexts.{event_lines, events_lines, most_machines, round_after, schedule_lines, text_of}
+use Rattle.delivery_log.specs.ScheduleTexts.{event_lines, events_lines, round_after, schedule_lines, text_of}
 use Rattle.delivery_log.proofs.PairLaws.{small_machines}
 use Rattle.delivery_log.proofs.ReadLaws.{lines_small}
 use Rattle.outside.specs.declared.sink.SinkFault.{SinkFault}
