@@ -110,7 +110,15 @@ module _ (work : Work) (sound : State → Type 0) (lawful : IsLawful work sound)
       (ready_alike (λ m. is_possible ring blocks Stop (Go m) t.k) (λ m. possible_alike (Go m)))
       ∙ ap (λ es. map (λ m. Go m) (goes_of ring blocks Stop t.k) ++ es) takes_alike
 
-  missing_alike : missing_of w ≡ skeleton.missing_of ring t.k
+  -- and with no word of rulings
+  pub next_alike : choices_of w ≡ map (λ m. Go m) (skeleton.ready_machines ring t.k)
+      ++ map (λ x. Take x) (names_in_order t.k.under_way)
+  next_alike =
+      ap (λ ns. map (λ m. Go m) ns ++ takes w)
+      (ready_alike (λ m. could_act ring m (slice_get t.k.standings m) t.k.taken) acts_alike)
+      ∙ ap (λ es. map (λ m. Go m) (skeleton.ready_machines ring t.k) ++ es) takes_alike
+
+  pub missing_alike : missing_of w ≡ skeleton.missing_of ring t.k
   missing_alike =
       ap (λ es. slice_get (es ++ goes w) 0) takes_alike
       ∙ ap (λ ns. slice_get (map (λ x. Take x) (names_in_order t.k.under_way) ++ map (λ m. Go m) ns) 0)

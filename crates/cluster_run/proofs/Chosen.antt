@@ -68,6 +68,10 @@ not_over : (b : Bool) (o : Option EventFault) → (if b then Some RunOver else o
 not_over true o none = cc
 not_over false o none = none
 
+-- an event that isn't refused is possible
+pub not_refused : (w : World) (e : Event) → fault_of w e ≡ None → possible w e ≡ true
+not_refused w e none = played_possible w e (not_over (finished w) (event_fault w e) none)
+
 module _ (work : Work) (sound : State → Type 0) (lawful : IsLawful work sound) (w : World)
     (r : IsReached work sound w) where
   pub choices_there : AreChoices w

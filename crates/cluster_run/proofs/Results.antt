@@ -100,7 +100,7 @@ module _ (work : Work) (sound : State → Type 0) (lawful : IsLawful work sound)
   pub few : length parts ≤ 64
   few = parts_few parts one
 
-  finished_alike : finished w ≡ is_finished t.k
+  pub finished_alike : finished w ≡ is_finished t.k
   finished_alike =
       sym (list_all-map (λ (s : Standing). is_over s.spot) (λ (s : State). s.at) w.sites)
       ∙ ap (list_all (λ (s : Standing). is_over s.spot)) t.alike.standings

@@ -151,7 +151,7 @@ module _ (work : Work) (sound : State → Type 0) (lawful : IsLawful work sound)
       ∙ ap (λ q. needs_of (ring_of q (length parts)) m s.at.spot) it_is.split_is
 
   -- what it needs it holds where it was taken
-  holds_need : is_over s.at.spot ≡ false → (x : Name) → Has (needs_of (ring_of split (length parts)) m s.at.spot) x →
+  pub holds_need : is_over s.at.spot ≡ false → (x : Name) → Has (needs_of (ring_of split (length parts)) m s.at.spot) x →
       has_letter x s.held ≡ has_name x k.taken
   holds_need going x h =
       let n = need_here (ring_of split (length parts)) m (ruling_in k.rulings s.at.round) s.at.spot x it_keeps.machine

@@ -11,4 +11,6 @@ pub mod PartsFrom
 pub mod PlayLaws
 pub mod ReadTurns
 pub mod RoundLaws
+pub mod SourceFollows
+pub mod TellingLaws
 pub mod WorldLaws

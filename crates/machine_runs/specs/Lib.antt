@@ -1,4 +1,5 @@
 pub mod PlainPlays
 pub mod PlayedEvents
 pub mod RunParts
+pub mod SourceTellings
 pub mod Tellings

@@ -109,7 +109,7 @@ module _ (lines : Lines) (src : Source) (parts : List PlainPart) (one : IsOneRun
         (it_stands core_work core_sound core_lawful src.split parts
         (few src parts one run same_ends) w k f.alike f.reached 0 s.0 s.1))
 
-    ended_says : (e : Event) → possible w e ≡ true → round_lines core_work lines w e ≡ ended_lines lines src k e
+    pub ended_says : (e : Event) → possible w e ≡ true → round_lines core_work lines w e ≡ ended_lines lines src k e
     ended_says (Go m) can =
         ⊎_elim
         (λ (first : m ≡ 0).
@@ -122,7 +122,7 @@ module _ (lines : Lines) (src : Source) (parts : List PlainPart) (one : IsOneRun
     ended_says (Take x) can = refl
 
     -- the message that it takes
-    taken_says : (e : Event) → possible w e ≡ true → taken_in w e ≡ ideal_taken src e
+    pub taken_says : (e : Event) → possible w e ≡ true → taken_in w e ≡ ideal_taken src e
     taken_says (Go m) can = refl
     taken_says (Take x) can =
         let l = some_letter (found x w.under_way) can in

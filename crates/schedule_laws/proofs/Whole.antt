@@ -98,15 +98,15 @@ module _ (split : Split) (parts : List PlainPart) (one : IsOneRun parts) (start 
   later_can_run : All (λ part. CanRun part split) parts
   later_can_run = parts_run split parts one fits
 
-  later : IsSourceRun (later_run split parts one start)
-  later =
+  pub later_is_a_run : IsSourceRun (later_run split parts one start)
+  later_is_a_run =
       let part = there_at parts 0 (let some = parts_some parts one in omega (arith, some)) in
       resumed_is_a_run split parts one part.0 start later_can_run
       (ap (λ (q : PlainPart). q.ends) (part_at parts one 0 part.0 part.1).0)
       (all_at (λ part. IsStart part split start) parts 0 part.0 starts part.1)
 
-  later_goes : Follows (later_run split parts one start) parts begun begun_skeleton
-  later_goes = later_follows split parts one later_can_run start starts later
+  pub later_goes : Follows (later_run split parts one start) parts begun begun_skeleton
+  later_goes = later_follows split parts one later_can_run start starts later_is_a_run
 
   later_site : (s : State) × (slice_get begun.sites 0 ≡ Some s) × (s.at.round ≡ start.round)
   later_site =
@@ -129,14 +129,14 @@ module _ (split : Split) (parts : List PlainPart) (one : IsOneRun parts) (start 
       IsTrueWorld (later_run split parts one start) (after core_work begun es)
   later_worlds_true es can =
       let behind =
-      all_follow (later_run split parts one start) parts one later refl begun begun_skeleton
+      all_follow (later_run split parts one start) parts one later_is_a_run refl begun begun_skeleton
       later_goes es can in
       is_true (later_run split parts one start) parts (after core_work begun es) behind.0 behind.1
 
   pub later_text_says : (lines : Lines) (es : List Event) → is_complete core_work begun es ≡ true →
       text_of core_work lines begun es ≡ output_text lines (later_run split parts one start) begun_skeleton es
   later_text_says lines es complete =
-      text_says lines (later_run split parts one start) parts one later refl begun begun_skeleton
+      text_says lines (later_run split parts one start) parts one later_is_a_run refl begun begun_skeleton
       later_goes later_site.0 later_site.1 from_here es complete
 
   pub later_text_runs : (lines : Lines) (es : List Event) → is_complete core_work begun es ≡ true →
@@ -144,7 +144,7 @@ module _ (split : Split) (parts : List PlainPart) (one : IsOneRun parts) (start 
       text_of core_work lines begun es ≡
       text_of_run lines split.program.program (run_of (later_run split parts one start))
   later_text_runs lines es complete none =
-      text_runs lines (later_run split parts one start) parts one later refl begun begun_skeleton
+      text_runs lines (later_run split parts one start) parts one later_is_a_run refl begun begun_skeleton
       later_goes later_site.0 later_site.1 from_here es complete none
 
 pub every_world_is_true : EveryWorldIsTrue
