@@ -43,7 +43,7 @@ module _ {X Y : Type 0} (t : Telling X) (u : Telling Y) (R : X → Y → Type 0)
         ∙ ap (λ (o : Option Impossible). unless_refused o line (told_event u y e
         (followed u form (round_after held e) line (u.behind y e) es))) (alike.refusal x y r e)
       where
-        abbrev line : ℕ
+        line : ℕ
         line = lines + length (event_lines form held e)
 
         by : (o : Option Impossible) → t.refusal x e ≡ o →
