@@ -1,19 +1,20 @@
 -- Cores tell what the source's run and the order of events tell: at each world that goes with the run, whatever events
 -- led to it.
 use Rattle.std.proofs.Common.{◌≡◌, ℕ, Bool, true, false, List, [], ◌∷◌, Option, None, Some, inl, inr, length, refl, ap, sym, ◌∙◌, slice_get}
-use Rattle.std.specs.Prelude.{◌%◌, if◌then◌else◌, option_map}
+use Rattle.std.specs.Prelude.{◌%◌, if◌then◌else◌, nat_le, option_map}
+use Rattle.std.specs.List.{All}
 use Rattle.std.proofs.lemmas.Bool.{and_from, and_parts}
 use Rattle.std.proofs.lemmas.Option.{slice_get-map}
 use Rattle.array_text.specs.Events.{event_line}
 use Rattle.array_text.specs.Tables.{table_text}
 use Rattle.circulant_plan.specs.declared.spot.Ring.{Ring}
 use Rattle.circulant_plan.specs.Choosing.{missing_of as order_missing}
-use Rattle.circulant_plan.specs.Skeleton.{Skeleton, has_name, is_finished, is_over}
+use Rattle.circulant_plan.specs.Skeleton.{Skeleton, first_skeleton, has_name, is_finished, is_over, resumed_skeleton}
 use Rattle.circulant_plan.specs.Table.{needs_of}
 use Rattle.circulant_plan.proofs.Members.{Has}
 use Rattle.cluster_run.specs.declared.fault.EventFault.{EventFault}
 use Rattle.cluster_run.specs.declared.fault.EventFault.TheVariants as fault
-use Rattle.cluster_run.specs.Driven.{IsReached}
+use Rattle.cluster_run.specs.Driven.{IsReached, anew}
 use Rattle.cluster_run.specs.Faults.{action_fault, event_fault, fault_of, go_fault, lacking, lacks}
 use Rattle.cluster_run.proofs.ChoicesAlike.{missing_alike, next_alike}
 use Rattle.cluster_run.proofs.Chosen.{goes_on as on_from, not_refused, nothing_lacks}
@@ -22,31 +23,39 @@ use Rattle.cluster_run.proofs.ReachedWorlds.{IsTied}
 use Rattle.cluster_run.proofs.Results.{finished_alike, steps_on}
 use Rattle.cluster_run.proofs.Worlds.{holds_need, needs_are}
 use Rattle.delivery_log.specs.Choosers.{IsDrawnRun, behind_word, word_of}
+use Rattle.delivery_log.specs.declared.form.Form.{Form}
+use Rattle.instrument.specs.declared.split.Split.{Split}
 use Rattle.rand_pcg.specs.Lcg.{Lcg}
 use Rattle.schedule_laws.specs.Events.{ring_in}
+use Rattle.schedule_laws.specs.Laws.{later_run, whole_run}
 use Rattle.schedule_laws.specs.Layout.{table_of}
 use Rattle.schedule_laws.specs.OutputText.{run_of}
 use Rattle.schedule_laws.specs.Runs.{IsSourceRun}
 use Rattle.schedule_laws.proofs.Follows.{Follows, count, few}
+use Rattle.schedule_laws.proofs.Parts.{parts_run}
 use Rattle.schedule_laws.proofs.Printing.{next_follows}
-use Rattle.schedule_laws.proofs.Saying.{ended_says, taken_says}
+use Rattle.schedule_laws.proofs.Saying.{ended_says, quiet, table_says, taken_says}
+use Rattle.schedule_laws.proofs.Whole.{first_site, later_goes, later_is_a_run, whole_follows, whole_is_a_run}
 use Rattle.symple_face.specs.declared.action.Action.TheVariants.{Over}
-use Rattle.symple_face.specs.Cluster.{IsOneRun, IsPlainRun, World, after, all_possible, choices_of, finished, is_complete, missing_of, possible, step}
+use Rattle.symple_face.specs.Cluster.{IsOneRun, IsPlainRun, World, after, all_possible, choices_of, finished, first_world, is_complete, missing_of, possible, restarted_world, step}
 use Rattle.symple_face.specs.CoreWork.{core_work}
 use Rattle.symple_face.specs.Parts.{PlainPart}
 use Rattle.symple_face.specs.Plans.{ring_of}
+use Rattle.symple_face.specs.Restarts.{IsStart}
 use Rattle.symple_face.specs.Source.{Source}
 use Rattle.symple_face.specs.State.{State, first_missing, needs, waiting_for}
+use Rattle.symple_face.specs.Work.{PlainStart}
 use Rattle.symple_words.specs.declared.line.Lines.{Lines}
 use Rattle.vert_base.specs.declared.message.Event.{Event}
 use Rattle.vert_base.specs.declared.message.Event.TheVariants.{Go, Take}
 use Rattle.vert_base.specs.declared.message.Name.{Name}
 use Rattle.vert_base.specs.Letters.{Letter}
+use Rattle.word_kinds.specs.Fits.{IsFitting}
 use Rattle.work_laws.specs.Sound.{core_sound}
 use Rattle.work_laws.proofs.Whole.{core_lawful}
 use Rattle.machine_runs.specs.SourceTellings.{IsDrawnOrder, IsPlainOrder, behind, by_source, first_untaken, next_events, order_fault, standing_fault, turn_fault}
-use Rattle.machine_runs.specs.Tellings.{by_worlds, lack_of, why_of}
-use Rattle.machine_runs.proofs.TellingLaws.{AreAlike, GoesWell}
+use Rattle.machine_runs.specs.Tellings.{by_worlds, followed, lack_of, recorded, why_of}
+use Rattle.machine_runs.proofs.TellingLaws.{AreAlike, GoesWell, followed_alike, recorded_alike}
 
 -- ---- what a machine waits for
 first_alike : (xs : List Name) (held : List Letter) (taken : List Name) →
@@ -214,3 +223,83 @@ module _ (src : Source) (parts : List PlainPart) (one : IsOneRun parts) (run : I
               (and_from (all_possible core_work (step core_work w e) es)
               (finished (after core_work (step core_work w e) es)) c.1 all.1),
         )
+
+-- ---- the first world
+module _ (split : Split) (parts : List PlainPart) (one : IsOneRun parts) (fits : IsFitting split.program.program) where
+  abbrev whole : Source
+  whole = whole_run split parts one
+
+  abbrev w : World
+  w = first_world core_work split parts
+
+  abbrev k : Skeleton
+  k = first_skeleton (length parts)
+
+  is_run : IsSourceRun whole
+  is_run = whole_is_a_run split parts one fits
+
+  follows_first : Follows whole parts w k
+  follows_first = whole_follows split parts one fits
+
+  pub first_goes : Goes whole parts one is_run refl w k
+  first_goes =
+      let site = first_site split parts one fits in
+      record {
+        reached = record {
+          split = split;
+          parts = parts;
+          one_run = one;
+          can_run = parts_run split parts one fits;
+          first = w;
+          is_first = anew refl;
+          events = [];
+          were_possible = refl;
+          here = refl;
+        };
+        follows = follows_first;
+        ends = λ es complete. table_says quiet whole parts one is_run refl w k follows_first site.0 site.1
+            (ap (λ n. if nat_le 1 n then n else 1) site.2) es complete;
+      }
+
+  -- a followed run, whatever its events are
+  pub followed_told : (lines : Lines) (form : Form) (es : List Event) →
+      followed (by_worlds core_work lines) form 0 1 w es ≡ followed (by_source lines whole) form 0 1 k es
+  followed_told lines form es =
+      followed_alike (by_worlds core_work lines) (by_source lines whole) (Goes whole parts one is_run refl)
+      (told_alike whole parts one is_run refl lines) form 0 1 w k first_goes es
+
+  -- a recorded run that is complete
+  pub recorded_told : (lines : Lines) (name : List ℕ) (machines : ℕ) (es : List Event) →
+      is_complete core_work w es ≡ true →
+      recorded (by_worlds core_work lines) name machines [] w es
+      ≡ recorded (by_source lines whole) name machines [] k es
+  recorded_told lines name machines es complete =
+      recorded_alike (by_worlds core_work lines) (by_source lines whole) (Goes whole parts one is_run refl)
+      (told_alike whole parts one is_run refl lines) name machines [] w k first_goes es
+      (goes_well whole parts one is_run refl lines w k first_goes es complete)
+
+  pub plain_told : (es : List Event) → is_complete core_work w es ≡ true → IsPlainRun core_work w es →
+      IsPlainOrder whole k es
+  plain_told es complete =
+      plain_order whole parts one is_run refl w k follows_first es
+      (and_parts (all_possible core_work w es) (finished (after core_work w es)) complete).0
+
+  pub drawn_told : (g : Lcg) (es : List Event) → is_complete core_work w es ≡ true → IsDrawnRun core_work w g es →
+      IsDrawnOrder whole k g es
+  drawn_told g es complete =
+      drawn_order whole parts one is_run refl w k follows_first g es
+      (and_parts (all_possible core_work w es) (finished (after core_work w es)) complete).0
+
+-- ---- a world that goes on from a start
+module _ (split : Split) (parts : List PlainPart) (one : IsOneRun parts) (start : PlainStart)
+    (fits : IsFitting split.program.program) (starts : All (λ part. IsStart part split start) parts) where
+  pub later_plain_told : (es : List Event) →
+      is_complete core_work (restarted_world core_work split parts start) es ≡ true →
+      IsPlainRun core_work (restarted_world core_work split parts start) es →
+      IsPlainOrder (later_run split parts one start) (resumed_skeleton (length parts) start.round start.ruling) es
+  later_plain_told es complete =
+      plain_order (later_run split parts one start) parts one (later_is_a_run split parts one start fits starts) refl
+      (restarted_world core_work split parts start) (resumed_skeleton (length parts) start.round start.ruling)
+      (later_goes split parts one start fits starts) es
+      (and_parts (all_possible core_work (restarted_world core_work split parts start) es)
+      (finished (after core_work (restarted_world core_work split parts start) es)) complete).0

@@ -10,11 +10,12 @@ use Rattle.cluster_run.specs.declared.fault.EventFault.TheVariants.{NotUnderWay,
 use Rattle.cluster_run.specs.declared.fault.Missing.{Missing}
 use Rattle.cluster_run.specs.Driven.{IsReached, anew}
 use Rattle.cluster_run.specs.Faults.{action_fault, event_fault, fault_of, go_fault, lacking, lacks}
+use Rattle.cluster_run.proofs.Chosen.{not_refused}
 use Rattle.cluster_run.specs.Laws.{StepsReach, UnfinishedGoesOn}
 use Rattle.command_steps.specs.Notes.{LongSchedule}
 use Rattle.delivery_log.specs.declared.form.Form.{Form}
 use Rattle.delivery_log.specs.declared.form.Form.TheVariants.{Roundless}
-use Rattle.delivery_log.specs.Choosers.{DrawnRunsAreComplete, PlainRunsAreComplete, generator_of}
+use Rattle.delivery_log.specs.Choosers.{DrawnRunsAreComplete, IsDrawnRun, PlainRunsAreComplete, generator_of}
 use Rattle.delivery_log.specs.ScheduleTexts.{event_lines, round_after, schedule_text}
 use Rattle.edge_reader.specs.EdgeList.{Graph}
 use Rattle.instrument.specs.declared.split.Split.{Split}
@@ -42,7 +43,10 @@ use Rattle.command_steps.specs.Courses.{course_end, course_text}
 use Rattle.command_steps.specs.Orders.{Course, Drawn, DrawnLossy, Fails, Followed, Imaged, Origin, Parted, Plain, Play, Renewed, Resumed, Served, Shown, Task}
 use Rattle.symple_run.specs.Followed.{IsFaulty, IsFollowed, IsFollowedPlay, Tells}
 use Rattle.symple_run.specs.Recorded.{IsDrawnPlay}
-use Rattle.symple_run.specs.SourceSchedules.{IsSourceRecord, IsSourceReplay, TellsSource}
+use Rattle.symple_run.specs.SourceSchedules.{IsSourceFollowed, IsSourceRecord, IsSourceReplay, PutsSource}
+use Rattle.symple_run.specs.SourceTexts.{HasParts, first_order, source_on}
+use Rattle.machine_runs.proofs.SourceFollows.{drawn_told, followed_told, plain_told, recorded_told}
+use Rattle.machine_runs.specs.SourceTellings.{IsPlainOrder}
 use Rattle.machine_runs.specs.Tellings.{by_worlds, followed, lack_of, recorded, told_end, told_event, unless_lacking, unless_refused, why_of}
 use Rattle.symple_face.specs.Restarts.{IsRestartLawful, IsStart}
 use Rattle.symple_run.specs.SourceTexts as sources
@@ -90,31 +94,6 @@ pub record ChosenWell (work : Work) (sound : State → Type 0) : Type 0 where
   pub drawn : DrawnRunsAreComplete work sound
   pub reach : StepsReach work sound
   pub goes : UnfinishedGoesOn work sound
-
--- an event that isn't refused is possible
-not_refused : (w : World) (e : Event) → fault_of w e ≡ None → possible w e ≡ true
-not_refused w e none = event_goes w e (not_over (finished w) none)
-  where
-    not_over : (b : Bool) → (if b then Some RunOver else event_fault w e) ≡ None → event_fault w e ≡ None
-    not_over true none = cc
-    not_over false none = none
-
-    acts : (a : Action) → action_fault a ≡ None → is_ready a ≡ true
-    acts Ready none = refl
-    acts (Waits x) none = cc
-    acts Over none = cc
-
-    goes : (o : Option State) → go_fault o ≡ None → can_act o ≡ true
-    goes None none = cc
-    goes (Some s) none = acts (action_of s) none
-
-    takes : (b : Bool) → (if b then None else Some NotUnderWay) ≡ None → b ≡ true
-    takes true none = refl
-    takes false none = cc
-
-    event_goes : (w : World) (e : Event) → event_fault w e ≡ None → possible w e ≡ true
-    event_goes w (Go m) none = goes (slice_get w.sites m) none
-    event_goes w (Take x) none = takes (possible w (Take x)) none
 
 none_lacks : (o : Option Event) → option_map lacks o ≡ None → o ≡ None
 none_lacks None none = refl
@@ -209,6 +188,26 @@ module _ (sound : State → Type 0) (lines : Lines) (program : Program) (graph :
         ∙ ap (λ (p : Program). table_text p (source_run (sources.job_of machines draws program graph)).last.rows)
         first.program_is
 
+-- the parts of a first world
+parts_on : (play : Play) (v : World) → IsFirstWorld core_work play.program play.graph play.machines play.draws v →
+    HasParts play
+parts_on play v first = record {
+  split = first.split;
+  program_is = first.program_is;
+  parts = first.parts;
+  of_graph = first.of_graph;
+}
+
+-- its plain events are those of the order of events
+plain_on : (sound : State → Type 0) (play : Play) (v : World)
+    (first : IsFirstWorld core_work play.program play.graph play.machines play.draws v) (es : List Event) →
+    is_complete core_work v es ≡ true → IsPlainRun core_work v es →
+    IsPlainOrder (source_on play (parts_on play v first)) (first_order play (parts_on play v first)) es
+plain_on sound play v first es complete plain =
+    plain_told first.split first.parts first.of_graph.one first.fits es
+    (subst (λ (u : World). is_complete core_work u es ≡ true) first.here complete)
+    (subst (λ (u : World). IsPlainRun core_work u es) first.here plain)
+
 module _ (sound : State → Type 0) (complete : PlainRunsAreComplete core_work sound) (play : Play) (course : Course)
     (is : IsPlainPlay core_work play course) where
   ended : is_complete core_work is.first is.events ≡ true
@@ -224,12 +223,9 @@ module _ (sound : State → Type 0) (complete : PlainRunsAreComplete core_work s
     text = λ quiet. text_is ∙ run_told sound play.lines play.program play.graph play.machines play.draws is.first
         is.is_first is.events ended quiet;
     logged = record {
-      split = is.is_first.split;
-      program = is.is_first.program_is;
-      parts = is.is_first.parts;
-      of_graph = is.is_first.of_graph;
+      on = parts_on play is.first is.is_first;
       events = is.events;
-      plain = subst (λ (u : World). IsPlainRun core_work u is.events) is.is_first.here is.plain;
+      plain = plain_on sound play is.first is.is_first is.events ended is.plain;
       is = text_is ∙ log_told sound play.lines play.program play.graph play.machines play.draws is.first is.is_first
           is.events ended;
     };
@@ -295,34 +291,37 @@ module _ (work : Work) (lines : Lines) where
 module _ (sound : State → Type 0) (play : Play) (first : World)
     (is_first : IsFirstWorld core_work play.program play.graph play.machines play.draws first) (es : List Event)
     (course : Course) where
-  source_told : (course_end course ≡ None → is_complete core_work first es ≡ true) →
+  puts_source : (course_end course ≡ None → is_complete core_work first es ≡ true) →
       (course_end course ≡ None → course_text course ≡ text_of core_work play.lines first es) →
-      TellsSource play es course
-  source_told complete told = record {
-    text = λ ends quiet. told ends ∙ run_told sound play.lines play.program play.graph play.machines play.draws first
-        is_first es (complete ends) quiet;
-    logged = λ ends. record {
-      split = is_first.split;
-      program = is_first.program_is;
-      parts = is_first.parts;
-      of_graph = is_first.of_graph;
-      is = told ends ∙ log_told sound play.lines play.program play.graph play.machines play.draws first is_first es
-          (complete ends);
-    };
-  }
+      PutsSource play course
+  puts_source complete told = λ ends quiet.
+      told ends
+      ∙ run_told sound play.lines play.program play.graph play.machines play.draws first is_first es (complete ends)
+      quiet
 
 module _ (sound : State → Type 0) (laws : ChosenWell core_work sound) where
   drawn_source : (play : Play) (seed : ℕ) (name : List ℕ) (course : Course) →
       IsDrawnPlay core_work play seed name course → IsSourceRecord play seed name course
-  drawn_source play seed name course is = record {
-    played = is;
-    source = source_told sound play is.first is.is_first is.events course
-        (λ ends. laws.drawn is.first (generator_of seed) is.events
-        (reached sound play.lines play.program play.graph play.machines play.draws is.first is.is_first) is.drawn)
-        (λ ends. ap course_text is.course_is
-        ∙ recorded_text core_work play.lines name play.machines [] is.first is.events
-        (ap course_end (sym is.course_is) ∙ ends));
-  }
+  drawn_source play seed name course is =
+      let complete = laws.drawn is.first (generator_of seed) is.events
+      (reached sound play.lines play.program play.graph play.machines play.draws is.first is.is_first) is.drawn in
+      let there = subst (λ (u : World). is_complete core_work u is.events ≡ true) is.is_first.here complete in
+      record {
+        on = parts_on play is.first is.is_first;
+        events = is.events;
+        drawn = drawn_told is.is_first.split is.is_first.parts is.is_first.of_graph.one is.is_first.fits
+            (generator_of seed) is.events there
+            (subst (λ (u : World). IsDrawnRun core_work u (generator_of seed) is.events) is.is_first.here is.drawn);
+        course_is = is.course_is
+            ∙ ap (λ (u : World). recorded (by_worlds core_work play.lines) name play.machines [] u is.events)
+            is.is_first.here
+            ∙ recorded_told is.is_first.split is.is_first.parts is.is_first.of_graph.one is.is_first.fits play.lines name
+            play.machines is.events there;
+        text = puts_source sound play is.first is.is_first is.events course (λ ends. complete)
+            (λ ends. ap course_text is.course_is
+            ∙ recorded_text core_work play.lines name play.machines [] is.first is.events
+            (ap course_end (sym is.course_is) ∙ ends));
+      }
 
   -- the world behind possible events is reached
   reached_behind : (w : World) (es : List Event) → IsReached core_work sound w → all_possible core_work w es ≡ true →
@@ -333,23 +332,30 @@ module _ (sound : State → Type 0) (laws : ChosenWell core_work sound) where
       reached_behind (step core_work w e) es (laws.reach w e r c.0) c.1
 
   following_source : (play : Play) (form : Form) (events : List Event) (course : Course) →
-      IsFollowedPlay core_work play form events course → TellsSource play events course
+      IsFollowedPlay core_work play form events course → IsSourceFollowed play form events course
   following_source play form events course is =
       let ended = λ (ends : course_end course ≡ None).
       followed_text core_work play.lines form 0 1 is.first events (ap course_end (sym is.course_is) ∙ ends) in
-      source_told sound play is.first is.is_first events course
-      (λ ends.
-      let f = ended ends in
-      let r = reached sound play.lines play.program play.graph play.machines play.draws is.first is.is_first in
-      and_from (all_possible core_work is.first events) (finished (after core_work is.first events)) f.can
-      ((laws.goes (after core_work is.first events) (reached_behind is.first events r f.can)).missing.0
-      (none_lacks (missing_of (after core_work is.first events)) f.lacks)))
-      (λ ends. ap course_text is.course_is ∙ (ended ends).text)
+      record {
+        on = parts_on play is.first is.is_first;
+        course_is = is.course_is
+            ∙ ap (λ (u : World). followed (by_worlds core_work play.lines) form 0 1 u events) is.is_first.here
+            ∙ followed_told is.is_first.split is.is_first.parts is.is_first.of_graph.one is.is_first.fits play.lines form
+            events;
+        text = puts_source sound play is.first is.is_first events course
+            (λ ends.
+            let f = ended ends in
+            let r = reached sound play.lines play.program play.graph play.machines play.draws is.first is.is_first in
+            and_from (all_possible core_work is.first events) (finished (after core_work is.first events)) f.can
+            ((laws.goes (after core_work is.first events) (reached_behind is.first events r f.can)).missing.0
+            (none_lacks (missing_of (after core_work is.first events)) f.lacks)))
+            (λ ends. ap course_text is.course_is ∙ (ended ends).text);
+      }
 
   followed_source : (play : ℕ → Play) (text : List ℕ) (course : Course) → IsFollowed core_work play text course →
       IsSourceReplay play text course
   followed_source play text course (Tells machines events says is) =
-      Tells machines events says (is, following_source (play machines) says.form events course is)
+      Tells machines events says (following_source (play machines) says.form events course is)
   followed_source play text course (IsFaulty why real gives is) = IsFaulty why real gives is
 
 -- what cores show is what the source's run tells
@@ -387,12 +393,9 @@ module _ (sound : State → Type 0) (complete : PlainRunsAreComplete core_work s
       (run_told sound play.lines play.program play.graph play.machines play.draws is.first is.is_first is.events
       imaged_ended)
       (record {
-        split = is.is_first.split;
-        program = is.is_first.program_is;
-        parts = is.is_first.parts;
-        of_graph = is.is_first.of_graph;
+        on = parts_on play is.first is.is_first;
         events = is.events;
-        plain = subst (λ (u : World). IsPlainRun core_work u is.events) is.is_first.here is.plain;
+        plain = plain_on sound play is.first is.is_first is.events imaged_ended is.plain;
         is = log_told sound play.lines play.program play.graph play.machines play.draws is.first is.is_first is.events
             imaged_ended;
       })

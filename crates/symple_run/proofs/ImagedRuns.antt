@@ -16,6 +16,7 @@ use Rattle.command_steps.specs.Orders.{Course, Origin, Play}
 use Rattle.edge_reader.specs.EdgeList.{Graph}
 use Rattle.instrument.specs.declared.split.Split.{Split}
 use Rattle.graph_table.proofs.FilterLaws.{all_true}
+use Rattle.machine_runs.proofs.SourceFollows.{later_plain_told}
 use Rattle.schedule_laws.specs.Laws.{later_run}
 use Rattle.schedule_laws.specs.Layout.{lines_of, round_lines, table_of, text_of}
 use Rattle.schedule_laws.specs.OutputText.{output_text, run_of}
@@ -201,11 +202,8 @@ module _ (sound : State → Type 0) (complete : PlainRunsAreComplete core_work s
 
   pub later_logged : IsLoggedFrom play start (text_of core_work play.lines begun es)
   later_logged = record {
-    split = split;
-    program = program_is;
-    parts = parts;
-    of_graph = of_graph;
+    on = record { split = split; program_is = program_is; parts = parts; of_graph = of_graph };
     events = es;
-    plain = plain;
+    plain = later_plain_told split parts of_graph.one start fits starts es ended plain;
     is = every_later_log play.lines split parts of_graph.one start es fits starts ended;
   }

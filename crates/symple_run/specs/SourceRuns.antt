@@ -1,23 +1,18 @@
 -- The courses of runs that the source's run tells.
-use Rattle.std.specs.Prelude.{◌≡◌, ℕ, false, List, Option, None, Some, length}
-use Rattle.circulant_plan.specs.Skeleton.{first_skeleton, resumed_skeleton}
+use Rattle.std.specs.Prelude.{◌≡◌, ℕ, false, List, Option, None, Some}
 use Rattle.instrument.specs.declared.split.Split.{Split}
-use Rattle.schedule_laws.specs.Laws.{later_run, whole_run}
 use Rattle.schedule_laws.specs.OutputText.{output_text}
-use Rattle.symple_face.specs.Cluster.{IsPlainRun, first_world, restarted_world}
-use Rattle.symple_face.specs.CoreWork.{core_work}
-use Rattle.symple_face.specs.Parts.{PlainPart}
 use Rattle.symple_face.specs.Work.{PlainStart}
 use Rattle.command_steps.specs.Courses.{course_text}
 use Rattle.command_steps.specs.Orders.{Course, Drawn, DrawnLossy, Fails, Followed, Imaged, IsOver, Keeps, Origin, Parted, Plain, Play, Prints, Renewed, Resumed, Served, Shown, Takes, Task}
 use Rattle.symple_run.specs.Followed.{IsRenewed}
 use Rattle.symple_run.specs.SourceSchedules.{IsSourceRecord, IsSourceReplay}
 use Rattle.symple_run.specs.Shows.{IsSourceShow}
-use Rattle.symple_run.specs.SourceTexts.{job_of, play_text}
+use Rattle.symple_run.specs.SourceTexts.{HasParts, first_order, job_of, later_order, play_text, source_from, source_on}
 use Rattle.symple_run.specs.KeptImages.{StoresImages, key_for}
 use Rattle.symple_run.specs.Resumes.{Tells, later_of}
 use Rattle.symple_run.specs.SourceImages.{begun_text, files_kept, images_of}
-use Rattle.machine_runs.specs.RunParts.{IsRunOf}
+use Rattle.machine_runs.specs.SourceTellings.{IsPlainOrder}
 use Rattle.vert_base.specs.declared.message.Event.{Event}
 use Rattle.vert_eval.specs.SourceRun.{source_run}
 
@@ -29,17 +24,12 @@ IsPrinted (Prints text rest) = IsPrinted rest
 IsPrinted (Keeps name bytes rest) = ⊥
 IsPrinted (Takes used text rest) = ⊥
 
--- The text with the line of each event: the plain events of cores, each message taken with the body that the source's
--- run gives it.
+-- the text with the line of each event, which are the plain ones, each told by the source's run
 pub record IsLogged (play : Play) (text : List ℕ) : Type 0 where
-  pub split : Split
-  pub program : split.program.program ≡ play.program
-  pub parts : List PlainPart
-  pub of_graph : IsRunOf play.machines play.draws play.graph parts
+  pub on : HasParts play
   pub events : List Event
-  pub plain : IsPlainRun core_work (first_world core_work split parts) events
-  pub is :
-      text ≡ output_text play.lines (whole_run split parts of_graph.one) (first_skeleton (length parts)) events
+  pub plain : IsPlainOrder (source_on play on) (first_order play on) events
+  pub is : text ≡ output_text play.lines (source_on play on) (first_order play on) events
 
 -- the run puts the text of the source's run, and then it is over
 pub record IsSourcePlay (play : Play) (course : Course) : Type 0 where
@@ -55,18 +45,12 @@ pub record IsSourceImaged (play : Play) (origin : Origin) (image : List ℕ) (co
   pub images : files_kept course ≡ images_of (key_for play origin) image
       (source_run (job_of play.machines play.draws play.program play.graph))
 
--- The text with the line of each event of a run that goes on from a start: the plain events of cores from there, each
--- message taken with the body that the source's run from the start gives it.
+-- the same of a run that goes on from a start
 pub record IsLoggedFrom (play : Play) (start : PlainStart) (text : List ℕ) : Type 0 where
-  pub split : Split
-  pub program : split.program.program ≡ play.program
-  pub parts : List PlainPart
-  pub of_graph : IsRunOf play.machines play.draws play.graph parts
+  pub on : HasParts play
   pub events : List Event
-  pub plain : IsPlainRun core_work (restarted_world core_work split parts start) events
-  pub is :
-      text ≡ output_text play.lines (later_run split parts of_graph.one start)
-      (resumed_skeleton (length parts) start.round start.ruling) events
+  pub plain : IsPlainOrder (source_from play on start) (later_order play on start) events
+  pub is : text ≡ output_text play.lines (source_from play on start) (later_order play on start) events
 
 abbrev pub IsBegunLog : Play → Option PlainStart → List ℕ → Type 0
 IsBegunLog play None text = IsLogged play text

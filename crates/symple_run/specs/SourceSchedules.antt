@@ -1,40 +1,35 @@
 -- The courses of recorded and of followed runs that the source's run tells.
-use Rattle.std.specs.Prelude.{◌≡◌, ℕ, false, List, None, length}
-use Rattle.circulant_plan.specs.Skeleton.{first_skeleton}
+use Rattle.std.specs.Prelude.{◌≡◌, ℕ, [], false, List, None}
 use Rattle.command_steps.specs.Courses.{course_end, course_text}
 use Rattle.command_steps.specs.Orders.{Course, Play}
-use Rattle.instrument.specs.declared.split.Split.{Split}
-use Rattle.schedule_laws.specs.Laws.{whole_run}
-use Rattle.schedule_laws.specs.OutputText.{output_text}
-use Rattle.symple_face.specs.CoreWork.{core_work}
-use Rattle.symple_face.specs.Parts.{PlainPart}
-use Rattle.symple_run.specs.Followed.{ByText, IsFollowedPlay}
-use Rattle.symple_run.specs.Recorded.{IsDrawnPlay}
-use Rattle.machine_runs.specs.RunParts.{IsRunOf}
-use Rattle.symple_run.specs.SourceTexts.{play_text}
+use Rattle.delivery_log.specs.Choosers.{generator_of}
+use Rattle.delivery_log.specs.declared.form.Form.{Form}
+use Rattle.machine_runs.specs.SourceTellings.{IsDrawnOrder, by_source}
+use Rattle.machine_runs.specs.Tellings.{followed, recorded}
+use Rattle.symple_run.specs.Followed.{ByText}
+use Rattle.symple_run.specs.SourceTexts.{HasParts, first_order, play_text, source_on}
 use Rattle.vert_base.specs.declared.message.Event.{Event}
 
--- the text of a run with these events, each message taken with the body that the source's run gives it
-pub record IsToldBy (play : Play) (events : List Event) (text : List ℕ) : Type 0 where
-  pub split : Split
-  pub program : split.program.program ≡ play.program
-  pub parts : List PlainPart
-  pub of_graph : IsRunOf play.machines play.draws play.graph parts
-  pub is :
-      text ≡ output_text play.lines (whole_run split parts of_graph.one) (first_skeleton (length parts)) events
-
 -- a run that comes to its end puts the text of the source's run, whatever its events are
-pub record TellsSource (play : Play) (events : List Event) (course : Course) : Type 0 where
-  pub text : course_end course ≡ None → play.lines.log ≡ false → course_text course ≡ play_text play
-  pub logged : course_end course ≡ None → IsToldBy play events (course_text course)
+abbrev pub PutsSource : Play → Course → Type 0
+PutsSource play course = course_end course ≡ None → play.lines.log ≡ false → course_text course ≡ play_text play
 
--- the events are those that the seed draws at the states of cores
+-- the events are those that the seed draws, and each is told by the source's run
 pub record IsSourceRecord (play : Play) (seed : ℕ) (name : List ℕ) (course : Course) : Type 0 where
-  pub played : IsDrawnPlay core_work play seed name course
-  pub source : TellsSource play played.events course
+  pub on : HasParts play
+  pub events : List Event
+  pub drawn : IsDrawnOrder (source_on play on) (first_order play on) (generator_of seed) events
+  pub course_is : course ≡
+      recorded (by_source play.lines (source_on play on)) name play.machines [] (first_order play on) events
+  pub text : PutsSource play course
 
--- the events are those of the text, each judged at the state of cores that those before it leave
+-- the events are those of the text; the source's run tells each, and the first that can't come next, or what is lacking
+pub record IsSourceFollowed (play : Play) (form : Form) (events : List Event) (course : Course) : Type 0 where
+  pub on : HasParts play
+  pub course_is :
+      course ≡ followed (by_source play.lines (source_on play on)) form 0 1 (first_order play on) events
+  pub text : PutsSource play course
+
 abbrev pub IsSourceReplay : (ℕ → Play) → List ℕ → Course → Type 0
 IsSourceReplay play text course =
-    ByText text (λ machines form events course. IsFollowedPlay core_work (play machines) form events course
-    × TellsSource (play machines) events course) course
+    ByText text (λ machines form events course. IsSourceFollowed (play machines) form events course) course
