@@ -47,7 +47,7 @@ splits_are_one a b same =
     ∙ sym (split_is b.program b.dense b.split)
 
 -- the parts are those of the ends, the edges and the draws
-parts_same : (machines draws : ℕ) (graph : Graph) (a b : List PlainPart) → IsRunOf machines draws graph a →
+pub parts_same : (machines draws : ℕ) (graph : Graph) (a b : List PlainPart) → IsRunOf machines draws graph a →
     IsRunOf machines draws graph b → a ≡ b
 parts_same machines draws graph a b of also =
     of.one.parts_are

@@ -25,5 +25,6 @@ pub mod ResultLaws
 pub mod ResumeLaws
 pub mod ShowLaws
 pub mod RowsTold
+pub mod SourceTasks
 pub mod TaskLaws
 pub mod TextTasks

@@ -14,6 +14,7 @@ use Rattle.symple_face.specs.Work.{Work}
 use Rattle.symple_run.specs.Followed.{IsFaulty, IsFollowed, Tells}
 use Rattle.symple_run.specs.SourceSchedules.{IsSourceReplay}
 use Rattle.symple_run.proofs.CourseShapes.{same_alike}
+use Rattle.symple_run.proofs.SourceTasks.{record_calm, record_same, record_spares, replay_calm, replay_quiet, replay_same, replay_spares}
 use Rattle.symple_run.proofs.TextTasks.{drawn_calm, drawn_same, drawn_spares, follow_calm, follow_quiet, follow_spares, followed_same, renew_calm, renew_spares, renewed_same}
 use Rattle.symple_run.specs.Played.{IsPlayed}
 use Rattle.symple_run.specs.SourceRuns.{IsPrinted, IsSourcePlay, IsSourceRun}
@@ -104,12 +105,6 @@ source_printed play course is = is.printed
 no_names : (name : List ℕ) → name ∷ [] ≡ [] → ⊥
 no_names name none = cc
 
--- a replay that the source tells is one of cores
-source_followed : (play : ℕ → Play) (text : List ℕ) (course : Course) → IsSourceReplay play text course →
-    IsFollowed core_work play text course
-source_followed play text course (Tells machines events says is) = Tells machines events says is.0
-source_followed play text course (IsFaulty why real gives is) = IsFaulty why real gives is
-
 -- those of machines of a kind
 module _ (work : Work) where
   played_alike : (task : Task) (course other : Course) → IsPlayed work task course → IsPlayed work task other →
@@ -173,13 +168,10 @@ told_alike (Plain play) course other is same = printed_alike IsSourceRun course 
 told_alike (Imaged play origin image) course other is same = stores_alike image IsSourceRun course other is.stored same.stored
 told_alike (Resumed play origin even odd) course other is same = printed_alike IsSourceRun course other is.printed same.printed
 told_alike (Drawn play seed schedule) course other is same = same_alike IsSourceRun course other
-    (drawn_same core_work play seed schedule course other is.played same.played)
-    (drawn_calm core_work play seed schedule course is.played)
+    (record_same play seed schedule course other is same) (record_calm play seed schedule course is)
 told_alike (DrawnLossy play seed schedule) course other is same = absurd is
 told_alike (Followed play schedule) course other is same = same_alike IsSourceRun course other
-    (followed_same core_work play schedule course other (source_followed play schedule course is)
-    (source_followed play schedule other same))
-    (follow_calm core_work play schedule course (source_followed play schedule course is))
+    (replay_same play schedule course other is same) (replay_calm play schedule course is)
 told_alike (Shown seed machines) course other is same =
     printed_alike IsSourceRun course other (source_show_printed seed machines course is)
     (source_show_printed seed machines other same)
@@ -194,10 +186,10 @@ told_spares (Plain play) course is = λ name none. printed_spares IsSourceRun na
 told_spares (Imaged play origin image) course is = λ name none. stores_spares image IsSourceRun name course is.stored none
 told_spares (Resumed play origin even odd) course is = λ name none. printed_spares IsSourceRun name course is.printed
 told_spares (Drawn play seed schedule) course is = λ name none.
-    drawn_spares core_work IsSourceRun play seed schedule name none.0 course is.played
+    record_spares play seed schedule IsSourceRun name none.0 course is
 told_spares (DrawnLossy play seed schedule) course is = absurd is
 told_spares (Followed play schedule) course is = λ name none.
-    follow_spares core_work play schedule IsSourceRun name course (source_followed play schedule course is)
+    replay_spares play schedule IsSourceRun name course is
 told_spares (Shown seed machines) course is = λ name none.
     printed_spares IsSourceRun name course (source_show_printed seed machines course is)
 told_spares (Renewed schedule target) course is = λ name none.
@@ -213,7 +205,7 @@ told_quiet (Resumed play origin even odd) course is = λ none. printed_quiet IsS
 told_quiet (Drawn play seed schedule) course is = λ none. absurd (no_names schedule none)
 told_quiet (DrawnLossy play seed schedule) course is = absurd is
 told_quiet (Followed play schedule) course is = λ none.
-    follow_quiet core_work play schedule IsSourceRun course (source_followed play schedule course is)
+    replay_quiet play schedule IsSourceRun course is
 told_quiet (Shown seed machines) course is = λ none.
     printed_quiet IsSourceRun course (source_show_printed seed machines course is)
 told_quiet (Renewed schedule target) course is = λ none. absurd (no_names target none)
