@@ -55,7 +55,7 @@ numbers_line (n ∷ ns) all = joined (number_text n) (numbers_text ns) (spaced n
 pub wide : (n : ℕ) → n < 256 → n < 2 ^ 32
 wide n small = omega arith
 
-behind_small : (x : Name) → IsName x → AllByRecursion (λ n. n < 2 ^ 32) (numbers_behind x)
+pub behind_small : (x : Name) → IsName x → AllByRecursion (λ n. n < 2 ^ 32) (numbers_behind x)
 behind_small x is = choose (has_steps x.kind)
   where
     choose : (b : Bool) → AllByRecursion (λ n. n < 2 ^ 32) (if b then x.step ∷ x.half ∷ x.from ∷ x.to ∷ []

@@ -9,9 +9,7 @@ use Rattle.command_steps.specs.Quiet.{IsNoneOf, IsQuiet, Spares}
 use Rattle.command_steps.proofs.ComesLaws.{Must}
 use Rattle.command_steps.proofs.OrderLaws.{AreCourses, ends_alike}
 use Rattle.outside.specs.Files.{File}
-use Rattle.symple_face.specs.CoreWork.{core_work}
 use Rattle.symple_face.specs.Work.{Work}
-use Rattle.symple_run.specs.Followed.{IsFaulty, IsFollowed, Tells}
 use Rattle.symple_run.specs.SourceSchedules.{IsSourceReplay}
 use Rattle.symple_run.proofs.CourseShapes.{same_alike}
 use Rattle.symple_run.proofs.SourceTasks.{record_calm, record_same, record_spares, replay_calm, replay_quiet, replay_same, replay_spares}
