@@ -1,4 +1,6 @@
+pub mod FollowWalks
 pub mod PlainPlays
 pub mod PlayedEvents
+pub mod RecordWalks
 pub mod RunParts
 pub mod Tellings
