@@ -1,5 +1,7 @@
+pub mod FollowWalks
 pub mod PlainPlays
 pub mod PlayedEvents
+pub mod RecordWalks
 pub mod RunParts
 pub mod SourceTellings
 pub mod Tellings

@@ -21,36 +21,23 @@ use Rattle.vert_base.specs.declared.limits.TheConstants.{SCHEDULE_BYTES}
 use Rattle.vert_base.specs.declared.message.Event.{Event}
 use Rattle.vert_base.specs.declared.message.Event.TheVariants.{Go, Take}
 
--- what a run tells at a state of it
-pub record Telling (X : Type 0) : Type 0 where
+-- what a run of events of a kind tells at a state of it
+pub record Telling (X E : Type 0) : Type 0 where
   -- the line of an event, where it is asked for, and those of the round that it ends
-  pub own : X → Event → List ℕ
-  pub ended : X → Event → List ℕ
+  pub own : X → E → List ℕ
+  pub ended : X → E → List ℕ
   pub table : X → List ℕ
   -- the state behind an event
-  pub behind : X → Event → X
+  pub behind : X → E → X
   -- why an event can't happen, where it can't
-  pub refusal : X → Event → Option Impossible
+  pub refusal : X → E → Option Impossible
   -- what the run lacks, where it isn't finished
   pub lacks : X → Option Fault
 
-module _ {X : Type 0} (t : Telling X) where
-  -- the lines of an event, and then the rest
-  abbrev pub told_event : X → Event → Course → Course
-  told_event x e rest = Prints (t.own x e) (Prints (t.ended x e) rest)
-
-  -- the table, and the end
-  abbrev pub told_end : X → Course
-  told_end x = Prints (t.table x) IsOver
-
-  -- Each event is added to the text of those before it, if that stays within its limit, and then its lines
-  -- are put. Behind the last one the text is kept, and the table is put.
-  abbrev pub recorded : List ℕ → ℕ → List Event → X → List Event → Course
-  recorded name machines added x [] = Keeps name (schedule_text Roundless machines added) (told_end x)
-  recorded name machines added x (e ∷ es) =
-      if nat_lt SCHEDULE_BYTES (length (schedule_text Roundless machines (added ++ e ∷ [])))
-      then Fails LongSchedule
-      else told_event x e (recorded name machines (added ++ e ∷ []) (t.behind x e) es)
+-- an event of a text, and the number of the line that tells it
+pub record Listed (E : Type 0) : Type 0 where
+  pub line : ℕ
+  pub event : E
 
 -- an event that can't happen ends the run, with the line that tells it
 abbrev pub unless_refused : Option Impossible → ℕ → Course → Course
@@ -62,13 +49,45 @@ abbrev pub unless_lacking : Option Fault → Course → Course
 unless_lacking None rest = rest
 unless_lacking (Some fault) rest = Fails fault
 
-module _ {X : Type 0} (t : Telling X) (form : Form) where
-  -- the events behind so many lines, where a round is held; the last line of an event is the one that tells it
-  abbrev pub followed : ℕ → ℕ → X → List Event → Course
-  followed held lines x [] = unless_lacking (t.lacks x) (told_end t x)
-  followed held lines x (e ∷ es) =
-      unless_refused (t.refusal x e) (lines + length (event_lines form held e)) (told_event t x e
-      (followed (round_after held e) (lines + length (event_lines form held e)) (t.behind x e) es))
+module _ {X E : Type 0} (t : Telling X E) where
+  -- the lines of an event, and then the rest
+  abbrev pub told_event : X → E → Course → Course
+  told_event x e rest = Prints (t.own x e) (Prints (t.ended x e) rest)
+
+  -- the table, and the end
+  abbrev pub told_end : X → Course
+  told_end x = Prints (t.table x) IsOver
+
+  -- Each event is added to the text of those before it, if that stays within its limit, and then its lines
+  -- are put. Behind the last one the text is kept, and the table is put.
+  abbrev pub recorded_as : (List E → List ℕ) → List ℕ → List E → X → List E → Course
+  recorded_as text name added x [] = Keeps name (text added) (told_end x)
+  recorded_as text name added x (e ∷ es) =
+      if nat_lt SCHEDULE_BYTES (length (text (added ++ e ∷ [])))
+      then Fails LongSchedule
+      else told_event x e (recorded_as text name (added ++ e ∷ []) (t.behind x e) es)
+
+  -- the listed events, as far as they can happen
+  abbrev pub followed_as : X → List (Listed E) → Course
+  followed_as x [] = unless_lacking (t.lacks x) (told_end x)
+  followed_as x (l ∷ ls) =
+      unless_refused (t.refusal x l.event) l.line (told_event x l.event (followed_as (t.behind x l.event) ls))
+
+-- ---- texts of forms 1 and 2
+
+-- the text of form 2 is kept
+abbrev pub recorded : {X : Type 0} → Telling X Event → List ℕ → ℕ → List Event → X → List Event → Course
+recorded t name machines added x es = recorded_as t (schedule_text Roundless machines) name added x es
+
+-- the events behind so many lines, where a round is held; the last line of an event is the one that tells it
+abbrev pub listed : Form → ℕ → ℕ → List Event → List (Listed Event)
+listed form held lines [] = []
+listed form held lines (e ∷ es) =
+    record { line = lines + length (event_lines form held e); event = e }
+    ∷ listed form (round_after held e) (lines + length (event_lines form held e)) es
+
+abbrev pub followed : {X : Type 0} → Telling X Event → Form → ℕ → ℕ → X → List Event → Course
+followed t form held lines x es = followed_as t x (listed form held lines es)
 
 -- ---- what machines tell by their states
 
@@ -93,7 +112,7 @@ abbrev pub lack_of : Missing → Fault
 lack_of (Taken x) = NotTaken x
 lack_of (Gone m) = NotGone m
 
-abbrev pub by_worlds : Work → Lines → Telling World
+abbrev pub by_worlds : Work → Lines → Telling World Event
 by_worlds work lines = record {
   own = log_line lines;
   ended = round_lines work lines;

@@ -2,10 +2,12 @@
 //! put the lines that are asked for, and the table.
 #![tactic(auto)]
 
+mod followed;
 mod machines;
 mod rounds;
 mod table;
 
-pub use machines::{parts_from, play_event, play_out, started};
+pub use followed::{put_end, why_of};
+pub use machines::{parts_from, play_event, play_out, started, write_log, write_round_if};
 pub use rounds::ends_round;
 pub use table::{put_table, vertices, write_line};

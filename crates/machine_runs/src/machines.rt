@@ -134,7 +134,7 @@ pub fn play_event<S: Site, O: Sink>(
 }
 
 /// Puts the line of an event, where it is asked for.
-fn write_log<S: Site, O: Sink>(
+pub fn write_log<S: Site, O: Sink>(
     asked: bool,
     cluster: &Cluster<S, MACHINES>,
     event: &Event,
@@ -169,7 +169,7 @@ fn is_long(message: Option<&Message>) -> bool
 }
 
 /// Puts what is asked for of the round that was judged, if one was.
-fn write_round_if<S: Site, O: Sink>(
+pub fn write_round_if<S: Site, O: Sink>(
     judged: bool,
     cluster: &Cluster<S, MACHINES>,
     lines: &Lines,
