@@ -5,7 +5,8 @@ use Rattle.command_steps.specs.Notes.{Fault}
 use Rattle.command_steps.specs.Orders.{Course, NoTask, Play, follows}
 use Rattle.command_steps.specs.States.{Outside}
 use Rattle.link_core.specs.declared.event.LinkEvent.{LinkEvent}
-use Rattle.link_core.specs.LinkChoosers.{AreDrawn, link_generator}
+use Rattle.link_core.specs.LinkChoosers.{AreDrawn}
+use Rattle.delivery_log.specs.Choosers.{generator_of}
 use Rattle.link_core.specs.Links.{Linked, link_after, linked_anew}
 use Rattle.link_core.specs.LinkTexts.{links_text}
 use Rattle.link_runs.specs.LinkTellings.{by_links, listed_links}
@@ -29,7 +30,7 @@ pub record IsLossyPlay (work : Work) (play : Play) (seed : ℕ) (name : List ℕ
   pub first : World
   pub is_first : IsFirstWorld work play.program play.graph play.machines play.draws first
   pub events : List LinkEvent
-  pub drawn : IsDrawnFar work play.machines [] (linked_anew first) (link_generator seed) events
+  pub drawn : IsDrawnFar work play.machines [] (linked_anew first) (generator_of seed) events
   pub course_is : course ≡ recorded_as (by_links work play.lines) (links_text play.machines) name []
       (linked_anew first) events
 

@@ -7,7 +7,8 @@ ghost use Rattle.command_steps.specs.States.{Left, outside, shelf_state, sink_st
 ghost use Rattle.command_steps.specs.Walks.{fault_after};
 ghost use Rattle.edge_reader.specs.Gives.{graph_of_edges};
 ghost use Rattle.link_core.specs.declared.event.LinkEvent.{LinkEvent};
-ghost use Rattle.link_core.specs.LinkChoosers.{link_generator};
+ghost use Rattle.link_core.specs.LinkChoosers.{}
+use Rattle.delivery_log.specs.Choosers.{generator_of};
 ghost use Rattle.link_core.specs.LinkRecords.{RecordsLinks};
 ghost use Rattle.link_core.specs.LinkTexts.{links_text};
 ghost use Rattle.link_runs.specs.LinkedPlays.{Goes, IsDrawnFar, IsLossyPlay};
@@ -78,11 +79,11 @@ fn record_events<S: Site, O: Sink>(
     ensures finished { OnOk result (finished links.new.links.world ≡ true) }
     ensures ok { IfOk result (λ recorder. (h : Lcg)
         × HasRecorded (by_links S.work lines.now) (links_text machines) (IsDrawnFar S.work machines)
-        (RecordsLinks recorder machines) links.old.links (link_generator seed)
+        (RecordsLinks recorder machines) links.old.links (generator_of seed)
         (sink_state O.held O.faults O.spare out.old) links.new.links h
         (sink_state O.held O.faults O.spare out.new)) }
     ensures err { IfErr result (λ failure. StopsRecording (by_links S.work lines.now)
-        (links_text machines) (IsDrawnFar S.work machines) links.old.links (link_generator seed)
+        (links_text machines) (IsDrawnFar S.work machines) links.old.links (generator_of seed)
         (sink_state O.held O.faults O.spare out.old)
         (sink_state O.held O.faults O.spare out.new) (fault_of failure)) }
 {

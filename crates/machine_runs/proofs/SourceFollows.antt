@@ -24,6 +24,8 @@ use Rattle.cluster_run.proofs.Results.{finished_alike, steps_on}
 use Rattle.cluster_run.proofs.Worlds.{holds_need, needs_are}
 use Rattle.delivery_log.specs.Choosers.{IsDrawnRun, behind_word, word_of}
 use Rattle.delivery_log.specs.declared.form.Form.{Form}
+use Rattle.delivery_log.specs.declared.form.Form.TheVariants.{Roundless}
+use Rattle.delivery_log.specs.ScheduleTexts.{schedule_text}
 use Rattle.instrument.specs.declared.split.Split.{Split}
 use Rattle.rand_pcg.specs.Lcg.{Lcg}
 use Rattle.schedule_laws.specs.Events.{ring_in}
@@ -54,7 +56,7 @@ use Rattle.word_kinds.specs.Fits.{IsFitting}
 use Rattle.work_laws.specs.Sound.{core_sound}
 use Rattle.work_laws.proofs.Whole.{core_lawful}
 use Rattle.machine_runs.specs.SourceTellings.{IsDrawnOrder, IsPlainOrder, behind, by_source, first_untaken, next_events, order_fault, standing_fault, turn_fault}
-use Rattle.machine_runs.specs.Tellings.{by_worlds, followed, lack_of, recorded, why_of}
+use Rattle.machine_runs.specs.Tellings.{by_worlds, followed, lack_of, listed, recorded, why_of}
 use Rattle.machine_runs.proofs.TellingLaws.{AreAlike, GoesWell, followed_alike, recorded_alike}
 
 -- ---- what a machine waits for
@@ -266,7 +268,7 @@ module _ (split : Split) (parts : List PlainPart) (one : IsOneRun parts) (fits :
       followed (by_worlds core_work lines) form 0 1 w es ≡ followed (by_source lines whole) form 0 1 k es
   followed_told lines form es =
       followed_alike (by_worlds core_work lines) (by_source lines whole) (Goes whole parts one is_run refl)
-      (told_alike whole parts one is_run refl lines) form 0 1 w k first_goes es
+      (told_alike whole parts one is_run refl lines) w k first_goes (listed form 0 1 es)
 
   -- a recorded run that is complete
   pub recorded_told : (lines : Lines) (name : List ℕ) (machines : ℕ) (es : List Event) →
@@ -275,7 +277,7 @@ module _ (split : Split) (parts : List PlainPart) (one : IsOneRun parts) (fits :
       ≡ recorded (by_source lines whole) name machines [] k es
   recorded_told lines name machines es complete =
       recorded_alike (by_worlds core_work lines) (by_source lines whole) (Goes whole parts one is_run refl)
-      (told_alike whole parts one is_run refl lines) name machines [] w k first_goes es
+      (told_alike whole parts one is_run refl lines) (schedule_text Roundless machines) name [] w k first_goes es
       (goes_well whole parts one is_run refl lines w k first_goes es complete)
 
   pub plain_told : (es : List Event) → is_complete core_work w es ≡ true → IsPlainRun core_work w es →

@@ -55,7 +55,7 @@ abbrev pub behind : Source → Skeleton → Event → Skeleton
 behind src k e = step_of (ring_in src) (ruled (rulings_of src) k) e k
 
 -- each message is taken with its ideal body, and each round told as it is played
-abbrev pub by_source : Lines → Source → Telling Skeleton
+abbrev pub by_source : Lines → Source → Telling Skeleton Event
 by_source lines src = record {
   own = λ k e. if lines.log then event_line e (ideal_taken src e) else [];
   ended = ended_lines lines src;

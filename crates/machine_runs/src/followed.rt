@@ -32,10 +32,7 @@ pub fn why_of(event: &Event, fault: EventFault) -> Impossible
 }
 
 /// Puts the table, if nothing is missing until the end.
-pub fn put_end<S: Site, O: Sink>(
-    cluster: &Cluster<S, MACHINES>,
-    out: &mut O,
-) -> Result<(), Failure>
+pub fn put_end<S: Site, O: Sink>(cluster: &Cluster<S, MACHINES>, out: &mut O) -> Result<(), Failure>
     requires on { cluster.now.ended ≡ false }
     ensures { (lines : Lines) → EndsListed (by_worlds S.work lines) cluster.now.world
         (sink_state O.held O.faults O.spare out.old)
