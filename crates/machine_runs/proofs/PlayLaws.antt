@@ -14,9 +14,9 @@ use Rattle.symple_face.specs.State.{State}
 use Rattle.symple_face.specs.Work.{Work}
 use Rattle.command_steps.specs.Leaves.{Gained, Leaves, NotPut, Ran, WantsAtPut, after_text}
 use Rattle.command_steps.specs.Notes.{Fault, NoMemory, NoWrite}
-use Rattle.command_steps.specs.Orders.{NoTask, Order, Plain, Play, Puts, Runs, follows}
+use Rattle.command_steps.specs.Orders.{Course, NoTask, Order, Plain, Play, Puts, Runs, Task, follows}
 use Rattle.machine_runs.specs.PlayedEvents.{PutsLines, StopsInLines}
-use Rattle.machine_runs.specs.PlainPlays.{GoesOn, IsFirstWorld, IsPlayed, course_from, ends_round, first_report, is_late_judge, judges_late, log_line, report_with}
+use Rattle.machine_runs.specs.PlainPlays.{GoesOn, IsFirstWorld, IsPlainPlay, course_from, ends_round, first_report, is_late_judge, judges_late, log_line, report_with}
 use Rattle.command_steps.specs.declared.failure.Failure.{Failure}
 use Rattle.command_steps.specs.declared.failure.Failure.TheVariants as failure
 use Rattle.command_steps.specs.Faults.{fault_of}
@@ -219,16 +219,18 @@ table_stops work lines w old new fault ends put = record {
 
 -- a run from the first world of the machines of a graph's parts
 pub run_plays :
-    (work : Work) (play : Play) (first : World) → IsFirstWorld work play.program play.graph play.machines play.draws first →
+    (courses : Task → Course → Type 0) (work : Work) (play : Play) →
+    ((course : Course) → IsPlainPlay work play course → courses (Plain play) course) → (first : World) →
+    IsFirstWorld work play.program play.graph play.machines play.draws first →
     (old new : Held) (outcome : Option Fault) → GoesOn work play.lines first old new outcome →
     (shelf : Kept) (input : Left) →
-    Leaves (IsPlayed work) (Runs (Plain play) follows) (outside shelf old input) (outside shelf new input) outcome
-run_plays work play first is_first old new outcome goes shelf input =
+    Leaves courses (Runs (Plain play) follows) (outside shelf old input) (outside shelf new input) outcome
+run_plays courses work play allowed first is_first old new outcome goes shelf input =
     let course = course_from work play.lines first goes.events in
-    Ran course (record {
+    Ran course (allowed course (record {
       first = first;
       is_first = is_first;
       events = goes.events;
       plain = goes.plain;
       course_is = refl;
-    }) (unplayed (IsPlayed work) (follows course) _ _ outcome (goes.leaves shelf input))
+    })) (unplayed courses (follows course) _ _ outcome (goes.leaves shelf input))

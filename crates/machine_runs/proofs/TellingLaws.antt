@@ -34,18 +34,20 @@ module _ {X Y E : Type 0} (t : Telling X E) (u : Telling Y E) (R : X → Y → T
         by None none = ap (λ (text : List ℕ). Prints text IsOver) (alike.table x y r none)
         by (Some fault) is = refl
     followed_alike x y r (l ∷ ls) =
-        by (t.refusal x l.event) refl
+        by (λ r. followed_alike (t.behind x l.event) (u.behind y l.event) r ls) (t.refusal x l.event) refl
         ∙ ap (λ (o : Option Impossible). unless_refused o l.line (told_event u y l.event
         (followed_as u (u.behind y l.event) ls))) (alike.refusal x y r l.event)
       where
-        by : (o : Option Impossible) → t.refusal x l.event ≡ o →
+        by : (R (t.behind x l.event) (u.behind y l.event) →
+            followed_as t (t.behind x l.event) ls ≡ followed_as u (u.behind y l.event) ls) →
+            (o : Option Impossible) → t.refusal x l.event ≡ o →
             unless_refused o l.line (told_event t x l.event (followed_as t (t.behind x l.event) ls))
             ≡ unless_refused o l.line (told_event u y l.event (followed_as u (u.behind y l.event) ls))
-        by None none =
+        by more None none =
             let g = alike.goes x y r l.event none in
-            let rest = followed_alike (t.behind x l.event) (u.behind y l.event) g.behind ls in
+            let rest = more g.behind in
             (λ i. Prints (g.own i) (Prints (g.ended i) (rest i)))
-        by (Some why) is = refl
+        by more (Some why) is = refl
 
     pub recorded_alike : (text : List E → List ℕ) (name : List ℕ) (added : List E) (x : X) (y : Y) → R x y →
         (es : List E) → GoesWell x es → recorded_as t text name added x es ≡ recorded_as u text name added y es
