@@ -94,7 +94,7 @@ module _ (src : Source) (parts : List PlainPart) (one : IsOneRun parts) (run : I
   ring_same = ap (ring_of src.split) (count src parts one run same_ends)
 
   module _ (w : World) (k : Skeleton) (f : Follows src parts w k) where
-    tied : IsTied core_sound src.split parts w
+    abbrev tied : IsTied core_sound src.split parts w
     tied = record { k = k; reached = f.reached; alike = f.alike }
 
     over_alike : finished w ≡ is_finished k
@@ -237,7 +237,7 @@ module _ (split : Split) (parts : List PlainPart) (one : IsOneRun parts) (fits :
   abbrev k : Skeleton
   k = first_skeleton (length parts)
 
-  is_run : IsSourceRun whole
+  abbrev pub is_run : IsSourceRun whole
   is_run = whole_is_a_run split parts one fits
 
   follows_first : Follows whole parts w k
