@@ -1,3 +1,0 @@
-pub mod LinkedEvents
-pub mod LinkedPlays
-pub mod LinkTellings
