@@ -61,15 +61,12 @@ impl Mutator {
         word.checked_rem(bound).unwrap_or(0)
     }
 
-    /// Two places of a text with so many bytes, in order.
+    /// Two places of a text with so many bytes, in order and mostly near each other.
     fn places(&mut self, len: usize) -> (usize, usize) {
-        let first = self.below(len.saturating_add(1));
-        let other = self.below(len.saturating_add(1));
-        if first <= other {
-            (first, other)
-        } else {
-            (other, first)
-        }
+        let begun = self.below(len.saturating_add(1));
+        let most = if self.below(4) == 0 { len } else { 12 };
+        let ended = begun.saturating_add(self.below(most));
+        (begun, ended.min(len))
     }
 
     /// A number of four bytes at the border of what is read, or any.

@@ -47,6 +47,6 @@ fn changed_parts(rt: HostRuntime) -> Result<(), Fail> {
             Err(fault) => assert!(rt; fault != PartFault::Want, "{number}"),
         }
     }
-    assert!(rt; read > 10 && read < CASES * 4, "{read} read");
+    assert!(rt; read > 5 && read < CASES, "{read} read");
     Ok(())
 }

@@ -43,6 +43,6 @@ fn changed_programs(rt: HostRuntime) -> Result<(), Fail> {
             }
         }
     }
-    assert!(rt; read > 20 && refused > 200, "{read} read, {refused} refused");
+    assert!(rt; read > 10 && refused > 200, "{read} read, {refused} refused");
     Ok(())
 }
