@@ -7,6 +7,7 @@ import re
 import shutil
 import signal
 import subprocess
+import sys
 import tempfile
 
 TOP = pathlib.Path(__file__).resolve().parent.parent
@@ -40,6 +41,8 @@ def asked(text, *more):
     for name, told in more:
         parser.add_argument(name, **told)
     found = parser.parse_args()
+    # So that folders go when the script is told to stop.
+    signal.signal(signal.SIGTERM, lambda *_: sys.exit(128 + signal.SIGTERM))
     found.program = str(pathlib.Path(found.program).resolve())
     return found
 
