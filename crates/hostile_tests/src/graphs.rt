@@ -35,7 +35,11 @@ fn changed_texts(rt: HostRuntime) -> Result<(), Fail> {
         let good = graph_named(name).ok_or("no graph")?.as_bytes();
         for number in 0..CASES {
             let text = mutator.case(alloc, good, PAIRS.as_slice())?;
-            let vertices = if number % 2 == 0 { None } else { Some(number % 8) };
+            let vertices = if number % 2 == 0 {
+                None
+            } else {
+                Some(number % 8)
+            };
             let edges = read_text(alloc, text.as_slice(), vertices, number % 3 == 0);
             assert!(rt; fits(&edges, text.len()), "{name} {number}");
             match edges {
@@ -44,7 +48,10 @@ fn changed_texts(rt: HostRuntime) -> Result<(), Fail> {
             }
         }
     }
-    assert!(rt; read > 200 && refused > 200, "{read} read, {refused} refused");
+    assert!(rt;
+        read > 200 && refused > 200,
+        "{read} read, {refused} refused"
+    );
     Ok(())
 }
 

@@ -100,13 +100,25 @@ impl Mutator {
             3 => joined(alloc, text, ended, text.get(begun..).unwrap_or(&[]), ended),
             4 => {
                 let (first, last) = self.places(other.len());
-                joined(alloc, text, begun, other.get(first..last).unwrap_or(&[]), begun)
+                joined(
+                    alloc,
+                    text,
+                    begun,
+                    other.get(first..last).unwrap_or(&[]),
+                    begun,
+                )
             }
             5 => joined(alloc, text, begun, &self.number(), begun.saturating_add(4)),
             6 => {
                 let line = self.below(BORDER_COUNT);
                 let word = BORDERS.lines().nth(line).unwrap_or("");
-                joined(alloc, text, begun, word.as_bytes(), behind_digits(text, begun))
+                joined(
+                    alloc,
+                    text,
+                    begun,
+                    word.as_bytes(),
+                    behind_digits(text, begun),
+                )
             }
             _ => {
                 let byte = text.get(begun).copied().unwrap_or(0) ^ (1 << self.below(8));

@@ -43,6 +43,9 @@ fn changed_programs(rt: HostRuntime) -> Result<(), Fail> {
             }
         }
     }
-    assert!(rt; read > 10 && refused > 200, "{read} read, {refused} refused");
+    assert!(rt;
+        read > 10 && refused > 200,
+        "{read} read, {refused} refused"
+    );
     Ok(())
 }

@@ -83,7 +83,10 @@ fn changed_schedules(rt: HostRuntime) -> Result<(), Fail> {
             if text.as_slice().starts_with(b"schedule 2") {
                 assert!(rt; bytes == text.as_slice(), "{number}");
             } else {
-                assert!(rt; renewed(alloc, bytes)?.ok_or("refused")?.as_slice() == bytes, "{number}");
+                assert!(rt;
+                    renewed(alloc, bytes)?.ok_or("refused")?.as_slice() == bytes,
+                    "{number}"
+                );
             }
             read = read.saturating_add(1);
         }
