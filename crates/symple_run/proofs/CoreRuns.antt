@@ -189,7 +189,7 @@ module _ (sound : State → Type 0) (lines : Lines) (program : Program) (graph :
         first.program_is
 
 -- the parts of a first world
-parts_on : (play : Play) (v : World) → IsFirstWorld core_work play.program play.graph play.machines play.draws v →
+abbrev parts_on : (play : Play) (v : World) → IsFirstWorld core_work play.program play.graph play.machines play.draws v →
     HasParts play
 parts_on play v first = record {
   split = first.split;

@@ -2,6 +2,7 @@
 use Rattle.std.specs.Prelude.{◌≡◌, ℕ, false, List, Option, None, Some}
 use Rattle.instrument.specs.declared.split.Split.{Split}
 use Rattle.schedule_laws.specs.OutputText.{output_text}
+use Rattle.symple_face.specs.CoreWork.{core_work}
 use Rattle.symple_face.specs.Work.{PlainStart}
 use Rattle.command_steps.specs.Courses.{course_text}
 use Rattle.command_steps.specs.Orders.{Course, Drawn, DrawnLossy, Fails, Followed, Imaged, IsOver, Keeps, Origin, Parted, Plain, Play, Prints, Renewed, Resumed, Served, Shown, Takes, Task}

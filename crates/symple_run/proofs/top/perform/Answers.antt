@@ -1,15 +1,14 @@
 use Rattle.std.proofs.Common.{List, ℕ, sym, ap, ◌∙◌}
-use Rattle.command_steps.specs.Commands.{asked, demo_order, free_order, plan_order, renew_order, replay_order, resume_order, show_order, split_order, worker_order}
+use Rattle.command_steps.specs.Commands.{asked, demo_order, free_order, plan_order, renew_order, replay_order, resume_order, show_order}
 use Rattle.symple_run.specs.Played.{IsPlayed}
 use Rattle.command_steps.specs.States.{Left, Outside, input_state, outside, shelf_state, sink_state}
 use Rattle.command_steps.specs.Walks.{fault_after}
-use Rattle.command_steps.proofs.LeavesLaws.{unplayed, weaker}
+use Rattle.command_steps.proofs.LeavesLaws.{unplayed}
 use Rattle.command_steps.proofs.WalkLaws.{as_order}
 use Rattle.symple_words.specs.declared.line.Line.{Line}
 use Rattle.symple_words.specs.Lines.{RecordOf}
 use Rattle.symple_words.specs.Views.{job_view, line_view}
-use Rattle.part_runs.specs.PartWalks.{IsPartRun}
-use Rattle.symple_run.proofs.PartTasks.{part_run_played}
+use Rattle.symple_run.proofs.PartTasks.{part_order, split_same, worker_same}
 use Rattle.symple_run.proofs.top.perform.Goals as goal
 
 pub returns-in-RunLine-clause-order : goal.returns-in-RunLine-clause-order
@@ -115,23 +114,16 @@ returns-in-ResumeLine-clause-order g c =
 pub returns-in-SplitLine-clause-order : goal.returns-in-SplitLine-clause-order
 returns-in-SplitLine-clause-order g c =
     let here = c.in-SplitLine in
-    as_order (IsPlayed g.S.Site.work) _ _ _ _ _
-    (ap (λ (name : List ℕ). split_order name c.deref-in-SplitLine-2.result.now c.deref-in-SplitLine-3.result.now here.form
-    here.machines here.draws) c.deref-in-SplitLine.ensures
-    ∙ ap (λ (name : List ℕ). split_order _ name c.deref-in-SplitLine-3.result.now here.form here.machines here.draws)
-    c.deref-in-SplitLine-2.ensures
-    ∙ ap (λ (name : List ℕ). split_order _ _ name here.form here.machines here.draws) c.deref-in-SplitLine-3.ensures
+    part_order g.S.Site.work _ _ _ _ _
+    (split_same _ _ _ _ _ _ here.form here.machines here.draws c.deref-in-SplitLine.ensures
+    c.deref-in-SplitLine-2.ensures c.deref-in-SplitLine-3.ensures
     ∙ ap (λ (line : Line). asked (line_view line)) (sym here.is))
-    (weaker (IsPartRun g.S.Site.work) (IsPlayed g.S.Site.work) (part_run_played g.S.Site.work) _ _ _ _
     (c.split.ensures.order g.S.Site.work (sink_state g.O.Sink.held g.O.Sink.faults g.O.Sink.spare c.args.out.now)
-    (input_state g.I.Source.left g.I.Source.faults c.args.input.now)))
+    (input_state g.I.Source.left g.I.Source.faults c.args.input.now))
 
 pub returns-in-WorkerLine-clause-order : goal.returns-in-WorkerLine-clause-order
 returns-in-WorkerLine-clause-order g c =
-    let here = c.in-WorkerLine in
-    as_order (IsPlayed g.S.Site.work) _ _ _ _ _
-    (ap (λ (name : List ℕ). worker_order name c.deref-in-WorkerLine-2.result.now) c.deref-in-WorkerLine.ensures
-    ∙ ap (λ (name : List ℕ). worker_order _ name) c.deref-in-WorkerLine-2.ensures
-    ∙ ap (λ (line : Line). asked (line_view line)) (sym here.is))
-    (weaker (IsPartRun g.S.Site.work) (IsPlayed g.S.Site.work) (part_run_played g.S.Site.work) _ _ _ _
-    c.work.ensures.order)
+    part_order g.S.Site.work _ _ _ _ _
+    (worker_same _ _ _ _ c.deref-in-WorkerLine.ensures c.deref-in-WorkerLine-2.ensures
+    ∙ ap (λ (line : Line). asked (line_view line)) (sym c.in-WorkerLine.is))
+    c.work.ensures.order
