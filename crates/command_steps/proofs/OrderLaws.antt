@@ -1,12 +1,12 @@
 -- What the order of each line stores, and how it comes out, by what is known of the courses of its tasks.
 use Rattle.std.proofs.Common.{◌≡◌, ◌⊎◌, inl, inr, ℕ, Bool, true, false, List, [], Option, Some, None, Result, Ok, Err, length, nat_lt, refl, ◌∙◌, subst, arith}
 use Rattle.std.specs.Prelude.{MatchBool}
-use Rattle.command_steps.specs.Commands.{asked, asked_by, followed_order, graph_of, image_name, names_of, names_stored, of_graph, order_of, origin_of, play_of, stored_by, stored_if, with_both, with_graph, with_program}
+use Rattle.command_steps.specs.Commands.{asked, asked_by, followed_order, graph_of, image_name, names_of, names_stored, of_graph, order_of, origin_of, part_play, play_of, stored_by, stored_if, with_both, with_graph, with_program}
 use Rattle.command_steps.specs.Comes.{ByFile, Comes, Fits}
 use Rattle.command_steps.specs.Courses.{TakesNothing, course_end}
 use Rattle.command_steps.specs.Leaves.{Leaves}
-use Rattle.command_steps.specs.Notes.{Fault, LongSchedule, NoLoad}
-use Rattle.command_steps.specs.Orders.{Course, Drawn, Ends, Fails, Followed, Imaged, IsOver, Keeps, Order, Plain, Prints, Puts, Renewed, Resumed, Runs, Shown, Takes, Task, Tries, follows}
+use Rattle.command_steps.specs.Notes.{BadPart, Fault, LongSchedule, NoLoad}
+use Rattle.command_steps.specs.Orders.{Course, Drawn, Ends, Fails, Followed, Imaged, IsOver, Keeps, Order, Parted, Plain, Prints, Puts, Renewed, Resumed, Runs, Served, Shown, Takes, Task, Tries, follows}
 use Rattle.command_steps.specs.Outputs.{free_text, plan_text}
 use Rattle.command_steps.specs.Quiet.{IsNoneOf, IsQuiet, KeepsOthers, Spares}
 use Rattle.command_steps.specs.States.{Outside}
@@ -19,15 +19,14 @@ use Rattle.outside.specs.Causes.{Rose}
 use Rattle.outside.specs.Files.{File, file_named}
 use Rattle.symple_words.specs.declared.line.GraphForm.{GraphForm}
 use Rattle.symple_words.specs.Lines as words
-use Rattle.vert_base.specs.declared.limits.TheConstants.{IMAGE_BYTES, SCHEDULE_BYTES}
+use Rattle.vert_base.specs.declared.limits.TheConstants.{GRAPH_BYTES, IMAGE_BYTES, SCHEDULE_BYTES}
 use Rattle.vert_tree.specs.declared.program.Program.{Program}
 
 -- what is known of each course that a task may take
 pub record AreCourses (courses : Task → Course → Type 0) : Type 0 where
-  -- two of them come out alike over the same files and the same input
-  pub alike : (task : Task) (course other : Course) → courses task course → courses task other →
-      (files : List File) (input : Option (List ℕ)) (outcome : Option Fault) →
-      Comes courses (follows course) files input outcome → Must courses (follows other) files input outcome
+  -- where the task comes out so, each of them does
+  pub must : (task : Task) (files : List File) (input : Option (List ℕ)) (outcome : Option Fault) →
+      Comes courses (Runs task follows) files input outcome → Must courses (Runs task follows) files input outcome
   -- it stores under the names of its task alone
   pub spares : (task : Task) (course : Course) → courses task course → (name : List ℕ) →
       IsNoneOf name (names_of task) → Spares courses name (follows course)
@@ -65,6 +64,16 @@ module _ (courses : Task → Course → Type 0) (files : List File) (input : Opt
     must_come_to (Prints text rest) calm fs is = must_come_to rest calm fs is
     must_come_to (Keeps name bytes rest) calm fs is = must_come_to rest calm _ is
     must_come_to (Takes used text rest) calm fs is = absurd calm
+
+    -- a course that comes out so must
+    pub course_must : (course : Course) (fs : List File) (given : Option (List ℕ)) →
+        Comes courses (follows course) fs given outcome → Must courses (follows course) fs given outcome
+    course_must IsOver fs given comes = comes
+    course_must (Fails fault) fs given comes = comes
+    course_must (Prints text rest) fs given comes = course_must rest fs given comes
+    course_must (Keeps name bytes rest) fs given comes = course_must rest _ given comes
+    course_must (Takes used text rest) fs None comes = comes
+    course_must (Takes used text rest) fs (Some bytes) comes = course_must (rest bytes) fs _ comes
 
     -- two of them that end alike come out alike
     pub ends_alike : (course other : Course) → TakesNothing course → TakesNothing other →
@@ -111,8 +120,12 @@ module _ (courses : Task → Course → Type 0) (are : AreCourses courses) where
   line_spares (words.DemoOf seed machines) name none = λ course is. are.spares (Shown seed machines) course is name tt
   line_spares (words.RenewOf schedule target) name none = λ events course is.
       are.spares (Renewed events target) course is name none
-  line_spares (words.SplitOf program graph prefix form machines draws) name none = tt
-  line_spares (words.WorkerOf part rows) name none = tt
+  line_spares (words.SplitOf program graph prefix form machines draws) name none = λ text p says bytes.
+      graph_spares name (graph_of form bytes)
+      (λ edges. Runs (Parted (part_play machines draws p edges) text prefix) follows)
+      (λ edges course is. are.spares (Parted (part_play machines draws p edges) text prefix) course is name none)
+  line_spares (words.WorkerOf part rows) name none = λ bytes course is.
+      are.spares (Served bytes rows) course is name none
 
   words_spare : (line : Result words.PlainLine words.LineFault) (name : List ℕ) → IsNoneOf name (stored_if line) →
       Spares courses name (asked_by line)
@@ -152,8 +165,11 @@ module _ (courses : Task → Course → Type 0) (are : AreCourses courses) where
       are.quiet (Resumed (play_of job machines program graph) (origin_of job text bytes) even odd) course is refl)
   line_quiet (words.DemoOf seed machines) none = λ course is. are.quiet (Shown seed machines) course is refl
   line_quiet (words.RenewOf schedule target) none = absurd (cc)
-  line_quiet (words.SplitOf program graph prefix form machines draws) none = tt
-  line_quiet (words.WorkerOf part rows) none = tt
+  line_quiet (words.SplitOf program graph prefix form machines draws) none = λ text p says bytes.
+      graph_quiet (graph_of form bytes)
+      (λ edges. Runs (Parted (part_play machines draws p edges) text prefix) follows)
+      (λ edges course is. are.quiet (Parted (part_play machines draws p edges) text prefix) course is none)
+  line_quiet (words.WorkerOf part rows) none = absurd (cc)
 
   words_quiet : (line : Result words.PlainLine words.LineFault) → stored_if line ≡ [] → IsQuiet courses (asked_by line)
   words_quiet (Ok line) none = line_quiet line none
@@ -244,7 +260,7 @@ module _ (courses : Task → Course → Type 0) (are : AreCourses courses) where
         (λ file. Has (next file)) step may
 
     task_must : (task : Task) → May (Runs task follows) → Has (Runs task follows)
-    task_must task (course, is, comes) = λ other others. are.alike task course other is others files input outcome comes
+    task_must task may = are.must task files input outcome may
 
     line_must : (line : words.PlainLine) → May (asked line) → Has (asked line)
     line_must (words.RunOf job machines None) may =
@@ -282,8 +298,12 @@ module _ (courses : Task → Course → Type 0) (are : AreCourses courses) where
     line_must (words.DemoOf seed machines) may = task_must (Shown seed machines) may
     line_must (words.RenewOf schedule target) may = file_must schedule SCHEDULE_BYTES LongSchedule
         (λ events. Runs (Renewed events target) follows) (λ events. task_must (Renewed events target)) may
-    line_must (words.SplitOf program graph prefix form machines draws) may = may
-    line_must (words.WorkerOf part rows) may = may
+    line_must (words.SplitOf program graph prefix form machines draws) may =
+        both_must program form graph (λ text p bytes edges.
+        Runs (Parted (part_play machines draws p edges) text prefix) follows)
+        (λ text p bytes edges. task_must (Parted (part_play machines draws p edges) text prefix)) may
+    line_must (words.WorkerOf part rows) may = file_must part GRAPH_BYTES (BadPart 2)
+        (λ bytes. Runs (Served bytes rows) follows) (λ bytes. task_must (Served bytes rows)) may
 
     order_must : (line : Result words.PlainLine words.LineFault) → May (asked_by line) → Has (asked_by line)
     order_must (Ok line) may = line_must line may

@@ -155,8 +155,8 @@ module _ (courses : Task → Course → Type 0) where
   asked_wants (words.ResumeOf job image machines) w = WantsAtLoad (no_memory w)
   asked_wants (words.DemoOf seed machines) w = WantsAtRun (no_memory w)
   asked_wants (words.RenewOf schedule target) w = WantsAtLoad (no_memory w)
-  asked_wants (words.SplitOf program graph prefix form machines draws) w = WantsAtRefusal (no_memory w)
-  asked_wants (words.WorkerOf part rows) w = WantsAtRefusal (no_memory w)
+  asked_wants (words.SplitOf program graph prefix form machines draws) w = WantsAtLoad (no_memory w)
+  asked_wants (words.WorkerOf part rows) w = WantsAtLoad (no_memory w)
 
   asked_by_wants : (line : Result words.PlainLine words.LineFault) (w : Outside) →
       Leaves courses (asked_by line) w w (Some NoMemory)

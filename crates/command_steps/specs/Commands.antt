@@ -1,5 +1,5 @@
 -- What each command does: the order of its steps, by the line that its words are.
-use Rattle.std.specs.Prelude.{◌%◌, ◌++◌, ℕ, true, false, List, [], ◌∷◌, Some, None, Result, Ok, Err, codes, decimal, if◌then◌else◌, map}
+use Rattle.std.specs.Prelude.{◌%◌, ◌++◌, ℕ, Bool, true, false, List, [], ◌∷◌, Some, None, Result, Ok, Err, codes, decimal, if◌then◌else◌, map}
 use Rattle.std.specs.List.{range_with_len}
 use Rattle.edge_reader.specs.declared.fault.EdgeFault.{EdgeFault}
 use Rattle.edge_reader.specs.declared.fault.EdgeFault.TheVariants.{Line as AtLine, Byte as AtByte, Want as EdgeWant}
@@ -173,8 +173,8 @@ asked (words.ReplayOf job schedule) = replay_order job schedule
 asked (words.ResumeOf job image machines) = resume_order job image machines
 asked (words.DemoOf seed machines) = demo_order seed machines
 asked (words.RenewOf schedule target) = renew_order schedule target
-asked (words.SplitOf program graph prefix form machines draws) = Refuses NoCommand
-asked (words.WorkerOf part rows) = Refuses NoCommand
+asked (words.SplitOf program graph prefix form machines draws) = split_order program graph prefix form machines draws
+asked (words.WorkerOf part rows) = worker_order part rows
 
 -- the names under which a line may store
 abbrev pub stored_by : words.PlainLine → List (List ℕ)
@@ -199,6 +199,28 @@ abbrev pub asked_by : Result words.PlainLine words.LineFault → Order
 asked_by (Ok line) = asked line
 asked_by (Err words.NoCommand) = Refuses NoCommand
 asked_by (Err words.BadWords) = Refuses BadWords
+
+-- a worker alone takes from the input
+abbrev pub is_worker : words.PlainLine → Bool
+is_worker (words.RunOf job machines image) = false
+is_worker (words.ShowOf program) = false
+is_worker (words.FreeOf program) = false
+is_worker (words.PlanOf graph form machines) = false
+is_worker (words.RecordOf job schedule machines seed lossy) = false
+is_worker (words.ReplayOf job schedule) = false
+is_worker (words.ResumeOf job image machines) = false
+is_worker (words.DemoOf seed machines) = false
+is_worker (words.RenewOf schedule target) = false
+is_worker (words.SplitOf program graph prefix form machines draws) = false
+is_worker (words.WorkerOf part rows) = true
+
+abbrev pub is_worker_if : Result words.PlainLine words.LineFault → Bool
+is_worker_if (Ok line) = is_worker line
+is_worker_if (Err fault) = false
+
+-- whether the words let the input be taken from
+abbrev pub takes_input : List (List ℕ) → Bool
+takes_input texts = is_worker_if (words.line_of texts)
 
 -- the order of the words behind the program's own name
 abbrev pub order_of : List (List ℕ) → Order

@@ -482,8 +482,8 @@ core_task sound laws restarts ready (Followed play schedule) course is =
 core_task sound laws restarts ready (Shown seed machines) course is =
     shown_source sound laws.plain seed machines course is
 core_task sound laws restarts ready (Renewed schedule target) course is = is
-core_task sound laws restarts ready (Parted play program prefix) course is = absurd is
-core_task sound laws restarts ready (Served part rows) course is = absurd is
+core_task sound laws restarts ready (Parted play program prefix) course is = is
+core_task sound laws restarts ready (Served part rows) course is = is
 
 -- whatever cores do, the source's run tells
 pub core_runs : (work : Work) (sound : State → Type 0) → work ≡ core_work → ChosenWell work sound →

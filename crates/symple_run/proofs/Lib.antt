@@ -18,6 +18,7 @@ pub mod ImagedRuns
 pub mod ImagesTold
 pub mod InterruptedLaws
 pub mod LeftImages
+pub mod PartTasks
 pub mod RecordLaws
 pub mod RenewLaws
 pub mod ReplayLaws

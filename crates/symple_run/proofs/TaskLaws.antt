@@ -4,12 +4,14 @@ use Rattle.command_steps.specs.Commands.{image_name, names_of}
 use Rattle.command_steps.specs.Comes.{Comes}
 use Rattle.command_steps.specs.Courses.{TakesNothing, course_end}
 use Rattle.command_steps.specs.Notes as note
-use Rattle.command_steps.specs.Orders.{Course, Drawn, DrawnLossy, Fails, Followed, Imaged, IsOver, Keeps, Parted, Plain, Play, Prints, Renewed, Resumed, Served, Shown, Takes, Task, follows}
+use Rattle.command_steps.specs.Orders.{Course, Drawn, DrawnLossy, Fails, Followed, Imaged, IsOver, Keeps, Parted, Plain, Play, Prints, Renewed, Resumed, Runs, Served, Shown, Takes, Task, follows}
 use Rattle.command_steps.specs.Quiet.{IsNoneOf, IsQuiet, Spares}
 use Rattle.command_steps.proofs.ComesLaws.{Must}
-use Rattle.command_steps.proofs.OrderLaws.{AreCourses, ends_alike}
+use Rattle.command_steps.proofs.OrderLaws.{AreCourses, course_must, ends_alike}
 use Rattle.outside.specs.Files.{File}
+use Rattle.symple_face.specs.CoreWork.{core_work}
 use Rattle.symple_face.specs.Work.{Work}
+use Rattle.part_runs.proofs.CourseLaws.{parted_calm, parted_quiet, parted_same, parted_spares, serving_spares}
 use Rattle.symple_run.specs.SourceSchedules.{IsSourceReplay}
 use Rattle.symple_run.proofs.CourseShapes.{same_alike}
 use Rattle.symple_run.proofs.SourceTasks.{record_calm, record_same, record_spares, replay_calm, replay_quiet, replay_same, replay_spares}
@@ -105,24 +107,32 @@ no_names name none = cc
 
 -- those of machines of a kind
 module _ (work : Work) where
-  played_alike : (task : Task) (course other : Course) → IsPlayed work task course → IsPlayed work task other →
-      (files : List File) (input : Option (List ℕ)) (outcome : Option note.Fault) →
-      Comes (IsPlayed work) (follows course) files input outcome → Must (IsPlayed work) (follows other) files input outcome
-  played_alike (Plain play) course other is same = printed_alike (IsPlayed work) course other (plain_printed work play course is) (plain_printed work play other same)
-  played_alike (Imaged play origin image) course other is same = stores_alike image (IsPlayed work) course other (imaged_stores work play origin image course is) (imaged_stores work play origin image other same)
-  played_alike (Resumed play origin even odd) course other is same = printed_alike (IsPlayed work) course other (resumed_printed work play origin even odd course is) (resumed_printed work play origin even odd other same)
-  played_alike (Drawn play seed schedule) course other is same = same_alike (IsPlayed work) course other
-      (drawn_same work play seed schedule course other is same) (drawn_calm work play seed schedule course is)
-  played_alike (DrawnLossy play seed schedule) course other is same = absurd is
-  played_alike (Followed play schedule) course other is same = same_alike (IsPlayed work) course other
-      (followed_same work play schedule course other is same) (follow_calm work play schedule course is)
-  played_alike (Shown seed machines) course other is same =
+  played_must : (task : Task) (files : List File) (input : Option (List ℕ)) (outcome : Option note.Fault) →
+      Comes (IsPlayed work) (Runs task follows) files input outcome → Must (IsPlayed work) (Runs task follows) files input outcome
+  played_must (Plain play) files input outcome (course, is, comes) = λ other same.
+      printed_alike (IsPlayed work) course other (plain_printed work play course is) (plain_printed work play other same) files input outcome comes
+  played_must (Imaged play origin image) files input outcome (course, is, comes) = λ other same.
+      stores_alike image (IsPlayed work) course other (imaged_stores work play origin image course is) (imaged_stores work play origin image other same) files input outcome comes
+  played_must (Resumed play origin even odd) files input outcome (course, is, comes) = λ other same.
+      printed_alike (IsPlayed work) course other (resumed_printed work play origin even odd course is) (resumed_printed work play origin even odd other same) files input outcome comes
+  played_must (Drawn play seed schedule) files input outcome (course, is, comes) = λ other same.
+      same_alike (IsPlayed work) course other
+      (drawn_same work play seed schedule course other is same) (drawn_calm work play seed schedule course is) files input outcome comes
+  played_must (DrawnLossy play seed schedule) files input outcome (course, is, comes) = absurd is
+  played_must (Followed play schedule) files input outcome (course, is, comes) = λ other same.
+      same_alike (IsPlayed work) course other
+      (followed_same work play schedule course other is same) (follow_calm work play schedule course is) files input outcome comes
+  played_must (Shown seed machines) files input outcome (course, is, comes) = λ other same.
       printed_alike (IsPlayed work) course other (show_printed work seed machines course is)
-      (show_printed work seed machines other same)
-  played_alike (Renewed schedule target) course other is same = same_alike (IsPlayed work) course other
-      (renewed_same schedule target course other is same) (renew_calm schedule target course is)
-  played_alike (Parted play program prefix) course other is same = absurd is
-  played_alike (Served part rows) course other is same = absurd is
+      (show_printed work seed machines other same) files input outcome comes
+  played_must (Renewed schedule target) files input outcome (course, is, comes) = λ other same.
+      same_alike (IsPlayed work) course other
+      (renewed_same schedule target course other is same) (renew_calm schedule target course is) files input outcome comes
+  played_must (Parted play program prefix) files input outcome (course, is, comes) = λ other same.
+      same_alike (IsPlayed work) course other (parted_same prefix program play course other is same)
+      (parted_calm prefix program play course is) files input outcome comes
+  played_must (Served part rows) files input outcome each = λ course is.
+      course_must (IsPlayed work) files input outcome course files input (each course is)
 
   played_spares : (task : Task) (course : Course) → IsPlayed work task course → (name : List ℕ) →
       IsNoneOf name (names_of task) → Spares (IsPlayed work) name (follows course)
@@ -138,8 +148,10 @@ module _ (work : Work) where
       printed_spares (IsPlayed work) name course (show_printed work seed machines course is)
   played_spares (Renewed schedule target) course is = λ name none.
       renew_spares (IsPlayed work) schedule target name none.0 course is
-  played_spares (Parted play program prefix) course is = absurd is
-  played_spares (Served part rows) course is = absurd is
+  played_spares (Parted play program prefix) course is = λ name none.
+      parted_spares prefix program play course is (IsPlayed work) name none
+  played_spares (Served part rows) course is = λ name none.
+      serving_spares work part rows (IsPlayed work) name none.0 course is
 
   played_quiet : (task : Task) (course : Course) → IsPlayed work task course → names_of task ≡ [] →
       IsQuiet (IsPlayed work) (follows course)
@@ -152,31 +164,40 @@ module _ (work : Work) where
   played_quiet (Shown seed machines) course is = λ none.
       printed_quiet (IsPlayed work) course (show_printed work seed machines course is)
   played_quiet (Renewed schedule target) course is = λ none. absurd (no_names target none)
-  played_quiet (Parted play program prefix) course is = absurd is
-  played_quiet (Served part rows) course is = absurd is
+  played_quiet (Parted play program prefix) course is = λ none. parted_quiet prefix program play course is (IsPlayed work) none
+  played_quiet (Served part rows) course is = λ none. absurd (no_names rows none)
 
   pub played_are : AreCourses (IsPlayed work)
-  played_are = record { alike = played_alike; spares = played_spares; quiet = played_quiet }
+  played_are = record { must = played_must; spares = played_spares; quiet = played_quiet }
 
 -- and those that the source tells
-told_alike : (task : Task) (course other : Course) → IsSourceRun task course → IsSourceRun task other →
-    (files : List File) (input : Option (List ℕ)) (outcome : Option note.Fault) →
-    Comes IsSourceRun (follows course) files input outcome → Must IsSourceRun (follows other) files input outcome
-told_alike (Plain play) course other is same = printed_alike IsSourceRun course other (source_printed play course is) (source_printed play other same)
-told_alike (Imaged play origin image) course other is same = stores_alike image IsSourceRun course other is.stored same.stored
-told_alike (Resumed play origin even odd) course other is same = printed_alike IsSourceRun course other is.printed same.printed
-told_alike (Drawn play seed schedule) course other is same = same_alike IsSourceRun course other
+told_must : (task : Task) (files : List File) (input : Option (List ℕ)) (outcome : Option note.Fault) →
+    Comes IsSourceRun (Runs task follows) files input outcome → Must IsSourceRun (Runs task follows) files input outcome
+told_must (Plain play) files input outcome (course, is, comes) = λ other same.
+    printed_alike IsSourceRun course other (source_printed play course is) (source_printed play other same) files input outcome comes
+told_must (Imaged play origin image) files input outcome (course, is, comes) = λ other same.
+    stores_alike image IsSourceRun course other is.stored same.stored files input outcome comes
+told_must (Resumed play origin even odd) files input outcome (course, is, comes) = λ other same.
+    printed_alike IsSourceRun course other is.printed same.printed files input outcome comes
+told_must (Drawn play seed schedule) files input outcome (course, is, comes) = λ other same.
+    same_alike IsSourceRun course other
     (record_same play seed schedule course other is same) (record_calm play seed schedule course is)
-told_alike (DrawnLossy play seed schedule) course other is same = absurd is
-told_alike (Followed play schedule) course other is same = same_alike IsSourceRun course other
-    (replay_same play schedule course other is same) (replay_calm play schedule course is)
-told_alike (Shown seed machines) course other is same =
+    files input outcome comes
+told_must (DrawnLossy play seed schedule) files input outcome (course, is, comes) = absurd is
+told_must (Followed play schedule) files input outcome (course, is, comes) = λ other same.
+    same_alike IsSourceRun course other
+    (replay_same play schedule course other is same) (replay_calm play schedule course is) files input outcome comes
+told_must (Shown seed machines) files input outcome (course, is, comes) = λ other same.
     printed_alike IsSourceRun course other (source_show_printed seed machines course is)
-    (source_show_printed seed machines other same)
-told_alike (Renewed schedule target) course other is same = same_alike IsSourceRun course other
-    (renewed_same schedule target course other is same) (renew_calm schedule target course is)
-told_alike (Parted play program prefix) course other is same = absurd is
-told_alike (Served part rows) course other is same = absurd is
+    (source_show_printed seed machines other same) files input outcome comes
+told_must (Renewed schedule target) files input outcome (course, is, comes) = λ other same.
+    same_alike IsSourceRun course other
+    (renewed_same schedule target course other is same) (renew_calm schedule target course is) files input outcome comes
+told_must (Parted play program prefix) files input outcome (course, is, comes) = λ other same.
+    same_alike IsSourceRun course other (parted_same prefix program play course other is same)
+    (parted_calm prefix program play course is) files input outcome comes
+told_must (Served part rows) files input outcome each = λ course is.
+    course_must IsSourceRun files input outcome course files input (each course is)
 
 told_spares : (task : Task) (course : Course) → IsSourceRun task course → (name : List ℕ) →
     IsNoneOf name (names_of task) → Spares IsSourceRun name (follows course)
@@ -192,8 +213,10 @@ told_spares (Shown seed machines) course is = λ name none.
     printed_spares IsSourceRun name course (source_show_printed seed machines course is)
 told_spares (Renewed schedule target) course is = λ name none.
     renew_spares IsSourceRun schedule target name none.0 course is
-told_spares (Parted play program prefix) course is = absurd is
-told_spares (Served part rows) course is = absurd is
+told_spares (Parted play program prefix) course is = λ name none.
+    parted_spares prefix program play course is IsSourceRun name none
+told_spares (Served part rows) course is = λ name none.
+    serving_spares core_work part rows IsSourceRun name none.0 course is
 
 told_quiet : (task : Task) (course : Course) → IsSourceRun task course → names_of task ≡ [] →
     IsQuiet IsSourceRun (follows course)
@@ -207,8 +230,8 @@ told_quiet (Followed play schedule) course is = λ none.
 told_quiet (Shown seed machines) course is = λ none.
     printed_quiet IsSourceRun course (source_show_printed seed machines course is)
 told_quiet (Renewed schedule target) course is = λ none. absurd (no_names target none)
-told_quiet (Parted play program prefix) course is = absurd is
-told_quiet (Served part rows) course is = absurd is
+told_quiet (Parted play program prefix) course is = λ none. parted_quiet prefix program play course is IsSourceRun none
+told_quiet (Served part rows) course is = λ none. absurd (no_names rows none)
 
 pub told_are : AreCourses IsSourceRun
-told_are = record { alike = told_alike; spares = told_spares; quiet = told_quiet }
+told_are = record { must = told_must; spares = told_spares; quiet = told_quiet }

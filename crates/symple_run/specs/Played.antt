@@ -1,5 +1,7 @@
 -- How each task may go, by machines of a kind.
 use Rattle.command_steps.specs.Orders.{Course, Drawn, DrawnLossy, Followed, Imaged, Parted, Plain, Renewed, Resumed, Served, Shown, Task}
+use Rattle.part_runs.specs.Parting.{IsParted}
+use Rattle.part_runs.specs.Serving.{IsServing}
 use Rattle.symple_face.specs.Work.{Work}
 use Rattle.symple_run.specs.Followed.{IsFollowed, IsRenewed}
 use Rattle.symple_run.specs.Recorded.{IsDrawnPlay}
@@ -18,5 +20,5 @@ IsPlayed work (DrawnLossy play seed schedule) course = ⊥
 IsPlayed work (Followed play schedule) course = IsFollowed work play schedule course
 IsPlayed work (Shown seed machines) course = IsShow work seed machines course
 IsPlayed work (Renewed schedule target) course = IsRenewed schedule target course
-IsPlayed work (Parted play program prefix) course = ⊥
-IsPlayed work (Served part rows) course = ⊥
+IsPlayed work (Parted play program prefix) course = IsParted play program prefix course
+IsPlayed work (Served part rows) course = IsServing work part rows course

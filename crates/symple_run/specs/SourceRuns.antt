@@ -2,9 +2,12 @@
 use Rattle.std.specs.Prelude.{◌≡◌, ℕ, false, List, Option, None, Some}
 use Rattle.instrument.specs.declared.split.Split.{Split}
 use Rattle.schedule_laws.specs.OutputText.{output_text}
+use Rattle.symple_face.specs.CoreWork.{core_work}
 use Rattle.symple_face.specs.Work.{PlainStart}
 use Rattle.command_steps.specs.Courses.{course_text}
 use Rattle.command_steps.specs.Orders.{Course, Drawn, DrawnLossy, Fails, Followed, Imaged, IsOver, Keeps, Origin, Parted, Plain, Play, Prints, Renewed, Resumed, Served, Shown, Takes, Task}
+use Rattle.part_runs.specs.Parting.{IsParted}
+use Rattle.part_runs.specs.Serving.{IsServing}
 use Rattle.symple_run.specs.Followed.{IsRenewed}
 use Rattle.symple_run.specs.SourceSchedules.{IsSourceRecord, IsSourceReplay}
 use Rattle.symple_run.specs.Shows.{IsSourceShow}
@@ -79,5 +82,5 @@ IsSourceRun (DrawnLossy play seed schedule) course = ⊥
 IsSourceRun (Followed play schedule) course = IsSourceReplay play schedule course
 IsSourceRun (Shown seed machines) course = IsSourceShow seed machines course
 IsSourceRun (Renewed schedule target) course = IsRenewed schedule target course
-IsSourceRun (Parted play program prefix) course = ⊥
-IsSourceRun (Served part rows) course = ⊥
+IsSourceRun (Parted play program prefix) course = IsParted play program prefix course
+IsSourceRun (Served part rows) course = IsServing core_work part rows course

@@ -32,7 +32,11 @@ fn main(rt: HostRuntime) -> ExitCode {
     let alloc = rt.alloc();
     let mut notes = OutSink::new(rt.stderr());
     let words = words_of(&rt, alloc);
-    let writer = BufWriter::with_capacity(alloc, BUFFER, rt.stdout());
+    let most = match &words {
+        Ok(words) => held_back(words),
+        Err(_) => 0,
+    };
+    let writer = BufWriter::with_capacity(alloc, most, rt.stdout());
     let (Ok(words), Ok(writer)) = (words, writer) else {
         let _ = write_note(&Failure::Memory, &mut notes);
         return ExitCode::from(Status::Memory.number());
@@ -44,4 +48,12 @@ fn main(rt: HostRuntime) -> ExitCode {
         alloc, &words, &mut shelf, &mut input, &mut out, &mut notes,
     );
     ExitCode::from(status.number())
+}
+
+/// The most bytes that a command holds back: of a worker none, for others wait for its messages.
+fn held_back(words: &[String]) -> usize {
+    match words.first() {
+        Some(word) if word.as_str() == "worker" => 0,
+        _ => BUFFER,
+    }
 }

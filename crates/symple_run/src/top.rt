@@ -1,10 +1,11 @@
-ghost use Rattle.std.specs.Prelude.{◌≡◌, ◌≤◌, [], None, option_map};
+ghost use Rattle.std.specs.Prelude.{◌≡◌, ◌≤◌, [], None, false, option_map};
 ghost use Rattle.std.specs.String.{string_bytes};
-ghost use Rattle.command_steps.specs.Commands.{asked, image_order, names_stored, order_of, play_of, resume_order, run_order};
+ghost use Rattle.command_steps.specs.Commands.{asked, image_order, is_worker, names_stored, order_of, play_of, resume_order, run_order, takes_input};
+ghost use Rattle.command_steps.specs.Leaves.{Leaves};
 ghost use Rattle.command_steps.specs.Orders.{Plain};
 ghost use Rattle.command_steps.specs.Quiet.{KeepsOthers};
 ghost use Rattle.command_steps.specs.States.{input_state, outside, shelf_state, sink_state};
-ghost use Rattle.command_steps.specs.Walks.{Performs};
+ghost use Rattle.command_steps.specs.Walks.{Performs, fault_after};
 ghost use Rattle.edge_reader.specs.Gives.{graph_of_edges};
 ghost use Rattle.symple_run.specs.Continued.{EveryStopGoesOn};
 ghost use Rattle.symple_run.specs.Headline.{Answers, IsComplete, TellsFreedom};
@@ -16,6 +17,7 @@ ghost use Rattle.symple_run.specs.SourceRuns.{IsSourceRun};
 ghost use Rattle.symple_words.specs.Lines.{RecordOf, RunOf};
 ghost use Rattle.symple_words.specs.Ranges.{AreMachines, IsGraphForm, IsWithin};
 ghost use Rattle.symple_words.specs.Views.{job_view, line_view, words_of};
+ghost use Rattle.worker_stream.specs.Prompt.{PlainRunsArePrompt, PromptRunsAreServed};
 
 use crate::following::replay;
 use crate::images::{load_keyed, play_imaged};
@@ -33,11 +35,13 @@ use instrument::split_of;
 use machine_runs::{play_out, put_table, started};
 use order_free::order_free_programs;
 use outside::{Shelf, Sink, Source};
+use part_runs::{split, work};
 use std::alloc::Global;
 use symple_face::{Restart, Site};
 use symple_words::{Job, Line, read_words};
 use vert_tree::Typed;
 use word_kinds::literals_are_words;
+use worker_stream::prompt_runs_are_served;
 
 /// Runs the program on the graph and puts what is asked of the run.
 fn run<S: Site, H: Shelf, O: Sink>(
@@ -173,16 +177,22 @@ fn record_line<S: Site, H: Shelf, O: Sink>(
     record::<S, H, O>(alloc, job, schedule, machines, seed, shelf, out)
 }
 
-/// Performs a line. One that is not built yet is refused as if it weren't there.
-fn perform<S: Restart, H: Shelf, O: Sink>(
+/// Performs a line. A worker alone takes from the input.
+fn perform<S: Restart, H: Shelf, I: Source, O: Sink>(
     alloc: Global,
     line: &Line,
     shelf: &mut H,
+    input: &mut I,
     out: &mut O,
 ) -> Result<(), Failure>
     requires { IsWithin (line_view line.now) }
-    ensures order { Performs H.files H.loads H.stores O.held O.faults O.spare
-        (IsPlayed S.work) (asked (line_view line.now)) shelf.old shelf.new out.old out.new result }
+    ensures order { Leaves (IsPlayed S.work) (asked (line_view line.now))
+        (outside (shelf_state H.files H.loads H.stores shelf.old)
+        (sink_state O.held O.faults O.spare out.old) (input_state I.left I.faults input.old))
+        (outside (shelf_state H.files H.loads H.stores shelf.new)
+        (sink_state O.held O.faults O.spare out.new) (input_state I.left I.faults input.new))
+        (fault_after result) }
+    ensures input { is_worker (line_view line.now) ≡ false → input.new ≡ input.old }
     ensures later { H.loads shelf.old ≤ H.loads shelf.new }
 {
     match line {
@@ -213,29 +223,47 @@ fn perform<S: Restart, H: Shelf, O: Sink>(
             image,
             machines,
         } => resume::<S, H, O>(alloc, job, image, *machines, shelf, out),
-        _ => Err(Failure::Command),
+        Line::SplitLine {
+            program,
+            graph,
+            prefix,
+            form,
+            machines,
+            draws,
+        } => split(
+            alloc, program, graph, prefix, form, *machines, *draws, shelf,
+        ),
+        Line::WorkerLine { part, rows } => {
+            work::<S, H, I, O>(alloc, part, rows, shelf, input, out)
+        }
     }
 }
 
 /// Reads the words as a line and performs it.
-fn obey<S: Restart, H: Shelf, O: Sink>(
+fn obey<S: Restart, H: Shelf, I: Source, O: Sink>(
     alloc: Global,
     words: &[String],
     shelf: &mut H,
+    input: &mut I,
     out: &mut O,
 ) -> Result<(), Failure>
-    ensures order { Performs H.files H.loads H.stores O.held O.faults O.spare
-        (IsPlayed S.work) (order_of (words_of words.now)) shelf.old shelf.new out.old out.new result }
+    ensures order { Leaves (IsPlayed S.work) (order_of (words_of words.now))
+        (outside (shelf_state H.files H.loads H.stores shelf.old)
+        (sink_state O.held O.faults O.spare out.old) (input_state I.left I.faults input.old))
+        (outside (shelf_state H.files H.loads H.stores shelf.new)
+        (sink_state O.held O.faults O.spare out.new) (input_state I.left I.faults input.new))
+        (fault_after result) }
+    ensures input { takes_input (words_of words.now) ≡ false → input.new ≡ input.old }
     ensures later { H.loads shelf.old ≤ H.loads shelf.new }
 {
     let line = read_words(alloc, words)?;
-    perform::<S, H, O>(alloc, &line, shelf, out)
+    perform::<S, H, I, O>(alloc, &line, shelf, input, out)
 }
 
 /// Performs the line that the words are, over a shelf of files, an input, and sinks for what it prints
 /// and for the note that it leaves where it doesn't end well.
 ///
-/// The words are those behind the program's own name. Nothing is taken from the input.
+/// The words are those behind the program's own name. A worker alone takes from the input.
 pub fn symple<S: Restart, H: Shelf, I: Source, O: Sink, N: Sink>(
     alloc: Global,
     words: &[String],
@@ -304,12 +332,17 @@ pub fn symple<S: Restart, H: Shelf, I: Source, O: Sink, N: Sink>(
     // And what goes on from them puts the rest of what the whole run puts.
     ensures stopped { EveryStopGoesOn }
 
-    // A file stays but under a name that the words let it store under, and the input is left alone.
+    // A machine that is served what it took in a complete run does what it did there, where it acted before it took; as
+    // each machine did in the plain run.
+    ensures alone { PromptRunsAreServed S.work }
+    ensures prompt { PlainRunsArePrompt S.work }
+
+    // A file stays but under a name that the words let it store under, and the input but for a worker.
     ensures others { KeepsOthers (names_stored (words_of words.now)) (H.files shelf.old)
         (H.files shelf.new) }
     ensures quiet { names_stored (words_of words.now) ≡ []
         → (H.files shelf.new ≡ H.files shelf.old) × (H.stores shelf.new ≡ H.stores shelf.old) }
-    ensures input { input.new ≡ input.old }
+    ensures input { takes_input (words_of words.now) ≡ false → input.new ≡ input.old }
     ensures loads { H.loads shelf.old ≤ H.loads shelf.new }
 {
     order_free_programs();
@@ -317,8 +350,9 @@ pub fn symple<S: Restart, H: Shelf, I: Source, O: Sink, N: Sink>(
     stopped_runs_go_on();
     chosen_runs_are_complete::<S>();
     worlds_are_in_order::<S>();
+    prompt_runs_are_served::<S>();
     choices_are_in_order::<S>();
-    match obey::<S, H, O>(alloc, words, shelf, out) {
+    match obey::<S, H, I, O>(alloc, words, shelf, input, out) {
         Ok(()) => Status::Done,
         Err(failure) => {
             let _ = write_note(&failure, notes);

@@ -1,7 +1,6 @@
 use Rattle.std.proofs.Common.{None, Some, refl}
 use Rattle.command_steps.specs.Faults.{fault_of}
 use Rattle.command_steps.specs.Notes.{note_text}
-use Rattle.command_steps.specs.States.{input_state}
 use Rattle.symple_run.proofs.ImagedRuns.{imaged_stores}
 use Rattle.symple_run.proofs.LeftImages.{tells_images}
 use Rattle.command_steps.proofs.LeavesLaws.{weaker}
@@ -18,7 +17,7 @@ use Rattle.symple_run.proofs.top.symple.Goals as goal
 pub returns-in-Ok-clause-answer : goal.returns-in-Ok-clause-answer
 returns-in-Ok-clause-answer g c = record {
   outcome = None;
-  leaves = c.in-Ok.ensures.order (input_state g.I.Source.left g.I.Source.faults c.args.input.now);
+  leaves = c.in-Ok.ensures.order;
   status_is = refl;
   noted = refl;
 }
@@ -33,7 +32,7 @@ returns-in-Ok-clause-core g c = λ core. record {
         reach = c.worlds_are_in_order.ensures.reach;
         goes = c.choices_are_in_order.ensures.unfinished;
       }) g.met.S.Restart.restart_lawful c.images_read_back.ensures.ready) _ _ _ _
-      (c.in-Ok.ensures.order (input_state g.I.Source.left g.I.Source.faults c.args.input.now));
+      c.in-Ok.ensures.order;
   status_is = refl;
   noted = refl;
 }
@@ -41,7 +40,7 @@ returns-in-Ok-clause-core g c = λ core. record {
 pub returns-in-Ok-clause-complete : goal.returns-in-Ok-clause-complete
 returns-in-Ok-clause-complete g c =
     completes (IsPlayed g.S.Site.work) (played_are g.S.Site.work) (words_of c.args.words.now) _ _ None _
-    (c.in-Ok.ensures.order (input_state g.I.Source.left g.I.Source.faults c.args.input.now)) refl
+    c.in-Ok.ensures.order refl
 
 pub returns-in-Ok-clause-whole : goal.returns-in-Ok-clause-whole
 returns-in-Ok-clause-whole g c = λ core.
@@ -53,27 +52,27 @@ returns-in-Ok-clause-whole g c = λ core.
       reach = c.worlds_are_in_order.ensures.reach;
       goes = c.choices_are_in_order.ensures.unfinished;
     }) g.met.S.Restart.restart_lawful c.images_read_back.ensures.ready) _ _ _ _
-    (c.in-Ok.ensures.order (input_state g.I.Source.left g.I.Source.faults c.args.input.now))) refl
+    c.in-Ok.ensures.order) refl
 
 pub returns-in-Ok-clause-others : goal.returns-in-Ok-clause-others
 returns-in-Ok-clause-others g c =
     others_stay (IsPlayed g.S.Site.work) (played_are g.S.Site.work) (words_of c.args.words.now) _ _ None
-    (c.in-Ok.ensures.order (input_state g.I.Source.left g.I.Source.faults c.args.input.now))
+    c.in-Ok.ensures.order
 
 pub returns-in-Ok-clause-quiet : goal.returns-in-Ok-clause-quiet
 returns-in-Ok-clause-quiet g c =
     nothing_stored (IsPlayed g.S.Site.work) (played_are g.S.Site.work) (words_of c.args.words.now) _ _ None
-    (c.in-Ok.ensures.order (input_state g.I.Source.left g.I.Source.faults c.args.input.now))
+    c.in-Ok.ensures.order
 
 pub returns-in-Ok-clause-free : goal.returns-in-Ok-clause-free
 returns-in-Ok-clause-free g c =
     free_answer (IsPlayed g.S.Site.work) (words_of c.args.words.now) _ _ None _
-    (c.in-Ok.ensures.order (input_state g.I.Source.left g.I.Source.faults c.args.input.now)) refl (alike_by c.order_free_programs.ensures.runs)
+    c.in-Ok.ensures.order refl (alike_by c.order_free_programs.ensures.runs)
 
 pub returns-in-Err-clause-answer : goal.returns-in-Err-clause-answer
 returns-in-Err-clause-answer g c = record {
   outcome = Some (fault_of c.in-Err.failure);
-  leaves = c.in-Err.ensures.order (input_state g.I.Source.left g.I.Source.faults c.args.input.now);
+  leaves = c.in-Err.ensures.order;
   status_is = c.status.ensures;
   noted = noted_by (note_text (fault_of c.in-Err.failure)) c.write_note.result c.write_note.ensures;
 }
@@ -88,7 +87,7 @@ returns-in-Err-clause-core g c = λ core. record {
         reach = c.worlds_are_in_order.ensures.reach;
         goes = c.choices_are_in_order.ensures.unfinished;
       }) g.met.S.Restart.restart_lawful c.images_read_back.ensures.ready) _ _ _ _
-      (c.in-Err.ensures.order (input_state g.I.Source.left g.I.Source.faults c.args.input.now));
+      c.in-Err.ensures.order;
   status_is = c.status.ensures;
   noted = noted_by (note_text (fault_of c.in-Err.failure)) c.write_note.result c.write_note.ensures;
 }
@@ -96,7 +95,7 @@ returns-in-Err-clause-core g c = λ core. record {
 pub returns-in-Err-clause-complete : goal.returns-in-Err-clause-complete
 returns-in-Err-clause-complete g c =
     completes (IsPlayed g.S.Site.work) (played_are g.S.Site.work) (words_of c.args.words.now) _ _ (Some (fault_of c.in-Err.failure)) _
-    (c.in-Err.ensures.order (input_state g.I.Source.left g.I.Source.faults c.args.input.now)) c.status.ensures
+    c.in-Err.ensures.order c.status.ensures
 
 pub returns-in-Err-clause-whole : goal.returns-in-Err-clause-whole
 returns-in-Err-clause-whole g c = λ core.
@@ -108,17 +107,17 @@ returns-in-Err-clause-whole g c = λ core.
       reach = c.worlds_are_in_order.ensures.reach;
       goes = c.choices_are_in_order.ensures.unfinished;
     }) g.met.S.Restart.restart_lawful c.images_read_back.ensures.ready) _ _ _ _
-    (c.in-Err.ensures.order (input_state g.I.Source.left g.I.Source.faults c.args.input.now))) c.status.ensures
+    c.in-Err.ensures.order) c.status.ensures
 
 pub returns-in-Err-clause-others : goal.returns-in-Err-clause-others
 returns-in-Err-clause-others g c =
     others_stay (IsPlayed g.S.Site.work) (played_are g.S.Site.work) (words_of c.args.words.now) _ _ (Some (fault_of c.in-Err.failure))
-    (c.in-Err.ensures.order (input_state g.I.Source.left g.I.Source.faults c.args.input.now))
+    c.in-Err.ensures.order
 
 pub returns-in-Err-clause-quiet : goal.returns-in-Err-clause-quiet
 returns-in-Err-clause-quiet g c =
     nothing_stored (IsPlayed g.S.Site.work) (played_are g.S.Site.work) (words_of c.args.words.now) _ _ (Some (fault_of c.in-Err.failure))
-    (c.in-Err.ensures.order (input_state g.I.Source.left g.I.Source.faults c.args.input.now))
+    c.in-Err.ensures.order
 
 pub returns-in-Ok-clause-replays : goal.returns-in-Ok-clause-replays
 returns-in-Ok-clause-replays g c = replays_gain_the_same g.S.Site.work g.S.Site.sound (record {
@@ -139,13 +138,13 @@ returns-in-Err-clause-replays g c = replays_gain_the_same g.S.Site.work g.S.Site
 pub returns-in-Ok-clause-images : goal.returns-in-Ok-clause-images
 returns-in-Ok-clause-images g c =
     tells_images (IsPlayed g.S.Site.work) (imaged_stores g.S.Site.work) (words_of c.args.words.now) _ _ None _
-    (c.in-Ok.ensures.order (input_state g.I.Source.left g.I.Source.faults c.args.input.now)) refl
+    c.in-Ok.ensures.order refl
 
 pub returns-in-Err-clause-images : goal.returns-in-Err-clause-images
 returns-in-Err-clause-images g c =
     tells_images (IsPlayed g.S.Site.work) (imaged_stores g.S.Site.work) (words_of c.args.words.now) _ _
     (Some (fault_of c.in-Err.failure)) _
-    (c.in-Err.ensures.order (input_state g.I.Source.left g.I.Source.faults c.args.input.now)) c.status.ensures
+    c.in-Err.ensures.order c.status.ensures
 
 pub returns-in-Ok-clause-kept : goal.returns-in-Ok-clause-kept
 returns-in-Ok-clause-kept g c = λ core.
@@ -158,7 +157,7 @@ returns-in-Ok-clause-kept g c = λ core.
       goes = c.choices_are_in_order.ensures.unfinished;
     })
     g.met.S.Restart.restart_lawful c.images_read_back.ensures.ready) _ _ _ _
-    (c.in-Ok.ensures.order (input_state g.I.Source.left g.I.Source.faults c.args.input.now))) refl
+    c.in-Ok.ensures.order) refl
 
 pub returns-in-Err-clause-kept : goal.returns-in-Err-clause-kept
 returns-in-Err-clause-kept g c = λ core.
@@ -172,4 +171,4 @@ returns-in-Err-clause-kept g c = λ core.
       goes = c.choices_are_in_order.ensures.unfinished;
     })
     g.met.S.Restart.restart_lawful c.images_read_back.ensures.ready) _ _ _ _
-    (c.in-Err.ensures.order (input_state g.I.Source.left g.I.Source.faults c.args.input.now))) c.status.ensures
+    c.in-Err.ensures.order) c.status.ensures
