@@ -1,0 +1,3 @@
+pub mod LinkedEvents
+pub mod LinkedPlays
+pub mod LinkTellings
