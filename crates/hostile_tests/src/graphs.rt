@@ -21,7 +21,8 @@ static PAIRS: [u8; 32] = [
 fn fits(read: &Result<Edges, EdgeFault>, len: usize) -> bool {
     match read {
         Ok(edges) => edges.list.len() <= len,
-        Err(EdgeFault::Line { code, line }) => (1..=5).contains(code) && *line as usize <= len + 1,
+        Err(EdgeFault::Line { code, line }) => (1..=5).contains(code)
+            && *line as usize <= len.saturating_add(1),
         Err(EdgeFault::Byte { code, at }) => (4..=6).contains(code) && *at <= len as u64,
         Err(EdgeFault::Want) => false,
     }

@@ -42,6 +42,8 @@ total t: sum = 1;
 /// How many lines `BORDERS` has.
 const BORDER_COUNT: usize = 29;
 
+static BITS: [u8; 8] = [1, 2, 4, 8, 16, 32, 64, 128];
+
 /// Changes texts, each change by the next words of a generator.
 #[derive(Drop)]
 pub(crate) struct Mutator {
@@ -69,6 +71,12 @@ impl Mutator {
         (begun, ended.min(len))
     }
 
+    /// A byte with one bit.
+    fn bit(&mut self) -> u8 {
+        let place = self.below(8);
+        BITS.get(place).copied().unwrap_or(1)
+    }
+
     /// A number of four bytes at the border of what is read, or any.
     fn number(&mut self) -> [u8; 4] {
         let number = match self.below(8) {
@@ -78,7 +86,7 @@ impl Mutator {
             3 => 2_097_152,
             4 => 8_388_609,
             5 => u32::MAX,
-            6 => 1 << self.below(32),
+            6 => 2_147_483_648,
             _ => self.generator.next_word(),
         };
         number.to_le_bytes()
@@ -121,7 +129,7 @@ impl Mutator {
                 )
             }
             _ => {
-                let byte = text.get(begun).copied().unwrap_or(0) ^ (1 << self.below(8));
+                let byte = text.get(begun).copied().unwrap_or(0) ^ self.bit();
                 joined(alloc, text, begun, &[byte], begun.saturating_add(1))
             }
         }
