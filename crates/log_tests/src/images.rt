@@ -128,25 +128,3 @@ fn torn_and_other(rt: HostRuntime) -> Result<(), Fail> {
     );
     Ok(())
 }
-
-/// An image with any one byte changed is torn.
-#[test]
-fn each_byte_counts(rt: HostRuntime) -> Result<(), Fail> {
-    let alloc = rt.alloc();
-    let key = key_with(None);
-    let whole = image(alloc, &key, &start(alloc)?)?;
-    for at in 0..whole.as_slice().len() {
-        let mut bytes = Vec::from_slice(alloc, whole.as_slice())?;
-        if let Some(byte) = bytes.get_mut(at) {
-            *byte ^= 1;
-        }
-        let found = told(alloc, bytes.as_slice(), &key, 4)?;
-        assert_eq!(rt; found, Some(ImageFault::Torn), "byte {at}");
-        assert_eq!(rt;
-            told(alloc, whole.as_slice().get(..at).ok_or("no cut")?, &key, 4)?,
-            Some(ImageFault::Torn),
-            "{at} bytes"
-        );
-    }
-    Ok(())
-}
