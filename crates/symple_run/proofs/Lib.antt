@@ -1,13 +1,29 @@
 -- What `symple` prints, stores, takes and answers is what the order of its words says.
 --
--- The claim (HeadLaws, over the laws of orders in `command_steps`): of each status, each text and each file, by one
--- definition a command, and where files are told and room is ample a command comes out (`completes`).
+-- The claim is the contract of `symple`: of each status, each text and each file, by one definition
+-- a command. Each of its tasks takes a course, and there are two sets of courses: those of machines
+-- of any kind (`IsPlayed`) and those that the source's run tells (`IsSourceRun`). For cores each
+-- course of the first is one of the second (`core_runs`, in CoreRuns), so all that is said of the
+-- first carries over. Where files are told and no count of faults rises, a command comes out
+-- (`completes`, in HeadLaws, over the laws of orders in command_steps). What a recorded run kept is
+-- replayed to the same bytes (`replays_gain_the_same`, in ReplayLaws), a run leaves images as its
+-- course says (`tells_images`, in LeftImages), and a run that was stopped goes on with the rest of
+-- the whole (`every_stop_goes_on`, in ContinuedLaws).
 --
--- The chain. What a run of machines leaves, event by event, are laws of `machine_runs`. The rounds that the
--- demonstration counts, and its lines, are ShowLaws. What is known of the courses of each task is
--- TaskLaws (of recorded and followed runs CourseShapes and TextTasks), and that for cores they are the source's
--- CoreRuns. What recording and following leave is RecordLaws and FollowLaws. What runs leave
--- that store images, and how they go on, is ImagedRuns, ImagesTold, LeftImages and ContinuedLaws.
+-- The invariant of each loop over events: with what was put and kept so far, what the events from
+-- here on leave of the outside is what all of them leave from the first state on (`RecordsTo`, in
+-- specs/RecordWalks, and its like for runs that follow a text or are counted). The laws of a run
+-- that puts, event by event, are those of machine_runs; RecordLaws, FollowLaws, ImageLaws and
+-- ResumeLaws have those of a recording, a followed text, a run that stores images and one that goes
+-- on from an image, RenewLaws that of a text kept anew.
+--
+-- The chain. What is known of the courses of each task, by whomever they are told: TaskLaws
+-- (`played_are`, `told_are`), over CourseShapes, PartTasks, SourceTasks, and TextTasks, by which a
+-- text settles its machines and events. ShowLaws: the rounds that the demonstration counts, and its
+-- lines. RowsTold: the rows of all vertices, gathered. Images: what machines tell of such runs
+-- (ImagedRuns), that cores tell the source's images (`images_told`, in ImagesTold), how far a run
+-- comes that was cut off (`came_to`, in InterruptedLaws). HeadLaws takes the status, the note and
+-- the answer of `free` from what the order leaves; ResultLaws hands facts of results on.
 pub mod ContinuedLaws
 pub mod CoreRuns
 pub mod CourseShapes
