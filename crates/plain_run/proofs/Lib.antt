@@ -15,13 +15,13 @@
 -- names (EnvLaws, `dense_parts` and `sparse_parts` in BlockLaws).
 --
 -- The chain. The neighbours of a vertex come as two pieces of one slice of the table, since the
--- list turns at its chunk: GraphLaws counts the lists of a vertex, PieceLaws joins two loops to one
--- (`loop_going`, `going_reads`). SlotLaws and KeptLaws: values of partials, and reads that are kept
--- or not. BlockLaws puts test, lets, loop and tail together (`block_partials`, `block_reads`).
--- ActiveLaws: the edges from active vertices, which are some of all edges. StartLaws: first rows
--- and totals (`first_row_is`, `total_step`), and that what stands after a round has a row for each
--- vertex and all totals (`stands`). RoundsLaws ends the loop over rounds (`left_more`,
--- `rows_ended`, `rounds_ended`).
+-- list turns where its chunk ends: GraphLaws counts the lists of a vertex, PieceLaws joins two
+-- loops to one (`loop_going`, `going_reads`). SlotLaws and KeptLaws: values of partials, and reads
+-- that are kept or not. BlockLaws puts test, lets, loop and tail together (`block_partials`,
+-- `block_reads`). ActiveLaws: the edges from active vertices, which are some of all edges.
+-- StartLaws: first rows and totals (`first_row_is`, `total_step`), and that what stands after a
+-- round has a row for each vertex and all totals (`stands`). RoundsLaws ends the loop over rounds
+-- (`left_more`, `rows_ended`, `rounds_ended`).
 --
 -- Tables. Graphs are alike where each vertex has the same members and degrees (`AreAlike`), and
 -- then their runs are one (`source_same`, in AlikeLaws); a table is like its edges (TableRunLaws).

@@ -1,13 +1,13 @@
 -- A run by cores prints what the source's run says, whatever its schedule.
 --
 -- First what one event of one machine leaves, from the laws of each. Runs: the parts of a graph that can run have a run
--- of the source. Stands: what stands before each of its rounds are words. SourceSees: what the source does in a round is
--- what a machine does that sees its rows, so its sends, loop states and updates are words of their forms. Counts: counts
--- fit their bytes. DenseRounds: the premises of the laws of single events. Onward, Goes: an act by its spot. Took, Takes:
--- a take by the message's kind. FirstStates: the first states.
+-- of the source. Stands: what stands before each of its rounds are words. SourceSees: what the source does in a round
+-- is what a machine does that sees its rows, so its sends, loop states and updates are words of their forms. Counts:
+-- counts fit their bytes. DenseRounds: the premises of the laws of single events. Onward, Goes: an act by its spot.
+-- Took, Takes: a take by the message's kind. FirstStates: the first states.
 --
--- Then worlds. RunLaws: the source's run from a round on, by whether the round takes place; so the text that is still to
--- come. Parts: the machines of a run can run a program whose literals fit.
+-- Then worlds. RunLaws: the source's run from a round on, by whether the round takes place; so the text that is still
+-- to come. Parts: the machines of a run can run a program whose literals fit.
 -- ReadTurns: what the machines of the steps read of a vertex, one after another, is what its loop reads. Shown: so a
 -- world shows the source's rows and reads where its machines hold them.
 -- Follows: a world goes with the source's run where each machine and each message is what the events leave, and the
