@@ -12,7 +12,8 @@
 --
 -- Counts. A round has as many actions and messages as CountLaws says (`rounds_are_counted`); a machine sends few
 -- at a time, and none twice (GiftLists). NameLaws has the names of a whole run, NameLists and Members lists of
--- names, SkeletonRows small runs worked out by hand.
+-- names, SkeletonRows small runs worked out by hand. TableLaws has the k-th element of each list, as the code finds it;
+-- Choices and Rise names under a test, and numbers that rise.
 pub mod ActionLaws
 pub mod Choices
 pub mod CircleLaws

@@ -1,7 +1,8 @@
 -- The parts of a graph, made in one pass, are its parts by definition.
 --
 -- The claim: `parts` answers `parts_of` of the table's graph (GraphLaws), each edge stands in the lists of one machine
--- (EdgeLaws), and the vertices that a machine knows ascend (AscendLaws).
+-- (EdgeLaws), the vertices that a machine knows ascend (AscendLaws), and weights fit as they do in the table
+-- (WeightLaws).
 --
 -- The chain. The edges are dealt out in the table's own order, each to the list of its owner (DealLaws, OwnerLaws,
 -- ShareLaws), and so each list is a filter of that order (PartsMade, `part_made`). What a machine tells from its own

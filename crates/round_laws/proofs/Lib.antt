@@ -20,19 +20,22 @@
 -- after another (`by_machines`), and without a carry each machine begins afresh (`begins_afresh`).
 -- Lets: the lets at the loop's end are own words, carried ones, and own ones combined with the operands of the steps.
 -- DenseRound: a partial with a bucket for each step and one for the tail has what the source combines.
--- Seen: a machine's environments and loops are the source's where it sees the source's rows and degrees.
--- Scans: a scan at a vertex does what the machine of the step does, whatever the key.
+-- Seen: a machine's environments and loops are the source's where it sees the source's rows and degrees. Sights: by
+-- its own rows and those that it was told it sees them wherever a scan looks (`own_scans_seen`, `told_scans_seen`).
+-- Scans: a scan at a vertex does what the machine of the step does, whatever the key. IdealScans: so from an ideal ring
+-- state it hands on, sends and reads what the source's run says (`scans_ideal`).
 -- Partials: what is sent goes to the ends of buckets, and the values of partials by their buckets.
 -- DenseClose: the tail runs in the environment that the loop leaves, so the close makes the source's row.
 -- SparseClose: keys rise along N_t(v), so the buckets in turn are what its members emit.
--- MachineScans: a scan of a half, from the parts, the rows told and the states taken. Tallies, Judging: sums and
--- rulings.
--- FoldTakes, FoldUpdates, FoldVerdicts, FoldTells, FoldScan, FoldJudge, FoldCloses, IdealClose, IdealSparse: one
--- event of
--- one machine. Held, Lowered: what they need of messages held and of bounds above keys. FoldScanReady: what a machine
--- that
--- is ready scans. FoldScanPlaces: the spot behind a scan. FoldScanHalves: halves and owners. FoldScanHeld: dropped
--- bodies.
+-- MachineScans: a scan of a half, from the parts, the rows told and the states taken. Tallies, Judging: sums, rulings.
+--
+-- The fold. The invariant of one machine (`IsIdeal`, in specs/IsIdeal) is all that it holds, told by the source's run,
+-- its spot and the messages taken. Each event of the machine keeps it, and what it sends has the body that the run
+-- says.
+-- FoldTakes, FoldUpdates, FoldVerdicts, FoldTells, FoldScan, FoldJudge, FoldCloses, IdealClose, IdealSparse: one event
+-- of one machine. Held, Lowered: what they need of messages held and of bounds above keys. FoldScanReady: what a
+-- machine that is ready scans. FoldScanPlaces: the spot behind a scan. FoldScanHalves: halves and owners. FoldScanHeld:
+-- dropped bodies.
 -- SentScan, SentTallies, SentBegin: the bodies of what is sent. ReadsTargets, ReadsCounted: a machine reads of its
 -- targets alone, and all machines read what the source's run reads.
 -- FoldPushEdges: edges in turn, each under its key; all members of a key have one source, so their sends come at once.

@@ -25,6 +25,7 @@
 -- (BoundLaws), `choices_are` (ChoiceLaws), `is_least` (LeastLaws): the laws, each a clause by OrderLaws.
 -- Counts: `does` (WeightSteps, over Weights) says that an action adds its spot's weight to what its machine has
 -- done; `gone_tally` (CountKept, over Totals) and `took_tally` (CountTaken) sum up; `counted` (RunCounts) ends it.
+-- Standings has where machines stand, as a list, NamesInOrder names put in order, WorkedRows some runs counted out.
 pub mod BoundLaws
 pub mod ChoiceLaws
 pub mod CountKept
