@@ -11,7 +11,7 @@ use Rattle.symple_face.specs.CoreSight.{program_of, targets}
 use Rattle.symple_face.specs.State.{State}
 use Rattle.work_laws.specs.Sound.{FitsSpot, core_sound}
 use Rattle.work_laws.proofs.Closes.{close_go_fits}
-use Rattle.machine_core.specs.Closing.{Closes}
+use Rattle.vertex_work.specs.Closing.{Closes}
 
 -- a state with what the close leaves is the closed one
 pub closed_state : (s : State) (r : ℕ) (dense : Bool) (own : List Row) (came : List (List Partial))

@@ -1,6 +1,5 @@
 -- A machine that was just made has read nothing.
-use Rattle.std.proofs.Common.{◌≡◌, ◌≤◌, ◌<◌, ℕ, zero, suc, List, [], ◌∷◌, length, map, get_or, refl, sym, ap, subst, ◌∙◌, arith, replicate}
-use Rattle.std.specs.Prelude.{slice_index}
+use Rattle.std.proofs.Common.{◌≡◌, ℕ, zero, suc, List, [], ◌∷◌, length, map, get_or, refl, sym, ap, subst, ◌∙◌, arith, replicate}
 use Rattle.std.proofs.lemmas.List.{length-map, length-replicate}
 use Rattle.vert_base.specs.Neighbours.{target}
 use Rattle.chunk_split.specs.Chunks.{vertices_of}
@@ -9,14 +8,15 @@ use Rattle.machine_parts.specs.Flat.{zip_with}
 use Rattle.machine_parts.specs.Spans.{AreSpans, vertex_of}
 use Rattle.symple_face.specs.CoreSight.{targets_of}
 use Rattle.symple_face.specs.Parts.{PlainPart}
-use Rattle.machine_core.specs.Counts.{AreCounts, first_read, lists_read, members_in}
+use Rattle.machine_steps.specs.Counts.{AreCounts, first_read, lists_read}
 
 zeros_at : (n i : ℕ) → get_or (replicate n zero) i zero ≡ zero
 zeros_at zero i = refl
 zeros_at (suc n) zero = refl
 zeros_at (suc n) (suc i) = zeros_at n i
 
-none_read : (part : PlainPart) (vs : List ℕ) → zip_with (first_read part) vs (replicate (length vs) 0) ≡ map (λ v. []) vs
+none_read : (part : PlainPart) (vs : List ℕ) →
+    zip_with (first_read part) vs (replicate (length vs) 0) ≡ map (λ v. []) vs
 none_read part [] = refl
 none_read part (v ∷ vs) = ap (λ xs. [] ∷ xs) (none_read part vs)
 

@@ -1,7 +1,6 @@
 -- A machine goes on from what the action of its spot leaves.
-use Rattle.std.proofs.Common.{◌≡◌, ◌≢◌, ◌≤◌, ◌<◌, ◌+◌, ◌-◌, ◌==◌, ℕ, zero, suc, Bool, true, false, List, [], ◌∷◌, map, length, refl, ap, sym, subst, ◌∙◌, arith}
+use Rattle.std.proofs.Common.{◌≡◌, ◌≢◌, ◌≤◌, ◌+◌, ◌-◌, ◌==◌, ℕ, Bool, true, false, List, [], refl, ap, sym, subst, ◌∙◌, arith}
 use Rattle.std.specs.Prelude.{if◌then◌else◌, nat_le, nat_lt}
-use Rattle.std.specs.List.{All}
 use Rattle.std.proofs.Math.Logic.{∥∥₁_elim, ∥∥₁_map}
 use Rattle.std.proofs.lemmas.Bool.{and_parts, leb-true}
 use Rattle.std.proofs.lemmas.List.Elements.{All-nil}
@@ -12,8 +11,8 @@ use Rattle.circulant_plan.specs.declared.spot.Ring.{Ring}
 use Rattle.circulant_plan.specs.declared.spot.Spot.{Spot}
 use Rattle.circulant_plan.specs.declared.spot.Spot.TheVariants.{Tell, Judge, Begin, Scan, Close, Over}
 use Rattle.circulant_plan.specs.Skeleton.{Blocks, is_over, may_rule}
-use Rattle.circulant_plan.specs.Standing.{Standing, next_standing, round_of, round_ruled, standing_at}
-use Rattle.circulant_plan.specs.Table.{after_begin, after_judge, next_spot}
+use Rattle.circulant_plan.specs.Standing.{next_standing, round_of, round_ruled}
+use Rattle.circulant_plan.specs.Table.{next_spot}
 use Rattle.double_buffer.specs.Held.{AreOfRound, Held}
 use Rattle.symple_face.specs.declared.action.Action.TheVariants.{Ready}
 use Rattle.circulant_plan.specs.Names.{verdict_name}
@@ -30,8 +29,8 @@ use Rattle.work_laws.specs.Sound.{FitsSpot, core_sound}
 use Rattle.work_laws.proofs.Gone.{go_sound, ready_knows}
 use Rattle.work_laws.proofs.Moves.{acted_held}
 use Rattle.work_laws.proofs.Sparse.{begin_go_fits}
-use Rattle.machine_core.specs.Going.{gone_from, onward, sent_from}
-use Rattle.machine_core.specs.Kept.{IsBuffer}
+use Rattle.machine_steps.specs.Going.{gone_from, onward, sent_from}
+use Rattle.machine_steps.specs.Kept.{IsBuffer}
 use Rattle.machine_core.proofs.SoundLaws.{steady}
 
 -- ---- what is left to do after the action
@@ -66,7 +65,8 @@ module _ (m : ℕ) (held : List Letter) where
   stays : (ring : Ring) (ruling : Ruling) (r : ℕ) (at : Spot) →
       (is_over at ≡ false → AreOfRound (round_of r at) m held) →
       is_over (next_spot ring m at ruling) ≡ false →
-      AreOfRound (round_of (round_ruled r at) (next_spot ring m at ruling)) m (held_at (next_spot ring m at ruling) held)
+      AreOfRound (round_of (round_ruled r at) (next_spot ring m at ruling)) m
+      (held_at (next_spot ring m at ruling) held)
   stays ring ruling r Tell h =
       elim (m == 0) as (λ b. is_over (if b then Judge 0 else Begin 1) ≡ false →
       AreOfRound (round_of r (if b then Judge 0 else Begin 1)) m (held_at (if b then Judge 0 else Begin 1) held))
@@ -79,7 +79,8 @@ module _ (m : ℕ) (held : List Letter) where
   stays ring Sparse r (Begin k) h = λ on. h refl
   stays ring ruling r (Scan k s half) h =
       elim (half == 0) as (λ b.
-      let next : Spot = if b then Scan k s 1 else if nat_lt s (ring.machines - 1) then Scan k (s + 1) 0 else Close k true in
+      let next : Spot = if b then Scan k s 1 else if nat_lt s (ring.machines - 1) then Scan k (s + 1) 0
+      else Close k true in
       is_over next ≡ false → AreOfRound (round_of k next) m (held_at next held)) [
         | true ↦ λ on. h refl
         | false ↦ elim (nat_lt s (ring.machines - 1)) as (λ b.
@@ -99,7 +100,8 @@ pub moved_buffer : (ring : Ring) (p m round : ℕ) (spot : Spot) (ruling : Rulin
     new ≡ record held { letters = held_at (next_spot ring m spot ruling) held.letters } →
     IsBuffer p m (round_of (round_ruled round spot) (next_spot ring m spot ruling)) (next_spot ring m spot ruling) new
 moved_buffer ring p m round spot ruling held new of_spot buffer is =
-    subst (IsBuffer p m (round_of (round_ruled round spot) (next_spot ring m spot ruling)) (next_spot ring m spot ruling))
+    subst (IsBuffer p m (round_of (round_ruled round spot) (next_spot ring m spot ruling))
+    (next_spot ring m spot ruling))
     (sym is)
     (record {
       machines = buffer.machines;
@@ -174,7 +176,8 @@ begun_sound s r at sound =
       spot = subst (FitsSpot (begin_go s r)) (sym at) after;
     })
 
-may_low : (blocks : Blocks) (r : ℕ) (ruling : Ruling) → ruling ≢ Stop → may_rule blocks r ruling ≡ true → r ≤ blocks.limit
+may_low : (blocks : Blocks) (r : ℕ) (ruling : Ruling) → ruling ≢ Stop → may_rule blocks r ruling ≡ true →
+    r ≤ blocks.limit
 may_low blocks r Stop going may = absurd (going refl)
 may_low blocks r Dense going may = leb-true r blocks.limit (and_parts blocks.dense (nat_le r blocks.limit) may).1
 may_low blocks r Sparse going may = leb-true r blocks.limit (and_parts blocks.sparse (nat_le r blocks.limit) may).1

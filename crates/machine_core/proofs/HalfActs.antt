@@ -1,5 +1,5 @@
 -- What the action of a scan of a half of another chunk leaves and sends.
-use Rattle.std.proofs.Common.{◌≡◌, ◌≤◌, ◌<◌, ◌+◌, ◌-◌, ◌&&◌, ◌∙◌, inl, inr, ⊎_elim, ℕ, ℤ, Bool, true, false, Option, Some, None, List, [], ◌∷◌, length, map, drop, take, refl, ap, sym, subst, arith}
+use Rattle.std.proofs.Common.{◌≡◌, ◌≤◌, ◌<◌, ◌+◌, ◌-◌, ◌&&◌, ◌∙◌, inl, inr, ℕ, ℤ, Bool, true, false, Option, Some, None, List, [], ◌∷◌, length, map, drop, take, refl, ap, sym, subst, arith}
 use Rattle.std.specs.Prelude.{if◌then◌else◌, is_none, nat_lt}
 use Rattle.std.specs.List.{list_all}
 use Rattle.std.proofs.Math.Logic.{∥∥₁_elim, ∥∥₁_map}
@@ -26,10 +26,10 @@ use Rattle.body_shape.specs.Shapes.{bool_bits}
 use Rattle.vert_tree.specs.Places.{lets_in}
 use Rattle.symple_face.specs.State.{State, machine, p_of}
 use Rattle.work_laws.specs.Sound.{FitsSpot, core_sound}
-use Rattle.work_laws.proofs.Held.{FitsAs, MayRead, may_read, same_chunk, shape_parts}
+use Rattle.work_laws.proofs.Held.{MayRead, may_read, same_chunk, shape_parts}
 use Rattle.work_laws.proofs.Sees.{scan_kept_fits, scan_read_fits}
-use Rattle.machine_core.specs.Going.{half_sent, sent_from}
-use Rattle.machine_core.specs.Halves.{needed_body}
+use Rattle.machine_steps.specs.Going.{half_sent, sent_from}
+use Rattle.machine_steps.specs.Halves.{needed_body}
 
 -- ---- the numbers of the spot
 pub record IsScanOf (s : State) (r step h : ℕ) : Type 0 where
@@ -133,7 +133,8 @@ no_byte xs none some = let no : length xs ≡ 0 = ap (λ (l : List ℕ). length 
 
 pub dep_fits : (s : State) (r step h : ℕ) → ∥ core_sound s ∥₁ → step < p_of s →
     0 < length (needed_body s (needed_dep s r step h)) →
-    FitsRing (words_in (loop_carry s.split.dense)) (size_of (half_in s.part.ends (chunk_of (machine s) step (p_of s)) h)) 0
+    FitsRing (words_in (loop_carry s.split.dense))
+    (size_of (half_in s.part.ends (chunk_of (machine s) step (p_of s)) h)) 0
     (needed_body s (needed_dep s r step h))
 dep_fits s r step h sound low =
     ∥∥₁_elim sound (hlevel props)

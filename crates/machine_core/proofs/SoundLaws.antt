@@ -1,5 +1,5 @@
 -- What the soundness of a state tells of its numbers.
-use Rattle.std.proofs.Common.{◌≡◌, ℕ, suc, ◌+◌, ◌<◌, ◌≤◌, ◌^◌, Bool, true, false, List, ◌++◌, length, map, refl, sym, ap, subst, ◌∙◌, arith}
+use Rattle.std.proofs.Common.{◌≡◌, ℕ, ◌+◌, ◌<◌, ◌≤◌, true, false, List, ◌++◌, length, sym, ap, ◌∙◌, arith}
 use Rattle.std.specs.List.{All}
 use Rattle.std.proofs.lemmas.List.{length-map}
 use Rattle.vert_base.specs.declared.value.Combine.{Combine}
@@ -20,7 +20,7 @@ use Rattle.symple_face.specs.CoreSight.{field_count, own_vertices, program_of}
 use Rattle.symple_face.specs.Plans.{loop_carry, ring_of}
 use Rattle.symple_face.specs.State.{State, p_of}
 use Rattle.vert_tree.proofs.TypedLaws.{few_rounds}
-use Rattle.machine_core.proofs.BlankLaws.{count_empty}
+use Rattle.machine_steps.proofs.BlankLaws.{count_empty}
 use Rattle.work_laws.specs.Sound.{ArePartials, FitsSpot, core_sound}
 
 low_round : (r limit : ℕ) → r ≤ limit + 1 → limit ≤ 10000 → r < 4294967295

@@ -1,5 +1,5 @@
 -- What a takeable message is to a machine's buffer.
-use Rattle.std.proofs.Common.{◌≡◌, ◌≢◌, ◌==◌, ◌&&◌, ℕ, ◌≤◌, ◌<◌, Bool, true, false, refl, sym, ap, subst, ◌∙◌, None, arith}
+use Rattle.std.proofs.Common.{◌≡◌, ◌≢◌, ◌==◌, ℕ, ◌≤◌, ◌<◌, Bool, true, false, sym, ap, subst, ◌∙◌, arith}
 use Rattle.std.specs.Prelude.{if◌then◌else◌, is_some, nat_le}
 use Rattle.circulant_plan.specs.Names.{verdict_name}
 use Rattle.std.proofs.Math.Logic.{∥∥₁_elim, ∥∥₁_map}
@@ -24,7 +24,7 @@ use Rattle.symple_face.specs.State.{IsTakeable, State, machine, p_of}
 use Rattle.work_laws.specs.Sound.{core_sound}
 use Rattle.work_laws.proofs.Held.{planned_apart, shape_parts}
 use Rattle.work_laws.proofs.Taken.{take_sound}
-use Rattle.machine_core.specs.Kept.{IsBuffer}
+use Rattle.machine_steps.specs.Kept.{IsBuffer}
 
 module _ (s : State) (l : Letter) (takes : IsTakeable s l) (held : Held)
     (buffer : IsBuffer (p_of s) (machine s) s.at.round s.at.spot held) where
@@ -72,7 +72,8 @@ push_parts s l sound takes kind =
     let planned = (shape_parts s.split s.part l.name takes.shape takes.has).0 in
     let apart = planned_apart s.split (p_of s) (machine s) l.name planned in
     let few = few_rounds (program_of s.split) k.can.program.typed in
-    let low = round_low (program_of s.split).limit l.name.round (ap (λ q. is_in_range (program_of s.split).limit q l.name.round) (sym kind)
+    let low = round_low (program_of s.split).limit l.name.round
+    (ap (λ q. is_in_range (program_of s.split).limit q l.name.round) (sym kind)
     ∙ in_range s l planned) in (
       apart.0,
       λ e. differ l.name.from l.name.to apart.2 (e ∙ sym takes.here),

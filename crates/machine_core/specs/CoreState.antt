@@ -1,12 +1,10 @@
 -- A core as the plain data that every kind of machine is told by.
 use Rattle.std.specs.Prelude.{[]}
-use Rattle.body_shape.specs.declared.totals.Counts.{Counts}
 use Rattle.symple_face.specs.PartViews.{plain_of}
-use Rattle.symple_face.specs.State.{State, Sums as PlainSums}
+use Rattle.symple_face.specs.State.{State}
 use Rattle.machine_core.specs.declared.machine.Core.{Core}
-use Rattle.machine_core.specs.declared.sums.Sums.{Sums}
-use Rattle.machine_core.specs.Counts.{lists_read}
-use Rattle.machine_core.specs.Plain.{plain_sums}
+use Rattle.machine_steps.specs.Counts.{lists_read}
+use Rattle.machine_steps.specs.Plain.{plain_sums}
 
 abbrev pub core_state : Core → State
 core_state c = record {

@@ -2,15 +2,15 @@
 ghost use Rattle.std.specs.Prelude.{◌≡◌};
 ghost use Rattle.vert_base.specs.declared.value.Ruling.TheVariants.{Stop};
 ghost use Rattle.symple_face.specs.CoreFirst.{no_sums};
-ghost use Rattle.machine_core.specs.Plain.{plain_sums};
+ghost use Rattle.machine_steps.specs.Plain.{plain_sums};
 
 use crate::machine::Core;
 use crate::making::{blank_tables, make_ground};
-use crate::sums::Sums;
 use arrayvec::ArrayVec;
 use body_shape::Counts;
 use circulant_plan::Spot;
 use double_buffer::Slots;
+use machine_steps::Sums;
 use std::alloc::Global;
 use symple_face::{Part, Report};
 use vert_base::{Ruling, Want};

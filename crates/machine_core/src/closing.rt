@@ -1,6 +1,6 @@
 // What the close of a round leaves of a machine.
-use crate::close::{close_rows, turn_counts};
 use crate::machine::Core;
+use machine_steps::{close_rows, turn_counts};
 
 impl Core {
     ghost use Rattle.std.specs.Prelude.{◌≡◌, ◌==◌, length, true};

@@ -8,7 +8,7 @@ impl Core {
     ghost use Rattle.symple_face.specs.CoreSight.{total_count};
     ghost use Rattle.work_laws.specs.Sound.{core_sound};
     ghost use Rattle.machine_core.specs.CoreState.{core_state};
-    ghost use Rattle.machine_core.specs.Going.{onward};
+    ghost use Rattle.machine_steps.specs.Going.{onward};
 
     /// Goes on by the ruling that it knows. At the begin of a round it lets go of what it held of the
     /// one before.

@@ -1,14 +1,14 @@
 // What a machine knows of the round.
 
-use crate::held::held_body;
 use crate::machine::Core;
-use crate::words::copy_words;
 use arrayvec::ArrayVec;
 use body_shape::read_words;
 use circulant_plan::Spot;
 use machine_parts::first_missing;
+use machine_steps::held_body;
 use symple_face::Action;
 use vert_base::{Name, NameKind};
+use vertex_work::copy_words;
 
 impl Core {
     ghost use Rattle.std.specs.Prelude.{◌≡◌};

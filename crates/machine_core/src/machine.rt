@@ -4,21 +4,21 @@ ghost use Rattle.circulant_plan.specs.declared.spot.Spot.TheVariants.{Tell};
 ghost use Rattle.symple_face.specs.CoreSight.{total_count};
 ghost use Rattle.symple_face.specs.PartViews.{plain_of};
 ghost use Rattle.work_laws.specs.Sound.{core_sound};
-ghost use Rattle.machine_core.specs.Counts.{AreCounts, lists_read};
-ghost use Rattle.machine_core.specs.Kept.{AreWide, IsBuffer};
-ghost use Rattle.machine_core.specs.Plain.{plain_sums};
+ghost use Rattle.machine_steps.specs.Counts.{AreCounts, lists_read};
+ghost use Rattle.machine_steps.specs.Kept.{AreWide, IsBuffer};
+ghost use Rattle.machine_steps.specs.Plain.{plain_sums};
 
-use crate::ground::Ground;
-use crate::sums::Sums;
 use circulant_plan::Spot;
 use double_buffer::Slots;
 use flat_table::Grid;
 use machine_parts::{RingHalf, Rows};
+use machine_steps::Sums;
 use slot_merge::Partial;
 use std::alloc::Global;
 use symple_face::Report;
 use vert_base::Ruling;
 use vert_base::limits::MACHINES;
+use vertex_work::Ground;
 
 /// One machine of a run: its part of the graph, where it stands, and what it holds of the round.
 #[derive(Drop)]

@@ -11,17 +11,16 @@ ghost use Rattle.symple_face.specs.Parts.{chunk_vertices};
 ghost use Rattle.symple_face.specs.Plans.{loop_carry};
 ghost use Rattle.symple_face.specs.Shapes.{reduced_in, words_in};
 
-use crate::blank::{empty_row, ring_width};
-use crate::first::fill_rows;
-use crate::ground::Ground;
 use flat_table::Grid;
 use instrument::Split;
 use machine_parts::{Groups, RingHalf, Rows};
+use machine_steps::{empty_row, ring_width};
 use slot_merge::Partial;
 use std::alloc::Global;
 use symple_face::{Degree, Part};
 use vert_base::Want;
 use vert_code::compile;
+use vertex_work::{Ground, fill_rows};
 use word_kinds::{edges_have_weights, literals_are_words};
 
 // How many edges lead into a vertex, which fits 32 bits.

@@ -1,7 +1,6 @@
 // What the begin of a round leaves of a machine, and how it takes pushes.
-use crate::begin::begin_partials;
 use crate::machine::Core;
-use crate::pushes::drop_pushes;
+use machine_steps::{begin_partials, drop_pushes};
 
 impl Core {
     ghost use Rattle.std.specs.Prelude.{◌≡◌, ◌==◌, ◌≤◌, length, true};

@@ -1,11 +1,9 @@
 // What a machine does in a scan of a half.
-use crate::acting::hand;
-use crate::halves::{drop_needed, half_messages, needed_bytes, refresh_to};
-use crate::held::held_body;
-use crate::keeping::scan_own;
 use crate::machine::Core;
-use crate::noting::note_counts;
-use crate::scanning::{HalfScan, scan_half};
+use machine_steps::{
+    HalfScan, drop_needed, half_messages, hand, held_body, needed_bytes, note_counts, refresh_to,
+    scan_half, scan_own,
+};
 use vert_base::{Message, Want};
 
 impl Core {
@@ -17,7 +15,7 @@ impl Core {
     ghost use Rattle.symple_face.specs.CoreWork.{core_go, core_sent};
     ghost use Rattle.symple_face.specs.State.{action_of};
     ghost use Rattle.machine_core.specs.CoreState.{core_state};
-    ghost use Rattle.machine_core.specs.Halves.{IsHalfScan};
+    ghost use Rattle.machine_steps.specs.Halves.{IsHalfScan};
 
     // Notes what was read in a scan of a half of another chunk, where it stays. It takes no memory.
     fn note_half(&mut self, round: u32, step: u8, half: u8, counts: &[u32])

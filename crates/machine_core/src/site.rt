@@ -6,8 +6,8 @@ ghost use Rattle.work_laws.specs.Sound.{core_sound};
 ghost use Rattle.machine_core.specs.CoreState.{core_state};
 
 use crate::machine::Core;
-use crate::reading::sources_read;
 use circulant_plan::Spot;
+use machine_steps::sources_read;
 use std::alloc::Global;
 use symple_face::{Action, Part, Report, Site};
 use vert_base::{Message, Row, VertexId, Want};

@@ -1,17 +1,13 @@
 // What a machine does at each spot.
-use crate::acting::{hand, send_tally};
-use crate::counted::reads_of;
-use crate::gifts::begin_messages;
-use crate::judging::verdicts;
 use crate::machine::Core;
-use crate::sums::Sums;
 use circulant_plan::Spot;
+use machine_steps::{Sums, begin_messages, hand, reads_of, send_tally, verdicts};
 use vert_base::{Message, Ruling, Want};
 
 impl Core {
     ghost use Rattle.std.specs.Prelude.{◌≡◌, ◌++◌, length, map, IfOk, OnErr, OnOk};
     ghost use Rattle.symple_face.specs.CoreJudge.{ruling_by, sums_at};
-    ghost use Rattle.machine_core.specs.Plain.{counted_of};
+    ghost use Rattle.machine_steps.specs.Plain.{counted_of};
     ghost use Rattle.circulant_plan.specs.declared.spot.Spot.TheVariants.{Tell, Judge, Begin, Close};
     ghost use Rattle.vert_base.specs.Letters.{letter_of};
     ghost use Rattle.symple_face.specs.declared.action.Action.TheVariants.{Ready};

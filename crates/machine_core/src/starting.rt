@@ -6,18 +6,17 @@ ghost use Rattle.symple_face.specs.CoreFirst.{body_at_start};
 ghost use Rattle.symple_face.specs.Parts.{chunk_vertices};
 ghost use Rattle.symple_face.specs.Work.{plain_ahead, plain_start};
 ghost use Rattle.vert_eval.specs.Rounds.{row_at};
-ghost use Rattle.machine_core.specs.Plain.{plain_sums};
+ghost use Rattle.machine_steps.specs.Plain.{plain_sums};
 
-use crate::ground::Ground;
-use crate::sums::Sums;
-use crate::words::copy_words;
 use arrayvec::ArrayVec;
 use body_shape::{Counts, put_verdict};
 use double_buffer::Slots;
 use machine_parts::Rows;
+use machine_steps::Sums;
 use symple_face::{Ahead, Start};
 use vert_base::limits::MACHINES;
 use vert_base::{Message, Name, NameKind, Row, Ruling};
+use vertex_work::{Ground, copy_words};
 
 /// Copies the rows of the own vertices out of those of all.
 pub(crate) fn copy_rows(ground: &Ground, all: &[Row], rows: &mut Rows)

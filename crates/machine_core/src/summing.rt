@@ -1,12 +1,8 @@
 // What machine 0 sums over all machines.
 ghost use Rattle.std.specs.Prelude.{◌≡◌, if◌then◌else◌, nat_le};
 
-use crate::acting::tally_name;
-use crate::counted::{counted, reads_of};
-use crate::held::held_body;
-use crate::judging::{join, ruled};
 use crate::machine::Core;
-use crate::sums::Sums;
+use machine_steps::{Sums, counted, held_body, join, reads_of, ruled, tally_name};
 use symple_face::Report;
 use vert_base::Ruling;
 
@@ -15,7 +11,7 @@ impl Core {
     ghost use Rattle.circulant_plan.specs.declared.spot.Spot.TheVariants.{Judge};
     ghost use Rattle.symple_face.specs.CoreJudge.{judge_go, ruling_by, sums_at};
     ghost use Rattle.machine_core.specs.CoreState.{core_state};
-    ghost use Rattle.machine_core.specs.Plain.{counted_of};
+    ghost use Rattle.machine_steps.specs.Plain.{counted_of};
 
     /// The sums over all machines after a round, of the own counts and the tallies taken.
     pub(crate) fn sums(&self, round: u32) -> Sums

@@ -4,12 +4,12 @@ ghost use Rattle.circulant_plan.specs.declared.spot.Spot.TheVariants.{Tell};
 ghost use Rattle.circulant_plan.specs.Skeleton.{is_over};
 ghost use Rattle.circulant_plan.specs.Standing.{ruled_standing};
 
-use crate::begin::work_push;
 use crate::machine::Core;
-use crate::updates::add_update;
 use body_shape::ruling_of;
 use circulant_plan::Spot;
+use machine_steps::work_push;
 use vert_base::{Message, NameKind, Ruling};
+use vertex_work::add_update;
 
 impl Core {
     ghost use Rattle.std.specs.Prelude.{◌≡◌, true};

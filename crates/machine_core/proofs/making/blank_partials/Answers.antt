@@ -1,12 +1,11 @@
-use Rattle.std.proofs.Common.{◌≡◌, ◌-◌, ◌∙◌, List, ap, sym, length, map, replicate}
+use Rattle.std.proofs.Common.{◌-◌, ◌∙◌, ap, sym, length, replicate}
 use Rattle.std.specs.Prelude.{slice_index}
 use Rattle.std.proofs.lemmas.List.FromFn.{length-range_with_len}
 use Rattle.flat_table.specs.Grids.{Rows}
-use Rattle.instrument.specs.declared.split.Split.{Split}
 use Rattle.slot_merge.specs.declared.partial.Partial.{Partial}
 use Rattle.symple_face.specs.CoreTakes.{empty_partials}
 use Rattle.vert_base.specs.Ends.{start_of}
-use Rattle.machine_core.proofs.BlankLaws.{count_empty, same_for_each}
+use Rattle.machine_steps.proofs.BlankLaws.{count_empty, same_for_each}
 use Rattle.machine_core.proofs.making.blank_partials.Goals as goal
 
 pub returns : goal.returns

@@ -1,4 +1,4 @@
-use Rattle.std.proofs.Common.{◌≡◌, ◌-◌, ◌∙◌, ap, sym, replicate}
+use Rattle.std.proofs.Common.{◌-◌, ◌∙◌, ap, sym, replicate}
 use Rattle.std.specs.Prelude.{slice_index}
 use Rattle.std.proofs.lemmas.List.FromFn.{length-range_with_len}
 use Rattle.instrument.specs.declared.split.Split.{Split}
@@ -7,7 +7,7 @@ use Rattle.symple_face.specs.Plans.{loop_carry}
 use Rattle.symple_face.specs.Shapes.{words_in}
 use Rattle.vert_base.specs.Ends.{start_of}
 use Rattle.machine_parts.specs.Flat.{StateTable, fresh_state}
-use Rattle.machine_core.proofs.BlankLaws.{same_for_each}
+use Rattle.machine_steps.proofs.BlankLaws.{same_for_each}
 use Rattle.machine_core.proofs.making.blank_ring.Goals as goal
 
 pub returns : goal.returns

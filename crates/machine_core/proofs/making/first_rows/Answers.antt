@@ -1,4 +1,4 @@
-use Rattle.std.proofs.Common.{◌≡◌, ◌≤◌, ◌∙◌, ap, length, arith, vec_len}
+use Rattle.std.proofs.Common.{◌∙◌, ap, arith, vec_len}
 use Rattle.vert_tree.proofs.TypedLaws.{few_fields}
 use Rattle.vert_tree.specs.declared.program.Program.{Program}
 use Rattle.machine_core.proofs.making.first_rows.Goals as goal

@@ -1,10 +1,9 @@
 -- One place after another.
-use Rattle.std.proofs.Common.{◌≡◌, ◌≤◌, ◌<◌, ◌∙◌, [], length, map, ap, sym, arith, replicate}
-use Rattle.std.specs.List.{range_with_len}
+use Rattle.std.proofs.Common.{◌<◌, ◌∙◌, [], length, ap, sym, arith, replicate}
 use Rattle.flat_table.specs.Grids.{Rows}
 use Rattle.slot_merge.specs.declared.partial.Partial.{Partial}
-use Rattle.machine_core.proofs.BlankLaws.{same_for_each}
-use Rattle.machine_core.proofs.PassLaws.{pass_done, pass_length, pass_more}
+use Rattle.machine_steps.proofs.BlankLaws.{same_for_each}
+use Rattle.vertex_work.proofs.PassLaws.{pass_done, pass_length, pass_more}
 use Rattle.machine_core.proofs.making.put_in_each.Goals as goal
 
 pub put_row-requires : goal.put_row-requires

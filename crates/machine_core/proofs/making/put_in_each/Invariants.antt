@@ -1,6 +1,6 @@
 -- The places so far have the row.
 use Rattle.std.proofs.Common.{◌≡◌}
-use Rattle.machine_core.proofs.PassLaws.{passed}
+use Rattle.vertex_work.proofs.PassLaws.{passed}
 use Rattle.machine_core.proofs.making.put_in_each.Given as goal
 
 abbrev pub invariant-places : goal.invariant-places

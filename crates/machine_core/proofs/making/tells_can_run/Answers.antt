@@ -1,8 +1,7 @@
-use Rattle.std.proofs.Common.{◌≡◌, ◌<◌, true, sym, subst, ap, ◌∙◌}
+use Rattle.std.proofs.Common.{◌≡◌, ◌<◌, true, subst}
 use Rattle.std.specs.List.{All}
 use Rattle.chunk_split.specs.Chunks.{AreEnds}
 use Rattle.symple_face.specs.Lawful.{AreCounts}
-use Rattle.vert_tree.specs.declared.typed.Typed.{Typed}
 use Rattle.instrument.specs.declared.split.Split.{Split}
 use Rattle.word_kinds.specs.Fits.{HaveWeights, literals_fit}
 use Rattle.machine_core.proofs.making.tells_can_run.Goals as goal

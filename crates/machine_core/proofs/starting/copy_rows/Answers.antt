@@ -8,7 +8,7 @@ use Rattle.vert_base.specs.Ends.{start_of}
 use Rattle.vert_eval.specs.Rounds.{empty_row, row_at}
 use Rattle.symple_face.specs.PartViews.{plain_of}
 use Rattle.machine_parts.specs.Flat.{RowTable}
-use Rattle.machine_core.proofs.PassLaws.{pass_done, pass_length, pass_more}
+use Rattle.vertex_work.proofs.PassLaws.{pass_done, pass_length, pass_more}
 use Rattle.machine_core.proofs.StartLaws.{own_within, row_read}
 use Rattle.machine_core.proofs.starting.copy_rows.Goals as goal
 
@@ -64,7 +64,8 @@ places-preserved c =
     ∙ ap (λ n. f (n + c.places.place)) c.start-before.ensures.start in
     record {
       rows = ap (λ (t : RowTable). t.rows) c.write.ensures
-          ∙ pass_more f a c.places.place first.rows c.places.rows.rows c.places.invariant.rows (omega arith) empty_row lt
+          ∙ pass_more f a c.places.place first.rows c.places.rows.rows c.places.invariant.rows (omega arith) empty_row
+          lt
           c.index-all-before.result new;
       width = ap (λ (t : RowTable). t.width) c.write.ensures ∙ c.places.invariant.width;
     }

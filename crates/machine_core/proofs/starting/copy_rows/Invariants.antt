@@ -2,7 +2,7 @@
 use Rattle.std.proofs.Common.{◌≡◌}
 use Rattle.vert_base.specs.Ends.{start_of}
 use Rattle.vert_eval.specs.Rounds.{row_at}
-use Rattle.machine_core.proofs.PassLaws.{passed}
+use Rattle.vertex_work.proofs.PassLaws.{passed}
 use Rattle.machine_core.proofs.starting.copy_rows.Given as goal
 
 abbrev pub invariant-places : goal.invariant-places

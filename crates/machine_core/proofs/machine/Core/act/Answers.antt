@@ -1,4 +1,4 @@
-use Rattle.std.proofs.Common.{◌≡◌, ◌∙◌, ap, sym}
+use Rattle.std.proofs.Common.{◌∙◌, ap, sym}
 use Rattle.circulant_plan.specs.declared.spot.Spot.{Spot}
 use Rattle.circulant_plan.specs.declared.spot.Spot.TheVariants.{Close}
 use Rattle.machine_core.specs.CoreState.{core_state}

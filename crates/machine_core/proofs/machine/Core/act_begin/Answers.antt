@@ -1,28 +1,14 @@
-use Rattle.std.proofs.Common.{◌≡◌, ◌≤◌, ◌∙◌, ◌++◌, ◌+◌, ℕ, List, [], ap, length, map, refl, sym, subst, arith, Fits}
-use Rattle.std.specs.Prelude.{if◌then◌else◌, sum}
-use Rattle.std.proofs.lemmas.Bool.{eq-eqb, eqb-true}
-use Rattle.body_shape.specs.Tally.{Counted, tally_body}
-use Rattle.body_shape.specs.Verdict.{verdict_body}
-use Rattle.circulant_plan.specs.declared.spot.Spot.TheVariants.{Tell, Judge, Begin, Close}
-use Rattle.circulant_plan.specs.Names.{verdict_name}
-use Rattle.circulant_plan.specs.Table.{others_of, tally_gives}
-use Rattle.vert_base.specs.declared.message.Message.{Message}
-use Rattle.vert_base.specs.declared.message.Name.{Name}
-use Rattle.vert_base.specs.declared.value.Ruling.{Ruling}
+use Rattle.std.proofs.Common.{◌≡◌, ◌∙◌, ◌++◌, List, ap, length, map, refl, sym, arith}
+use Rattle.std.proofs.lemmas.Bool.{eqb-true}
+use Rattle.circulant_plan.specs.declared.spot.Spot.TheVariants.{Judge, Begin}
 use Rattle.vert_base.specs.Letters.{Letter, letter_of}
-use Rattle.symple_face.specs.CoreClose.{close_go}
-use Rattle.symple_face.specs.CoreJudge.{counted, ruling_by, sums_at}
 use Rattle.symple_face.specs.CoreSparse.{begin_go}
-use Rattle.symple_face.specs.CoreWork.{core_go}
 use Rattle.symple_face.specs.PartViews.{plain_of}
-use Rattle.symple_face.specs.State.{State, machine, p_of}
+use Rattle.symple_face.specs.State.{State, machine}
 use Rattle.machine_core.specs.CoreState.{core_state}
-use Rattle.machine_core.specs.Counts.{lists_read}
-use Rattle.machine_core.specs.Going.{onward, sent_from}
-use Rattle.machine_core.specs.Shown.{Shows}
-use Rattle.machine_core.proofs.GoLaws.{begin_low, close_low, go_from, gone_sound, round_at, sent_by}
+use Rattle.vertex_work.specs.Shown.{Shows}
+use Rattle.machine_core.proofs.GoLaws.{begin_low, go_from, gone_sound, round_at}
 use Rattle.machine_core.proofs.SoundLaws.{steady}
-use Rattle.machine_core.proofs.SumLaws.{judge_low}
 use Rattle.machine_core.proofs.TotalsLaws.{known_count}
 use Rattle.machine_core.proofs.machine.Core.act_begin.Goals as goal
 
@@ -67,7 +53,8 @@ move_on-requires c =
     record {
       sound = gone_sound s mid self.sound c.requires.ready (go_from s mid (Begin r) c.requires.at acted);
       judged = λ k e.
-          let bad : Begin r ≡ Judge k = sym c.requires.at ∙ sym (ap (λ (t : State). t.at.spot) acted) ∙ e in absurd (cc);
+          let bad : Begin r ≡ Judge k = sym c.requires.at ∙ sym (ap (λ (t : State). t.at.spot) acted) ∙ e in
+          absurd (cc);
     }
 
 pub returns-clause-state : goal.returns-clause-state

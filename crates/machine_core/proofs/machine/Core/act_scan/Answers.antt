@@ -1,4 +1,4 @@
-use Rattle.std.proofs.Common.{◌≡◌, ◌≤◌, ◌<◌, ◌+◌, arith}
+use Rattle.std.proofs.Common.{arith}
 use Rattle.machine_core.specs.CoreState.{core_state}
 use Rattle.machine_core.proofs.HalfActs.{scan_low}
 use Rattle.machine_core.proofs.machine.Core.act_scan.Goals as goal

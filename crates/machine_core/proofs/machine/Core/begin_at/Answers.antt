@@ -15,7 +15,7 @@ use Rattle.symple_face.specs.Parts.{chunk_vertices}
 use Rattle.symple_face.specs.State.{State, Sums}
 use Rattle.symple_face.specs.Work.{plain_start}
 use Rattle.machine_core.specs.CoreState.{core_state}
-use Rattle.machine_core.specs.Plain.{plain_sums}
+use Rattle.machine_steps.specs.Plain.{plain_sums}
 use Rattle.machine_core.proofs.StartLaws.{start_of_round, start_totals}
 use Rattle.machine_core.proofs.machine.Core.begin_at.Goals as goal
 

@@ -1,4 +1,4 @@
-use Rattle.std.proofs.Common.{◌≡◌, ◌≤◌, ◌∙◌, ap, length, refl, sym, subst, arith}
+use Rattle.std.proofs.Common.{◌≡◌, ◌∙◌, ap, length, refl, sym, subst, arith}
 use Rattle.std.proofs.lemmas.Bool.{eqb-true}
 use Rattle.circulant_plan.specs.Skeleton.{is_over}
 use Rattle.double_buffer.specs.Held.{Held}
@@ -7,7 +7,7 @@ use Rattle.symple_face.specs.PartViews.{plain_of}
 use Rattle.symple_face.specs.State.{State, machine}
 use Rattle.work_laws.specs.Sound.{core_sound}
 use Rattle.machine_core.specs.CoreState.{core_state}
-use Rattle.machine_core.specs.Shown.{Shows}
+use Rattle.vertex_work.specs.Shown.{Shows}
 use Rattle.machine_core.proofs.GoLaws.{begun_sound}
 use Rattle.machine_core.proofs.SoundLaws.{steady}
 use Rattle.machine_core.proofs.TotalsLaws.{known_count}

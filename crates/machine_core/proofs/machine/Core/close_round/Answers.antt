@@ -4,8 +4,8 @@ use Rattle.symple_face.specs.PartViews.{plain_of}
 use Rattle.symple_face.specs.State.{State}
 use Rattle.work_laws.specs.Sound.{core_sound}
 use Rattle.machine_core.specs.CoreState.{core_state}
-use Rattle.machine_core.specs.Counts.{AreCounts, lists_read}
-use Rattle.machine_core.proofs.CloseNeeds.{needs_at}
+use Rattle.machine_steps.specs.Counts.{AreCounts, lists_read}
+use Rattle.machine_steps.proofs.CloseNeeds.{needs_at}
 use Rattle.machine_core.proofs.CloseStates.{closed_sound, closed_state}
 use Rattle.machine_core.proofs.TotalsLaws.{known_count}
 use Rattle.machine_core.proofs.machine.Core.close_round.Goals as goal

@@ -1,5 +1,4 @@
-use Rattle.std.proofs.Common.{◌≡◌, ◌≤◌, ◌∙◌, List, [], ap, sym, refl, subst, length, map, arith, false}
-use Rattle.std.specs.List.{All}
+use Rattle.std.proofs.Common.{◌≡◌, ◌∙◌, List, [], ap, sym, subst, arith}
 use Rattle.std.proofs.lemmas.List.Elements.{All-nil}
 use Rattle.circulant_plan.specs.declared.spot.Spot.TheVariants.{Tell}
 use Rattle.double_buffer.specs.Held.{AreOfRound, Held}
@@ -14,8 +13,8 @@ use Rattle.vert_base.specs.declared.value.Ruling.TheVariants.{Stop}
 use Rattle.vert_base.specs.Letters.{Letter}
 use Rattle.work_laws.specs.Sound.{core_sound}
 use Rattle.work_laws.proofs.Firsts.{first_sound}
-use Rattle.machine_core.specs.Counts.{lists_read}
-use Rattle.machine_core.specs.Plain.{plain_sums}
+use Rattle.machine_steps.specs.Counts.{lists_read}
+use Rattle.machine_steps.specs.Plain.{plain_sums}
 use Rattle.machine_core.proofs.FreshLaws.{nothing_read, zero_counts}
 use Rattle.machine_core.proofs.machine.Core.first.Goals as goal
 

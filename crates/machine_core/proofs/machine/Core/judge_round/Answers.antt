@@ -5,7 +5,7 @@ use Rattle.symple_face.specs.CoreJudge.{judge_go}
 use Rattle.symple_face.specs.State.{State}
 use Rattle.work_laws.specs.Sound.{core_sound}
 use Rattle.machine_core.specs.CoreState.{core_state}
-use Rattle.machine_core.specs.Plain.{plain_sums}
+use Rattle.machine_steps.specs.Plain.{plain_sums}
 use Rattle.machine_core.proofs.SumLaws.{judged_sound}
 use Rattle.machine_core.proofs.machine.Core.judge_round.Goals as goal
 

@@ -1,4 +1,4 @@
-use Rattle.std.proofs.Common.{◌≡◌, ◌∙◌, ap, sym, refl, lit<}
+use Rattle.std.proofs.Common.{◌∙◌, ap, sym, refl, lit<}
 use Rattle.vert_base.specs.Letters.{letter_of}
 use Rattle.double_buffer.specs.Held.{Held}
 use Rattle.symple_face.specs.State.{State}

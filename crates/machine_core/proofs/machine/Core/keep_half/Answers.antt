@@ -1,11 +1,7 @@
-use Rattle.std.proofs.Common.{◌≡◌, ◌≤◌, ◌<◌, ◌-◌, ◌∙◌, ℕ, List, ap, length, refl, sym, subst, arith}
+use Rattle.std.proofs.Common.{◌≡◌, ◌<◌, ◌-◌, ◌∙◌, ℕ, List, ap, length, refl, sym, subst, arith}
 use Rattle.std.proofs.lemmas.Bool.{eqb-true}
-use Rattle.flat_table.specs.Grids.{Rows}
-use Rattle.slot_merge.specs.declared.partial.Partial.{Partial}
 use Rattle.dep_layout.specs.Judgement.{FitsRing}
-use Rattle.machine_parts.specs.Flat.{StateTable}
 use Rattle.circulant_plan.specs.declared.spot.Spot.TheVariants.{Scan}
-use Rattle.circulant_plan.specs.Ring.{chunk_of}
 use Rattle.circulant_plan.specs.Skeleton.{is_over}
 use Rattle.double_buffer.specs.Held.{AreOfRound, Held}
 use Rattle.symple_face.specs.CoreDense.{needed_dep, scan_kept}
@@ -15,9 +11,9 @@ use Rattle.symple_face.specs.PartViews.{plain_of}
 use Rattle.symple_face.specs.State.{State, machine, p_of}
 use Rattle.work_laws.specs.Sound.{core_sound}
 use Rattle.machine_core.specs.CoreState.{core_state}
-use Rattle.machine_core.specs.Counts.{lists_read}
-use Rattle.machine_core.specs.Halves.{ShowsOwnHalf, needed_body}
-use Rattle.machine_core.proofs.DropLaws.{emptied_of_round}
+use Rattle.machine_steps.specs.Counts.{lists_read}
+use Rattle.machine_steps.specs.Halves.{ShowsOwnHalf, needed_body}
+use Rattle.machine_steps.proofs.DropLaws.{emptied_of_round}
 use Rattle.machine_core.proofs.GoLaws.{round_at}
 use Rattle.machine_core.proofs.HalfActs.{dep_fits, kept_sound, last_chunk, scan_low}
 use Rattle.machine_core.proofs.SoundLaws.{steady}
@@ -68,7 +64,8 @@ drop_needed-requires c =
     let self = c.args.self.now in
     let s = core_state self in
     let low = scan_low s c.args.round c.args.step c.args.half self.sound c.requires.at in
-    let same : self.round ≡ c.args.round = round_at s (Scan c.args.round c.args.step c.args.half) self.sound c.requires.at in
+    let same : self.round ≡ c.args.round = round_at s (Scan c.args.round c.args.step c.args.half) self.sound
+    c.requires.at in
     record {
       step = low.step_low;
       half = low.half_low;

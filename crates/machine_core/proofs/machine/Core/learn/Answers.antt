@@ -5,7 +5,7 @@ use Rattle.vert_base.specs.Letters.{letter_of, placed}
 use Rattle.circulant_plan.specs.Standing.{Standing, ruled_standing}
 use Rattle.double_buffer.specs.Held.{Held}
 use Rattle.symple_face.specs.CoreWork.{core_take}
-use Rattle.symple_face.specs.State.{State, ruling_read}
+use Rattle.symple_face.specs.State.{ruling_read}
 use Rattle.machine_core.specs.CoreState.{core_state}
 use Rattle.machine_core.proofs.TakeLaws.{can_join, can_put, joined, taken_by, took}
 use Rattle.machine_core.proofs.machine.Core.learn.Goals as goal

@@ -1,8 +1,8 @@
-use Rattle.std.proofs.Common.{◌≡◌, ◌≤◌, ◌∙◌, ap, sym, refl, subst, lit<, length, [], ℕ, List}
+use Rattle.std.proofs.Common.{◌∙◌, ap, sym, refl, lit<, [], ℕ, List}
 use Rattle.flat_table.specs.Grids.{Rows}
 use Rattle.slot_merge.specs.declared.partial.Partial.{Partial}
 use Rattle.vert_base.specs.declared.message.NameKind.TheVariants.{Update}
-use Rattle.vert_base.specs.Letters.{Letter, letter_of}
+use Rattle.vert_base.specs.Letters.{letter_of}
 use Rattle.double_buffer.specs.Held.{Held}
 use Rattle.symple_face.specs.CoreTakes.{noted, with_update}
 use Rattle.symple_face.specs.State.{State}
@@ -41,7 +41,8 @@ invariant_of-self-clause-sound c =
     (ap (λ (h : Held). record s { held = h.letters; partials = c.add_update.new.partials.rows }) c.mark.ensures
     ∙ ap (λ (g : Rows Partial). record s { held = noted l s.held; partials = g.rows })
     (c.add_update.ensures s (record { part = refl; split = refl; partials = refl }))
-    ∙ ap (λ (body : List ℕ). record s { held = noted l s.held; partials = with_update s l.name body }) c.deref.ensures.value
+    ∙ ap (λ (body : List ℕ). record s { held = noted l s.held; partials = with_update s l.name body })
+    c.deref.ensures.value
     ∙ sym (taken_by s l Update c.requires.kind))
 
 pub invariant_of-self-clause-wide : goal.invariant_of-self-clause-wide
@@ -70,5 +71,6 @@ returns c =
     ap (λ (h : Held). record s { held = h.letters; partials = c.add_update.new.partials.rows }) c.mark.ensures
     ∙ ap (λ (g : Rows Partial). record s { held = noted l s.held; partials = g.rows })
     (c.add_update.ensures s (record { part = refl; split = refl; partials = refl }))
-    ∙ ap (λ (body : List ℕ). record s { held = noted l s.held; partials = with_update s l.name body }) c.deref.ensures.value
+    ∙ ap (λ (body : List ℕ). record s { held = noted l s.held; partials = with_update s l.name body })
+    c.deref.ensures.value
     ∙ sym (taken_by s l Update c.requires.kind)

@@ -1,4 +1,4 @@
-use Rattle.std.proofs.Common.{◌≡◌, ◌≤◌, ◌∙◌, ℕ, ap, sym, subst, length, arith}
+use Rattle.std.proofs.Common.{◌≡◌, ◌∙◌, ℕ, ap, sym, subst, length, arith}
 use Rattle.circulant_plan.specs.declared.spot.Ring.{Ring}
 use Rattle.circulant_plan.specs.declared.spot.Spot.{Spot}
 use Rattle.circulant_plan.specs.Spots.{IsSpotOf}
@@ -11,8 +11,8 @@ use Rattle.symple_face.specs.Plans.{ring_of}
 use Rattle.symple_face.specs.State.{State, machine, p_of}
 use Rattle.work_laws.specs.Sound.{core_sound}
 use Rattle.machine_core.specs.CoreState.{core_state}
-use Rattle.machine_core.specs.Going.{onward}
-use Rattle.machine_core.specs.Kept.{IsBuffer}
+use Rattle.machine_steps.specs.Going.{onward}
+use Rattle.machine_steps.specs.Kept.{IsBuffer}
 use Rattle.machine_core.proofs.GoLaws.{moved_buffer, never_first, summed_onward}
 use Rattle.machine_core.proofs.SoundLaws.{spot_of, steady}
 use Rattle.machine_core.proofs.machine.Core.move_on.Goals as goal
@@ -37,7 +37,8 @@ invariant_of-self-clause-sound c =
     c.next_spot-next.ensures
     ∙ ap (λ r. next_spot r c.machine.result self.spot self.ruling) c.ring-ring.ensures
     ∙ ap (λ k. next_spot ring k self.spot self.ruling) c.machine.ensures.number in
-    let round : c.round_of-self.result ≡ round_of (round_ruled self.round self.spot) (next_spot ring m self.spot self.ruling) =
+    let round : c.round_of-self.result ≡ round_of (round_ruled self.round self.spot)
+    (next_spot ring m self.spot self.ruling) =
     c.round_of-self.ensures
     ∙ ap (λ l. round_of l c.next_spot-next.result) c.round_ruled-last.ensures
     ∙ ap (round_of (round_ruled self.round self.spot)) next in
@@ -63,7 +64,8 @@ invariant_of-self-clause-buffer c =
     c.next_spot-next.ensures
     ∙ ap (λ r. next_spot r c.machine.result self.spot self.ruling) c.ring-ring.ensures
     ∙ ap (λ k. next_spot ring k self.spot self.ruling) c.machine.ensures.number in
-    let round : c.round_of-self.result ≡ round_of (round_ruled self.round self.spot) (next_spot ring m self.spot self.ruling) =
+    let round : c.round_of-self.result ≡ round_of (round_ruled self.round self.spot)
+    (next_spot ring m self.spot self.ruling) =
     c.round_of-self.ensures
     ∙ ap (λ l. round_of l c.next_spot-next.result) c.round_ruled-last.ensures
     ∙ ap (round_of (round_ruled self.round self.spot)) next in
@@ -87,7 +89,8 @@ invariant_of-self-clause-summed c =
     c.next_spot-next.ensures
     ∙ ap (λ r. next_spot r c.machine.result self.spot self.ruling) c.ring-ring.ensures
     ∙ ap (λ k. next_spot ring k self.spot self.ruling) c.machine.ensures.number in
-    let round : c.round_of-self.result ≡ round_of (round_ruled self.round self.spot) (next_spot ring m self.spot self.ruling) =
+    let round : c.round_of-self.result ≡ round_of (round_ruled self.round self.spot)
+    (next_spot ring m self.spot self.ruling) =
     c.round_of-self.ensures
     ∙ ap (λ l. round_of l c.next_spot-next.result) c.round_ruled-last.ensures
     ∙ ap (round_of (round_ruled self.round self.spot)) next in
@@ -108,7 +111,8 @@ invariant_of-self-clause-spare c =
     c.next_spot-next.ensures
     ∙ ap (λ r. next_spot r c.machine.result self.spot self.ruling) c.ring-ring.ensures
     ∙ ap (λ k. next_spot ring k self.spot self.ruling) c.machine.ensures.number in
-    let round : c.round_of-self.result ≡ round_of (round_ruled self.round self.spot) (next_spot ring m self.spot self.ruling) =
+    let round : c.round_of-self.result ≡ round_of (round_ruled self.round self.spot)
+    (next_spot ring m self.spot self.ruling) =
     c.round_of-self.ensures
     ∙ ap (λ l. round_of l c.next_spot-next.result) c.round_ruled-last.ensures
     ∙ ap (round_of (round_ruled self.round self.spot)) next in
@@ -127,7 +131,8 @@ returns c =
     c.next_spot-next.ensures
     ∙ ap (λ r. next_spot r c.machine.result self.spot self.ruling) c.ring-ring.ensures
     ∙ ap (λ k. next_spot ring k self.spot self.ruling) c.machine.ensures.number in
-    let round : c.round_of-self.result ≡ round_of (round_ruled self.round self.spot) (next_spot ring m self.spot self.ruling) =
+    let round : c.round_of-self.result ≡ round_of (round_ruled self.round self.spot)
+    (next_spot ring m self.spot self.ruling) =
     c.round_of-self.ensures
     ∙ ap (λ l. round_of l c.next_spot-next.result) c.round_ruled-last.ensures
     ∙ ap (round_of (round_ruled self.round self.spot)) next in

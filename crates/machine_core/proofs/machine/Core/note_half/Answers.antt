@@ -1,4 +1,4 @@
-use Rattle.std.proofs.Common.{◌≡◌, ◌≤◌, ◌∙◌, ℕ, ap, refl, sym, subst}
+use Rattle.std.proofs.Common.{◌≡◌, ◌∙◌, ℕ, ap, refl, sym, subst}
 use Rattle.circulant_plan.specs.declared.spot.Spot.TheVariants.{Scan}
 use Rattle.circulant_plan.specs.Skeleton.{is_over}
 use Rattle.double_buffer.specs.Held.{AreOfRound, Held}
@@ -6,8 +6,8 @@ use Rattle.symple_face.specs.CoreDense.{needed_dep, scan_dep, scan_read, scan_up
 use Rattle.symple_face.specs.State.{State, machine}
 use Rattle.work_laws.specs.Sound.{core_sound}
 use Rattle.machine_core.specs.CoreState.{core_state}
-use Rattle.machine_core.specs.Counts.{lists_read}
-use Rattle.machine_core.proofs.DropLaws.{emptied_of_round}
+use Rattle.machine_steps.specs.Counts.{lists_read}
+use Rattle.machine_steps.proofs.DropLaws.{emptied_of_round}
 use Rattle.machine_core.proofs.GoLaws.{round_at}
 use Rattle.machine_core.proofs.HalfActs.{read_sound, scan_low}
 use Rattle.machine_core.proofs.machine.Core.note_half.Goals as goal
@@ -27,7 +27,8 @@ drop_needed-requires c =
     let self = c.args.self.now in
     let s = core_state self in
     let low = scan_low s c.args.round c.args.step c.args.half self.sound c.requires.at in
-    let same : self.round ≡ c.args.round = round_at s (Scan c.args.round c.args.step c.args.half) self.sound c.requires.at in
+    let same : self.round ≡ c.args.round = round_at s (Scan c.args.round c.args.step c.args.half) self.sound
+    c.requires.at in
     record {
       step = low.step_low;
       half = low.half_low;
@@ -43,7 +44,8 @@ invariant_of-self-clause-sound c =
     let round = c.args.round in
     let step = c.args.step in
     let half = c.args.half in
-    let read = c.note_counts.ensures.noted s round (scan_dep s round step half) (scan_update s round step half) refl refl
+    let read = c.note_counts.ensures.noted s round (scan_dep s round step half) (scan_update s round step half) refl
+    refl
     c.requires.scanned in
     let dropped = c.drop_needed.ensures in
     let path : record s {
@@ -72,7 +74,8 @@ returns c =
     let round = c.args.round in
     let step = c.args.step in
     let half = c.args.half in
-    let read = c.note_counts.ensures.noted s round (scan_dep s round step half) (scan_update s round step half) refl refl
+    let read = c.note_counts.ensures.noted s round (scan_dep s round step half) (scan_update s round step half) refl
+    refl
     c.requires.scanned in
     let dropped = c.drop_needed.ensures in
     let path : record s {

@@ -1,4 +1,4 @@
-use Rattle.std.proofs.Common.{◌≡◌, ◌≤◌, ◌∙◌, ap, refl, arith}
+use Rattle.std.proofs.Common.{◌∙◌, ap, refl, arith}
 use Rattle.body_shape.specs.Tally.{Counted}
 use Rattle.symple_face.specs.CoreJudge.{ruling_by}
 use Rattle.machine_core.specs.CoreState.{core_state}

@@ -1,4 +1,4 @@
-use Rattle.std.proofs.Common.{◌≡◌, ◌≤◌, ◌∙◌, ◌++◌, ℕ, List, ap, length, map, refl, sym, subst, arith, ◌<◌}
+use Rattle.std.proofs.Common.{◌≡◌, ◌∙◌, ◌++◌, ℕ, List, ap, length, map, refl, sym, subst, arith, ◌<◌}
 use Rattle.std.proofs.lemmas.Bool.{eqb-true}
 use Rattle.circulant_plan.specs.declared.spot.Spot.TheVariants.{Judge, Scan}
 use Rattle.vert_base.specs.Letters.{Letter, found, letter_of}
@@ -11,8 +11,8 @@ use Rattle.symple_face.specs.CoreDense.{scan_dep, scan_go, scan_update}
 use Rattle.symple_face.specs.PartViews.{plain_of}
 use Rattle.symple_face.specs.State.{State, machine, p_of}
 use Rattle.machine_core.specs.CoreState.{core_state}
-use Rattle.machine_core.specs.Going.{half_sent}
-use Rattle.machine_core.specs.Halves.{IsHalfScan, ShowsHalf}
+use Rattle.machine_steps.specs.Going.{half_sent}
+use Rattle.machine_steps.specs.Halves.{IsHalfScan, ShowsHalf}
 use Rattle.machine_core.proofs.GoLaws.{go_from, gone_sound, round_at, sent_by}
 use Rattle.machine_core.proofs.HalfActs.{dep_fits, half_sends, read_goes, scan_low}
 use Rattle.machine_core.proofs.SoundLaws.{steady}
@@ -125,7 +125,9 @@ returns-clause-sent c =
     c.in_ok-hand.ensures.handed
     ∙ ap (λ (ls : List Letter). map letter_of c.args.out.now.items ++ ls)
     (c.in_ok-sent.ensures
-    ∙ ap (λ (us : List ℕ). half_sent s.split (p_of s) (machine s) round step half us c.in_ok-scan.scan.states.items) h.told
-    ∙ ap (λ (bs : List ℕ). half_sent s.split (p_of s) (machine s) round step half (scan_update s round step half) bs) h.dep
+    ∙ ap (λ (us : List ℕ). half_sent s.split (p_of s) (machine s) round step half us c.in_ok-scan.scan.states.items)
+    h.told
+    ∙ ap (λ (bs : List ℕ). half_sent s.split (p_of s) (machine s) round step half (scan_update s round step half) bs)
+    h.dep
     ∙ sym (half_sends s round step half c.requires.other)
     ∙ sym (sent_by s (Scan round step half) c.requires.at))

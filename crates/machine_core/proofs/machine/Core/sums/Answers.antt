@@ -1,20 +1,19 @@
-use Rattle.std.proofs.Common.{◌≡◌, ◌≤◌, ◌<◌, ◌+◌, ◌-◌, ◌*◌, ◌^◌, ◌∙◌, ℕ, List, [], ap, refl, sym, subst, length, map, arith}
+use Rattle.std.proofs.Common.{◌≡◌, ◌≤◌, ◌<◌, ◌+◌, ◌-◌, ◌∙◌, List, [], ap, sym, subst, length, map, arith}
 use Rattle.std.specs.Prelude.{sum}
 use Rattle.std.specs.List.{range_with_len}
 use Rattle.body_shape.specs.Tally.{Counted, counted_read}
 use Rattle.symple_face.specs.CoreJudge.{all_joined, counted, joined, sums_at, tally_of}
 use Rattle.symple_face.specs.CoreSight.{body_of, program_of, total_count}
 use Rattle.symple_face.specs.PartViews.{plain_of}
-use Rattle.symple_face.specs.State.{State, p_of}
-use Rattle.circulant_plan.specs.Names.{tally_name}
+use Rattle.symple_face.specs.State.{p_of}
 use Rattle.circulant_plan.specs.Table.{others_of}
 use Rattle.vert_base.specs.declared.message.Name.{Name}
 use Rattle.vert_base.specs.Letters.{found}
 use Rattle.vert_tree.specs.declared.program.Program.{Program}
 use Rattle.vert_tree.specs.declared.program.TotalDecl.{TotalDecl}
 use Rattle.machine_core.specs.CoreState.{core_state}
-use Rattle.machine_core.specs.Counts.{lists_read}
-use Rattle.machine_core.specs.Plain.{counted_of}
+use Rattle.machine_steps.specs.Counts.{lists_read}
+use Rattle.machine_steps.specs.Plain.{counted_of}
 use Rattle.machine_core.proofs.SoundLaws.{steady}
 use Rattle.machine_core.proofs.SumLaws.{AreBelow, grows, judge_low, left_first, left_from, left_more, left_none, sums_low}
 use Rattle.machine_core.proofs.machine.Core.sums.Goals as goal

@@ -2,7 +2,7 @@
 use Rattle.std.proofs.Common.{◌≡◌, length}
 use Rattle.symple_face.specs.CoreJudge.{sums_at}
 use Rattle.machine_core.specs.CoreState.{core_state}
-use Rattle.machine_core.specs.Plain.{counted_of}
+use Rattle.machine_steps.specs.Plain.{counted_of}
 use Rattle.machine_core.proofs.SumLaws.{left_from}
 use Rattle.machine_core.proofs.machine.Core.sums.Given as goal
 

@@ -1,4 +1,4 @@
-use Rattle.std.proofs.Common.{◌≡◌, ◌≤◌, ◌∙◌, ap, length, arith, lit<, vec_len}
+use Rattle.std.proofs.Common.{◌≤◌, ◌∙◌, ap, arith, lit<, vec_len}
 use Rattle.vert_tree.proofs.TypedLaws.{few_totals}
 use Rattle.vert_tree.specs.declared.program.Program.{Program}
 use Rattle.machine_core.proofs.machine.Core.totals.Goals as goal

@@ -1,4 +1,4 @@
-use Rattle.std.proofs.Common.{◌≡◌, ◌∙◌, sym, false}
+use Rattle.std.proofs.Common.{◌∙◌, sym, false}
 use Rattle.vert_base.specs.Letters.{letter_of}
 use Rattle.machine_core.specs.CoreState.{core_state}
 use Rattle.machine_core.proofs.TakeLaws.{push_by}

@@ -1,16 +1,13 @@
-use Rattle.std.proofs.Common.{◌≡◌, ◌≤◌, ◌∙◌, ap, sym, refl, subst, lit<, length, [], ℕ, List, true, arith}
+use Rattle.std.proofs.Common.{◌∙◌, ap, sym, refl, lit<, length, [], ℕ, List, true, arith}
 use Rattle.std.proofs.lemmas.Bool.{eqb-true}
-use Rattle.flat_table.specs.Grids.{Rows}
-use Rattle.slot_merge.specs.declared.partial.Partial.{Partial}
-use Rattle.vert_base.specs.declared.message.NameKind.TheVariants.{Push}
-use Rattle.vert_base.specs.Letters.{Letter, letter_of}
+use Rattle.vert_base.specs.Letters.{letter_of}
 use Rattle.double_buffer.specs.Held.{Held}
 use Rattle.symple_face.specs.CoreSparse.{told_sends, worked}
 use Rattle.symple_face.specs.CoreTakes.{noted}
 use Rattle.symple_face.specs.PartViews.{plain_of}
 use Rattle.symple_face.specs.State.{State, machine}
 use Rattle.machine_core.specs.CoreState.{core_state}
-use Rattle.machine_core.specs.Shown.{Shows}
+use Rattle.vertex_work.specs.Shown.{Shows}
 use Rattle.machine_core.proofs.SoundLaws.{steady}
 use Rattle.machine_core.proofs.TakeLaws.{can_join, can_put, joined, knows_round, push_by, push_parts, took}
 use Rattle.machine_core.proofs.TotalsLaws.{known_count}

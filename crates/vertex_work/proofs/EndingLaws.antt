@@ -1,0 +1,151 @@
+-- The end of a round at an own vertex, put together from what its steps do.
+use Rattle.std.proofs.Common.{◌≡◌, ◌≤◌, ◌<◌, ◌+◌, ◌-◌, ◌^◌, ◌++◌, ℕ, zero, suc, ℤ, Bool, true, false, List, [], ◌∷◌, drop, get_or, length, map, set, take, refl, sym, ap, subst, ◌∙◌, Option, Some, None, arith, add-one}
+use Rattle.std.specs.Prelude.{if◌then◌else◌, slice_get, unwrap_or}
+use Rattle.std.proofs.lemmas.List.{get_or_default}
+use Rattle.vert_base.specs.declared.value.Row.{Row}
+use Rattle.vert_tree.specs.declared.program.Dense.{Dense}
+use Rattle.vert_tree.specs.declared.program.Program.{Program}
+use Rattle.vert_tree.specs.declared.program.SlotDecl.{SlotDecl}
+use Rattle.vert_tree.specs.Places.{round_counts}
+use Rattle.slot_merge.specs.declared.partial.Partial.{Partial}
+use Rattle.slot_merge.specs.Combine.{Emission}
+use Rattle.slot_merge.specs.Partials.{put_word, with_emission, with_emissions}
+use Rattle.dep_layout.specs.Spelling.{State as LoopState}
+use Rattle.vert_eval.specs.declared.environment.Env.{Env}
+use Rattle.vert_eval.specs.Rounds.{no_values, row_at, updated}
+use Rattle.vert_eval.specs.Runs.{run}
+use Rattle.vert_eval.specs.Values.{CanDraw, counts_of, value_of}
+use Rattle.vert_eval.specs.Words.{is_set}
+use Rattle.vert_code.specs.declared.code.Code.{Code}
+use Rattle.vert_code.specs.declared.instr.Block.TheVariants.{UpdateBody}
+use Rattle.vert_code.specs.Blocks.{list_of}
+use Rattle.vert_code.specs.Machine.{run_code}
+use Rattle.instrument.specs.declared.split.Split.{Split}
+use Rattle.symple_face.specs.declared.degree.Degree.{Degree}
+use Rattle.symple_face.specs.CoreClose.{tail_at, tail_env}
+use Rattle.symple_face.specs.CoreScan.{told_words}
+use Rattle.symple_face.specs.CoreSight.{field_count, none, program_of, total_count}
+use Rattle.symple_face.specs.CoreTakes.{slot_count}
+use Rattle.symple_face.specs.Sight.{Sight, seen_env}
+use Rattle.machine_parts.specs.Entering.{entered}
+use Rattle.vert_eval.specs.SourceRun.{with_row}
+use Rattle.machine_parts.specs.Flat.{RowTable}
+use Rattle.machine_parts.specs.Neighbours.{no_degree}
+use Rattle.vertex_work.specs.Closing.{own_view}
+use Rattle.vertex_work.specs.Tails.{IsCodeOf, tail_slots}
+
+-- ---- the partials of the slots
+put_behind : (key at : ℕ) (word : ℤ) (p : Partial) (ps : List Partial) (o : Option Partial) →
+    put_word o key (p ∷ ps) (suc at) word ≡ p ∷ put_word o key ps at word
+put_behind key at word p ps None = refl
+put_behind key at word p ps (Some q) = refl
+
+-- a word for one of the first partials, or for none of them
+word_taken : (n key at : ℕ) (word : ℤ) (ps : List Partial) →
+    take n (put_word (slice_get ps at) key ps at word) ≡
+    put_word (slice_get (take n ps) at) key (take n ps) at word
+word_taken zero key at word [] = refl
+word_taken zero key at word (p ∷ ps) = refl
+word_taken (suc n) key at word [] = refl
+word_taken (suc n) key zero word (p ∷ ps) = refl
+word_taken (suc n) key (suc at) word (p ∷ ps) =
+    ap (take (suc n)) (put_behind key at word p ps (slice_get ps at))
+    ∙ ap (λ qs. p ∷ qs) (word_taken n key at word ps)
+    ∙ sym (put_behind key at word p (take n ps) (slice_get (take n ps) at))
+
+emissions_taken : (n key : ℕ) (es : List Emission) (ps : List Partial) →
+    with_emissions key (take n ps) es ≡ take n (with_emissions key ps es)
+emissions_taken n key [] ps = refl
+emissions_taken n key (e ∷ es) ps =
+    ap (λ qs. with_emissions key qs es) (sym (word_taken n key e.slot e.word ps))
+    ∙ emissions_taken n key es (with_emission key ps e)
+
+-- the first partials of a vertex after its tail
+pub tail_taken : (split : Split) (d : Dense) (g : Sight) (key v : ℕ) (own lets slots new : List Partial)
+    (st : LoopState) (carried : List ℤ) (env : Env) →
+    env ≡ seen_env g v key (none split) → carried ≡ unwrap_or (told_words st) [] →
+    lets ≡ drop (slot_count split) own → slots ≡ take (slot_count split) own →
+    new ≡ tail_slots d carried lets env slots → new ≡ take (slot_count split) (tail_at split d g key own st v)
+tail_taken split d g key v own lets slots new st carried env ee ec el es h =
+    let n : ℕ = slot_count split in
+    let seen : Env = seen_env g v key (none split) in
+    h
+    ∙ ap (λ e. tail_slots d carried lets e slots) ee
+    ∙ ap (λ ws. tail_slots d ws lets seen slots) ec
+    ∙ ap (λ qs. tail_slots d (unwrap_or (told_words st) []) qs seen slots) el
+    ∙ ap (tail_slots d (unwrap_or (told_words st) []) (drop n own) seen) es
+    ∙ by (is_set (value_of d.when_test seen)) (run d.tail.items (tail_env split d seen own st)).emitted
+  where
+    by : (b : Bool) (emitted : List Emission) →
+        (if b then with_emissions key (take (slot_count split) own) emitted else take (slot_count split) own) ≡
+        take (slot_count split) (if b then with_emissions key own emitted else own)
+    by true emitted = emissions_taken (slot_count split) key emitted own
+    by false emitted = refl
+
+-- ---- the environment at an own vertex
+module _ (rows : List Row) (degrees : List Degree) (start place : ℕ) where
+  back : start + place - start ≡ place
+  back = omega arith
+
+  pub view_width : (first : Env) (width : ℕ) → length (row_at rows place).words.items ≡ width →
+      length ((own_view rows degrees start first).row (start + place)).words.items ≡ width
+  view_width first width wide = ap (λ i. length (row_at rows i).words.items) back ∙ wide
+
+  pub seen_there : (first read new : Env) (values : List (Option ℤ)) (key : ℕ) (d : Degree) → place < length degrees →
+      read ≡ with_row (row_at rows place) (record first { slots = record { items = values } }) →
+      new ≡ entered (start + place) (get_or degrees place d) key read →
+      new ≡ seen_env (own_view rows degrees start first) (start + place) key values
+  seen_there first read new values key d within is h =
+      let v : ℕ = start + place in
+      let same : get_or degrees place d ≡ get_or degrees (v - start) no_degree =
+      get_or_default degrees place d no_degree within ∙ ap (λ i. get_or degrees i no_degree) (sym back) in
+      let row : row_at rows place ≡ row_at rows (v - start) = ap (row_at rows) (sym back) in
+      h ∙ ap (entered v (get_or degrees place d) key) is
+      ∙ ap (λ (x : Degree).
+      entered v x key (with_row (row_at rows place) (record first { slots = record { items = values } }))) same
+      ∙ ap (λ (r : Row). entered v (get_or degrees (v - start) no_degree) key
+      (with_row r (record first { slots = record { items = values } }))) row
+
+-- it has as many names of each kind as a round has
+pub seen_counts : (split : Split) (g : Sight) (v key : ℕ) (values : List (Option ℤ)) (env : Env) →
+    env ≡ seen_env g v key values → length (g.row v).words.items ≡ field_count split →
+    length values ≡ slot_count split → length g.totals ≡ total_count split →
+    counts_of env ≡ round_counts (program_of split)
+seen_counts split g v key values env is fields slots totals = ap counts_of is ∙ (λ j. record {
+  fields = fields j;
+  locals = 0;
+  sends = 0;
+  slots = slots j;
+  totals = totals j;
+  other_fields = fields j;
+})
+
+pub seen_draws : (g : Sight) (v key : ℕ) (values : List (Option ℤ)) (env : Env) → env ≡ seen_env g v key values →
+    g.round ≤ 10000 → v < 2 ^ 24 → CanDraw env
+seen_draws g v key values env is round low = subst CanDraw (sym is) (record { round = round; id = low })
+
+-- ---- the update
+pub update_ran : (p : Program) (code : Code) (entered left seen : Env) → IsCodeOf p code → entered ≡ seen →
+    left ≡ (run_code (list_of code UpdateBody) entered).env →
+    record left.row { active = left.next_active } ≡ updated p.update.items seen
+update_ran p code entered left seen is there h =
+    let close : Env → Row = λ e. record e.row { active = e.next_active } in
+    ap close (h ∙ ap (λ r. r.env) (is.runs UpdateBody entered) ∙ ap (λ e. (run p.update.items e).env) there)
+
+pub row_written : (t new : RowTable) (place : ℕ) (row other : Row) →
+    new ≡ record t { rows = set t.rows place row } → row ≡ other → new ≡ record t { rows = set t.rows place other }
+row_written t new place row other h is = h ∙ ap (λ r. let u : RowTable = record t { rows = set t.rows place r } in u) is
+
+-- ---- no value for one slot more
+none_next : (slots : List SlotDecl) (i : ℕ) → i < length slots →
+    no_values (map (λ s. s.op) (take (suc i) slots)) ≡ no_values (map (λ s. s.op) (take i slots)) ++ None ∷ []
+none_next [] i lt = absurd (omega arith)
+none_next (slot ∷ slots) zero lt = refl
+none_next (slot ∷ slots) (suc i) lt = ap (λ vs. None ∷ vs) (none_next slots i (omega arith))
+
+pub none_more : (slots : List SlotDecl) (i : ℕ) (values more : List (Option ℤ)) → i < length slots →
+    values ≡ no_values (map (λ s. s.op) (take i slots)) → more ≡ values ++ None ∷ [] →
+    more ≡ no_values (map (λ s. s.op) (take (i + 1) slots))
+none_more slots i values more lt so_far is =
+    is ∙ ap (λ vs. vs ++ None ∷ []) so_far ∙ sym (none_next slots i lt)
+    ∙ ap (λ k. no_values (map (λ s. s.op) (take k slots))) (sym (add-one i))

@@ -1,0 +1,10 @@
+pub mod Closing
+pub mod Firsts
+pub mod Known
+pub mod Pushing
+pub mod Received
+pub mod Receiving
+pub mod Scanning
+pub mod Shown
+pub mod Stepping
+pub mod Tails
