@@ -1,5 +1,5 @@
 -- What a machine sends at the begin of a round is what the work of a core says.
-use Rattle.std.proofs.Common.{◌≡◌, ℕ, ℤ, ◌+◌, ◌-◌, ◌<◌, ◌≤◌, Bool, true, false, Option, None, Some, List, [], ◌∷◌, ◌++◌, length, get_or, map, replicate, take, refl, sym, ap, subst, ◌∙◌, arith, length-append, zero-add}
+use Rattle.std.proofs.Common.{◌≡◌, ℕ, ℤ, ◌+◌, ◌-◌, ◌<◌, ◌≤◌, Bool, true, false, Option, None, Some, List, [], ◌∷◌, ◌++◌, length, get_or, map, replicate, take, refl, sym, ap, subst, ◌∙◌, arith, zero-add}
 use Rattle.std.specs.Prelude.{slice_index, slice_index_or}
 use Rattle.std.specs.List.{All, range_with_len}
 use Rattle.std.proofs.lemmas.List.{get_or-append_right, get_or-map, get_or_append_left, length-map, map_more, map_push, take_all}
@@ -121,15 +121,6 @@ push_silent s r k list body lacks listed is =
 
 -- ---- messages
 -- the other machines, one by one
-pub length-others_of : (p m : ℕ) → m < p → length (others_of p m) ≡ p - 1
-length-others_of p m lt =
-    omega (
-      arith,
-      length-append (range_with_len 0 m) (range_with_len (m + 1) (p - 1 - m)),
-      length-range_with_len 0 m,
-      length-range_with_len (m + 1) (p - 1 - m),
-    )
-
 pub other_below : (p m k : ℕ) → k < m → slice_index (others_of p m) k ≡ k
 other_below p m k lt =
     get_or_append_left (range_with_len 0 m) (range_with_len (m + 1) (p - 1 - m)) 0 k

@@ -37,18 +37,14 @@ use Rattle.machine_parts.proofs.TargetLaws.{targets_are_told}
 use Rattle.machine_parts.proofs.UpdateLaws.{StandOnce, stand_once}
 use Rattle.machine_steps.specs.Halves.{AreMirrors}
 use Rattle.vertex_work.specs.Known.{AreDegreesOf}
+use Rattle.vertex_work.proofs.MergeLaws.{range_up}
 use Rattle.vertex_work.specs.Scanning.{ShowsMirrors}
 
 -- ---- lists
-range_up : (n : ℕ) → IsStrictlyIncreasing (range_with_len 0 n)
-range_up n k lt =
-    let inside : k + 1 < n = omega (arith, length-range_with_len 0 n) in
-    omega (arith, get_or-range_with_len 0 n k 0 (omega arith), get_or-range_with_len 0 n (k + 1) 0 inside)
-
 -- the ends of edges ascend
 pub ends_rise : (end : Edge → ℕ) (n : ℕ) (edges : List Edge) → IsStrictlyIncreasing (ends_met end n edges)
 ends_rise end n edges =
-    IsStrictlyIncreasing-filter (λ v. list_any (λ e. end e == v) edges) (range_with_len 0 n) (range_up n)
+    IsStrictlyIncreasing-filter (λ v. list_any (λ e. end e == v) edges) (range_with_len 0 n) (range_up 0 n)
 
 -- what stands beside a vertex that comes first at a place
 beside_at : {X : Type 0} (d : X) (us : List ℕ) (xs : List X) (k v : ℕ) → k < length us → get_or us k 0 ≡ v →

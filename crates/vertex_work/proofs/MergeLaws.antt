@@ -38,7 +38,8 @@ none_pass : (xs : List ℕ) → [] ≡ filter (λ v. false) xs
 none_pass [] = refl
 none_pass (x ∷ xs) = none_pass xs
 
-range_up : (a n : ℕ) → IsStrictlyIncreasing (range_with_len a n)
+-- a range ascends
+pub range_up : (a n : ℕ) → IsStrictlyIncreasing (range_with_len a n)
 range_up a n k lt =
     let inside : k + 1 < n = omega (arith, length-range_with_len a n) in
     omega (arith, get_or-range_with_len a n k 0 (omega arith), get_or-range_with_len a n (k + 1) 0 inside)
