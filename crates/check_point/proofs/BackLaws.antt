@@ -7,7 +7,7 @@ use Rattle.std.specs.List.{All, AllByRecursion, list_all}
 use Rattle.std.proofs.lemmas.Bool.{and_parts, eqb-true}
 use Rattle.std.proofs.lemmas.List.{drop-append-le, drop_at, get_or-drop, length-drop, length-map, take-append-le, take_at}
 use Rattle.std.proofs.lemmas.List.Elements.{All-head, All-tail, recursion_from_All}
-use Rattle.std.proofs.lemmas.Nat.{from_le_bytes-to_le_bytes_4, from_le_bytes-to_le_bytes_8}
+use Rattle.std.proofs.lemmas.Nat.{from_le_bytes-to_le_bytes_8}
 use Rattle.sha2.specs.Sha256.{sha256}
 use Rattle.sha2.proofs.Facts256.{length-sha256}
 use Rattle.vert_base.specs.HeaderBytes.{four_bytes, number_of_four}
@@ -40,6 +40,7 @@ use Rattle.check_point.specs.Images.{front_bytes, head_in, image_bytes}
 use Rattle.check_point.specs.Judgement.{is_mode, row_bits}
 use Rattle.check_point.specs.Laws.{ImageReadsBack}
 use Rattle.check_point.proofs.ReadyLaws.{GoesOn, bits_of, on_goes_head}
+use Rattle.state_laws.proofs.Words.{four_back}
 
 -- ---- parts of bytes
 -- what stands behind a front, and a piece that stands there
@@ -55,10 +56,6 @@ piece_at front piece behind bytes i n e long size =
 pub length-four : (n : ℕ) → length (four_bytes n) ≡ 4
 unfolding four_bytes
 length-four n = refl
-
-pub four_back : (n : ℕ) → n < 2 ^ 32 → number_of_four (four_bytes n) ≡ n
-unfolding four_bytes number_of_four
-four_back n below = from_le_bytes-to_le_bytes_4 n below
 
 pub length-eight : (n : ℕ) → length (number_bytes n) ≡ 8
 unfolding number_bytes

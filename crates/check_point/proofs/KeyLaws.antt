@@ -7,7 +7,8 @@ use Rattle.body_shape.specs.Fit.{number_of}
 use Rattle.body_shape.specs.Tally.{number_bytes}
 use Rattle.check_point.specs.Keys.{Keyed, KeysTell, bytes_of_key, counted_bytes}
 use Rattle.check_point.specs.Keys.{KeysTell}
-use Rattle.check_point.proofs.BackLaws.{eight_back, four_back, length-eight, length-four}
+use Rattle.check_point.proofs.BackLaws.{eight_back, length-eight, length-four}
+use Rattle.state_laws.proofs.Words.{four_back}
 
 -- fronts of one length in front of the same
 same_fronts : (a b x y : List ℕ) (n : ℕ) → length a ≡ n → length b ≡ n → a ++ x ≡ b ++ y → (a ≡ b) × (x ≡ y)

@@ -5,7 +5,7 @@ use Rattle.std.specs.List.{list_all}
 use Rattle.std.proofs.lemmas.Bool.{and_from, eq-eqb}
 use Rattle.std.proofs.lemmas.List.{drop-drop, drop_more, length-drop, length-map, length-take-le, take-append-drop, take_at}
 use Rattle.std.proofs.lemmas.List.Elements.{All-drop, All-take}
-use Rattle.std.proofs.lemmas.Nat.{le_bytes_4, le_bytes_8}
+use Rattle.std.proofs.lemmas.Nat.{le_bytes_8}
 use Rattle.sha2.specs.Sha256.{sha256}
 use Rattle.vert_base.specs.HeaderBytes.{four_bytes, number_of_four}
 use Rattle.dep_layout.specs.Laws.{AreBytes}
@@ -30,6 +30,7 @@ use Rattle.check_point.specs.Laws.{StartIsSpelled, told_start}
 use Rattle.check_point.proofs.BackLaws.{rows_front}
 use Rattle.check_point.proofs.ReadLaws.{rows_count}
 use Rattle.check_point.proofs.ReadyLaws.{GoesOn, head_goes_on}
+use Rattle.state_laws.proofs.Words.{four_again}
 
 -- ---- the pieces of bytes, joined again
 piece : (width place : ℕ) (bytes : List ℕ) → take width (drop place bytes) ++ drop (place + width) bytes
@@ -43,10 +44,6 @@ length-piece : (width place : ℕ) (bytes : List ℕ) → place + width ≤ leng
 length-piece width place bytes room =
     length-take-le width (drop place bytes) (omega (arith, length-drop place bytes, room))
 
-bytes_of_four : (bytes : List ℕ) → length bytes ≡ 4 → AreBelow bytes → four_bytes (number_of_four bytes) ≡ bytes
-unfolding four_bytes number_of_four
-bytes_of_four bytes count fits = le_bytes_4 bytes _ count fits refl
-
 bytes_of_eight : (bytes : List ℕ) → length bytes ≡ 8 → AreBelow bytes → number_bytes (number_of bytes) ≡ bytes
 unfolding number_bytes number_of
 bytes_of_eight bytes count fits = le_bytes_8 bytes _ count fits refl
@@ -55,7 +52,7 @@ four_piece : (place : ℕ) (bytes : List ℕ) → place + 4 ≤ length bytes →
     four_bytes (number_of_four (take 4 (drop place bytes))) ++ drop (place + 4) bytes ≡ drop place bytes
 four_piece place bytes room fits =
     ap (λ four. four ++ drop (place + 4) bytes)
-    (bytes_of_four (take 4 (drop place bytes)) (length-piece 4 place bytes room)
+    (four_again (take 4 (drop place bytes)) (length-piece 4 place bytes room)
     (take_below 4 (drop place bytes) (drop_below place bytes fits)))
     ∙ piece 4 place bytes
 

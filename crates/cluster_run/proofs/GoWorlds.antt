@@ -20,7 +20,7 @@ use Rattle.circulant_plan.specs.Runs.{IsReached, judged_round}
 use Rattle.circulant_plan.specs.Skeleton.{Skeleton, Blocks, acting_ruling, can_go, has_name, is_over, is_ready, is_possible, may_rule, rules_rightly, ruling_in, rulings_after, step_of}
 use Rattle.circulant_plan.specs.Skeleton as plan
 use Rattle.circulant_plan.specs.Standing.{Standing, round_of, round_ruled, next_standing, standing_at}
-use Rattle.circulant_plan.specs.Table.{after_judge, needs_of, gives_of, next_spot}
+use Rattle.circulant_plan.specs.Table.{needs_of, gives_of, next_spot}
 use Rattle.circulant_plan.proofs.Members.{Has, has_right}
 use Rattle.circulant_plan.proofs.NameLists.{Once, has_from_name}
 use Rattle.circulant_plan.proofs.StandingLaws.{not_zero}
@@ -40,12 +40,15 @@ use Rattle.symple_face.specs.Shapes.{shape_of}
 use Rattle.symple_face.specs.State.{State, action_of, p_of, ruling_read}
 use Rattle.symple_face.specs.Work.{Work}
 use Rattle.cluster_run.specs.Sends.{AreNew}
-use Rattle.cluster_run.proofs.Letters.{all_placed_ascends, all_placed_is, all_placed_length, are_new, has_all_placed, has_letter, name_append, names_of, once_from_each}
+use Rattle.cluster_run.proofs.Letters.{all_placed_ascends, all_placed_is, all_placed_length, are_new, has_all_placed, has_letter, names_of, once_from_each}
 use Rattle.cluster_run.proofs.Onward.{begins, ends, onward, stays}
 use Rattle.cluster_run.proofs.PartsAt.{fits_along}
 use Rattle.cluster_run.proofs.Sites.{same, other, map_set, set_cases, set_length}
 use Rattle.cluster_run.proofs.Tables.{ActsAlike, acts_alike, gift_from, rules_by, stays_by, zero_begins}
-use Rattle.cluster_run.proofs.Worlds.{FitsAt, IsMachine, IsSkeletonOf, Knows, is_for, it_is, it_keeps, it_stands, knows_judged, ready_goes, ready_going, ready_holds}
+use Rattle.cluster_run.proofs.Worlds.{IsMachine, IsSkeletonOf, Knows, is_for, it_is, it_keeps, it_stands, knows_judged, ready_goes, ready_going, ready_holds}
+use Rattle.state_laws.proofs.Letters.{name_append}
+use Rattle.state_laws.proofs.Rulings.{judged_on}
+use Rattle.state_laws.specs.Letters.{FitsForm}
 
 is_ready_action : (a : Action) → cluster.is_ready a ≡ true → a ≡ action.Ready
 is_ready_action action.Ready e = refl
@@ -90,15 +93,10 @@ once_apart xs ys once x late =
 pub same_from : (a b : ℕ) → (a == b) ≡ true → a ≡ b
 same_from a b e = grind (arith, nat_tests)
 
-judge_on : (r : ℕ) (a : Ruling) → round_of (r + 1) (after_judge r a) ≡ r + 1
-judge_on r Stop = refl
-judge_on r Dense = refl
-judge_on r Sparse = refl
-
 judge_round : (ring : Ring) (m : ℕ) (a : Ruling) (s : Standing) (r : ℕ) → s.spot ≡ Judge r →
     (next_standing ring m a s).round ≡ r + 1
 judge_round ring m a s r at = ap (λ spot. round_of (round_ruled s.round spot) (next_spot ring m spot a)) at
-    ∙ judge_on r a
+    ∙ judged_on r a
 
 pub ruling_back : (a : Ruling) → ruling_with (ruling_byte a) ≡ a
 ruling_back Stop = refl
@@ -368,7 +366,7 @@ module _ (work : Work) (sound : State → Type 0) (lawful : IsLawful work sound)
   sent_from l h = subst (λ xs. Has xs l.name) sent_are (has_its_name (work.sent s) l h)
 
   gone_fit : (x : Name) (l : Letter) → found x gone.under_way ≡ Some l →
-      (part : PlainPart) → slice_get parts x.to ≡ Some part → FitsAt split part l
+      (part : PlainPart) → slice_get parts x.to ≡ Some part → FitsForm split part l
   gone_fit x l e part to =
       ⊎_elim
       (λ (old : found x w.under_way ≡ Some l). tied.fit x l old part to)

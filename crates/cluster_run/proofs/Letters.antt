@@ -1,9 +1,8 @@
 -- Letters put among others, and their names.
-use Rattle.std.proofs.Common.{◌≡◌, ◌⊎◌, suc, ◌+◌, Bool, true, false, ◌||◌, ◌&&◌, not, List, [], ◌∷◌, ◌++◌, length, map, Option, Some, None, refl, ap, sym, ◌∙◌, subst, inl, inr, arith, ⊎_elim}
+use Rattle.std.proofs.Common.{◌≡◌, ◌⊎◌, suc, ◌+◌, Bool, true, false, ◌||◌, ◌&&◌, not, List, [], ◌∷◌, length, map, Option, Some, None, refl, ap, sym, ◌∙◌, subst, inl, inr, arith, ⊎_elim}
 use Rattle.std.specs.Prelude.{if◌then◌else◌, is_some}
 use Rattle.std.specs.List.{AllByRecursion}
-use Rattle.std.proofs.Math.Bool.{or_assoc}
-use Rattle.std.proofs.lemmas.Bool.{false≢true, and_parts, and_from, cases_Bool, not-true, not_from_false, or_from}
+use Rattle.std.proofs.lemmas.Bool.{false≢true, and_parts, and_from, not-true, not_from_false, or_from}
 use Rattle.vert_base.specs.declared.message.Name.{Name}
 use Rattle.vert_base.specs.Names.{is_before, same_name}
 use Rattle.vert_base.specs.Letters.{Letter, found, placed, without, Ascends}
@@ -18,6 +17,8 @@ use Rattle.circulant_plan.specs.Choosing.{names_in_order}
 use Rattle.symple_face.specs.Cluster.{all_placed}
 use Rattle.skeleton_laws.proofs.LeastLaws.{same_bool}
 use Rattle.cluster_run.specs.Sends.{AreNew}
+use Rattle.state_laws.proofs.Options.{none_found, some_if}
+use Rattle.state_laws.proofs.Letters.{apart_names}
 
 pub same_swap : (a b : Name) → same_name a b ≡ same_name b a
 same_swap a b =
@@ -31,10 +32,6 @@ names_of ls = map (λ l. l.name) ls
 -- whether a name is found
 abbrev pub has_letter : Name → List Letter → Bool
 has_letter x ms = is_some (found x ms)
-
-some_if : (b : Bool) (l : Letter) (rest : Option Letter) → is_some (if b then Some l else rest) ≡ (b || is_some rest)
-some_if true l rest = refl
-some_if false l rest = refl
 
 pub has_placed : (x : Name) (l : Letter) (ms : List Letter) →
     has_letter x (placed l ms) ≡ (same_name x l.name || has_letter x ms)
@@ -66,16 +63,8 @@ has_all_placed x (l ∷ ls) ms =
     ∙ ap (λ b. has_name x (names_of ls) || b) (has_placed x l ms)
     ∙ none_or (same_name x l.name) (has_name x (names_of ls)) (has_letter x ms)
 
-none_found : (o : Option Letter) → is_some o ≡ false → o ≡ None
-none_found None e = refl
-none_found (Some l) e = absurd (false≢true (sym e))
-
 pub not_found : (x : Name) (ms : List Letter) → has_letter x ms ≡ false → found x ms ≡ None
 not_found x ms e = none_found (found x ms) e
-
-pub not_same_names : (x y : Name) → (x ≡ y → ⊥) → same_name x y ≡ false
-not_same_names x y differ = ⊎_elim (λ (e : same_name x y ≡ true). absurd (differ (names_law x y e)))
-    (λ (e : same_name x y ≡ false). e) (cases_Bool (same_name x y))
 
 pub are_new : (ls ms : List Letter) → Once (names_of ls) →
     ((x : Name) → Has (names_of ls) x → has_letter x ms ≡ false) → AreNew ls ms
@@ -84,7 +73,7 @@ are_new (l ∷ ls) ms once apart = (
   not_found l.name ms (apart l.name (inl refl)),
   are_new ls (placed l ms) once.1
       (λ x h. has_placed x l ms ∙ or_from (same_name x l.name) (has_letter x ms)
-      (not_same_names x l.name (λ e. once.0 (subst (λ y. Has (names_of ls) y) e h))) (apart x (inr h))),
+      (apart_names x l.name (λ e. once.0 (subst (λ y. Has (names_of ls) y) e h))) (apart x (inr h))),
 )
 
 pub all_placed_ascends : (ls ms : List Letter) → Ascends ms → AreNew ls ms → Ascends (all_placed ls ms)
@@ -147,7 +136,7 @@ name_but_for x y xs =
     (λ h.
     let c = has_but_cases x y xs (has_from_name y (but_for x xs) h) in
     and_from (not (same_name x y)) (has_name y xs)
-    (not_from_false (same_name x y) (not_same_names x y (λ e. c.1 (sym e)))) (name_from_has y xs c.0))
+    (not_from_false (same_name x y) (apart_names x y (λ e. c.1 (sym e)))) (name_from_has y xs c.0))
     (λ h.
     let parts = and_parts (not (same_name x y)) (has_name y xs) h in
     ⊎_elim
@@ -188,8 +177,3 @@ ordered_names xs ms rise same =
 pub once_from_each : (xs : List Name) → EachOnce xs → Once xs
 once_from_each [] once = tt
 once_from_each (x ∷ xs) once = ((λ h. once.0 (contains_from_has xs x h)), once_from_each xs once.1)
-
-pub name_append : (x : Name) (xs ys : List Name) → has_name x (xs ++ ys) ≡ (has_name x xs || has_name x ys)
-name_append x [] ys = refl
-name_append x (y ∷ xs) ys = ap (λ b. same_name x y || b) (name_append x xs ys)
-    ∙ sym (or_assoc (same_name x y) (has_name x xs) (has_name x ys))

@@ -1,5 +1,5 @@
 -- Each reached world stands as a reached skeleton does; so what holds of the order of events holds of it.
-use Rattle.std.proofs.Common.{◌≡◌, ℕ, ◌≤◌, true, List, [], ◌∷◌, length, Option, Some, None, refl, ap, sym, ◌∙◌, subst, slice_get}
+use Rattle.std.proofs.Common.{◌≡◌, ℕ, ◌≤◌, true, List, [], ◌∷◌, length, Option, Some, None, refl, sym, subst, slice_get}
 use Rattle.std.specs.Prelude.{is_some}
 use Rattle.std.specs.List.{All}
 use Rattle.std.proofs.lemmas.Bool.{false≢true, and_parts}
@@ -31,9 +31,6 @@ pub record IsTied (sound : State → Type 0) (split : Split) (parts : List Plain
   pub k : Skeleton
   pub reached : IsReached (ring_of split (length parts)) (blocks_of split) k
   pub alike : IsSkeletonOf sound split parts w k
-
-no_act : {X : Type 0} → (o : Option State) → o ≡ None → can_act o ≡ true → X
-no_act o none can = absurd (false≢true (ap can_act (sym none) ∙ can))
 
 module _ (work : Work) (sound : State → Type 0) (lawful : IsLawful work sound) (split : Split)
     (parts : List PlainPart) (one : IsOneRun parts) where

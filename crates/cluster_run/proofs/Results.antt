@@ -34,6 +34,7 @@ use Rattle.cluster_run.proofs.ReachedWorlds.{IsTied, reached_ties}
 use Rattle.cluster_run.proofs.Sites.{map_get_back}
 use Rattle.cluster_run.proofs.TakeWorlds as take
 use Rattle.cluster_run.proofs.Worlds.{goes_ready}
+use Rattle.state_laws.proofs.Options.{some_of}
 
 -- ---- lists of events with one more
 after_more : (work : Work) (w : World) (es : List Event) (e : Event) →
@@ -64,11 +65,7 @@ steps_on work sound w e r can = record {
   here = ap (λ v. step work v e) r.here ∙ sym (after_more work r.first r.events e);
 }
 
-some_found : (o : Option Letter) → is_some o ≡ true → (l : Letter) × (o ≡ Some l)
-some_found None e = absurd (false≢true e)
-some_found (Some l) e = (l, refl)
-
-some_site : (o : Option State) → can_act o ≡ true → (s : State) × (o ≡ Some s)
+pub some_site : (o : Option State) → can_act o ≡ true → (s : State) × (o ≡ Some s)
 some_site None e = absurd (false≢true e)
 some_site (Some s) e = (s, refl)
 
@@ -250,4 +247,4 @@ module _ (work : Work) (sound : State → Type 0) (lawful : IsLawful work sound)
       let it = some_site (slice_get w.sites m) can in
       subst (λ o. events_left (cluster.go_at work w m o) < events_left w) (sym it.1)
       (go_nearer m it.0 it.1 (subst (λ o. can_act o ≡ true) it.1 can))
-  reached_nearer (Take x) can = let l = some_found (found x w.under_way) can in take_nearer x l.0 l.1
+  reached_nearer (Take x) can = let l = some_of (found x w.under_way) can in take_nearer x l.0 l.1

@@ -7,7 +7,7 @@ use Rattle.vert_base.specs.declared.message.NameKind.{NameKind}
 use Rattle.vert_base.specs.declared.message.NameKind.TheVariants.{Refresh, Dep, Update, Push, Tally, Verdict}
 use Rattle.vert_base.specs.declared.message.Event.TheVariants.{Take}
 use Rattle.vert_base.specs.declared.value.Ruling.{Ruling}
-use Rattle.vert_base.specs.declared.value.Ruling.TheVariants.{Stop, Dense, Sparse}
+use Rattle.vert_base.specs.declared.value.Ruling.TheVariants.{Stop}
 use Rattle.vert_base.specs.Letters.{Letter, found, without}
 use Rattle.vert_base.specs.Names.{same_name}
 use Rattle.vert_base.proofs.LetterLaws.{found_name, names_law, without_ascends}
@@ -30,20 +30,12 @@ use Rattle.symple_face.specs.State.{State, machine, ruling_read, shape_at}
 use Rattle.symple_face.specs.State as face
 use Rattle.symple_face.specs.Work.{Work}
 use Rattle.cluster_run.proofs.GoWorlds.{same_from}
-use Rattle.cluster_run.proofs.Letters.{has_letter, has_without, length_without, name_but_for, not_found, not_same_names, once_from_each, same_swap, without_is}
+use Rattle.cluster_run.proofs.Letters.{has_letter, has_without, length_without, name_but_for, not_found, once_from_each, same_swap, without_is}
 use Rattle.cluster_run.proofs.Sites.{map_get_back, map_set, other, same, set_cases, set_length}
 use Rattle.skeleton_laws.proofs.RoundLaws.{kind_cases}
 use Rattle.cluster_run.proofs.Worlds.{IsMachine, IsSkeletonOf, Knows, is_for, is_for_it}
-
-taken_round : (kind : NameKind) (a : Ruling) (s : Standing) → (standing_taken kind a s).round ≡ s.round
-taken_round Refresh a s = refl
-taken_round Dep a s = refl
-taken_round Update a s = refl
-taken_round Push a s = refl
-taken_round Tally a s = refl
-taken_round Verdict Stop s = refl
-taken_round Verdict Dense s = refl
-taken_round Verdict Sparse s = refl
+use Rattle.state_laws.proofs.Letters.{apart_names}
+use Rattle.state_laws.proofs.Rulings.{taken_round}
 
 -- a taken ruling counts for a verdict alone
 taken_alike : (kind : NameKind) (a b : Ruling) (s : Standing) → (kind ≡ Verdict → a ≡ b) →
@@ -203,7 +195,7 @@ module _ (work : Work) (sound : State → Type 0) (lawful : IsLawful work sound)
           let told_here : has_letter v (work.take s l).held ≡ true =
           subst (λ r. has_letter (verdict_name r x.to) (work.take s l).held ≡ true) next_round told in
           let other_name : same_name v x ≡ false =
-          not_same_names v x (λ e. not_one (ap (λ (y : Name). y.kind) named ∙ sym (ap (λ (y : Name). y.kind) e))) in
+          apart_names v x (λ e. not_one (ap (λ (y : Name). y.kind) named ∙ sym (ap (λ (y : Name). y.kind) e))) in
           inr (sym (holds v ∙ ap (λ b. b || has_letter v s.held) other_name) ∙ told_here)
 
   gone_machines : (j : ℕ) (t : State) → slice_get gone.sites j ≡ Some t → IsMachine sound split parts j t

@@ -19,20 +19,18 @@ use Rattle.circulant_plan.proofs.Members.{Has}
 use Rattle.skeleton_laws.specs.Laws.{IsStandingOf}
 use Rattle.skeleton_laws.proofs.OrderLaws.{each_stands, each_was_taken}
 use Rattle.instrument.specs.declared.split.Split.{Split}
-use Rattle.body_shape.specs.declared.shape.BodyShape.{BodyShape}
-use Rattle.body_shape.specs.Fit.{is_fit}
 use Rattle.symple_face.specs.declared.action.Action.TheVariants as action
 use Rattle.symple_face.specs.Cluster.{World, can_act, possible}
 use Rattle.symple_face.specs.Cluster as cluster
 use Rattle.symple_face.specs.Lawful.{IsLawful}
 use Rattle.symple_face.specs.Parts.{PlainPart}
 use Rattle.symple_face.specs.Plans.{blocks_of, ring_of}
-use Rattle.symple_face.specs.Shapes.{shape_of}
 use Rattle.symple_face.specs.State.{State, first_missing, machine, needs, p_of, ruling_read, waiting_for}
 use Rattle.symple_face.specs.Work.{Work}
 use Rattle.cluster_run.proofs.Letters.{has_letter}
 use Rattle.cluster_run.proofs.Sites.{map_get}
 use Rattle.cluster_run.proofs.Tables.{need_here}
+use Rattle.state_laws.specs.Letters.{FitsForm}
 
 -- machine m of a run, with its part and its program
 pub record IsMachine (sound : State → Type 0) (split : Split) (parts : List PlainPart) (m : ℕ) (s : State) : Type 0
@@ -46,10 +44,6 @@ pub record IsMachine (sound : State → Type 0) (split : Split) (parts : List Pl
 -- a machine that isn't over knows the ruling of its round: machine 0 from round 1 on, another by its verdict
 abbrev pub Knows : ℕ → State → Type 0
 Knows m s = ((m ≡ 0) × (1 ≤ s.at.round)) ⊎ (has_letter (verdict_name s.at.round m) s.held ≡ true)
-
--- a message has a form at its receiver, which its body fits
-abbrev pub FitsAt : Split → PlainPart → Letter → Type 0
-FitsAt split part l = (shape : BodyShape) × (shape_of split part l.name ≡ Some shape) × (is_fit shape l.body ≡ true)
 
 -- whether a name is one of messages for machine m in a round
 abbrev pub is_for : ℕ → ℕ → Name → Bool
@@ -69,7 +63,7 @@ pub record IsSkeletonOf (sound : State → Type 0) (split : Split) (parts : List
   pub as_many : length w.under_way ≡ length k.under_way
   pub ascends : Ascends w.under_way
   pub fit : (x : Name) (l : Letter) → found x w.under_way ≡ Some l →
-      (part : PlainPart) → slice_get parts x.to ≡ Some part → FitsAt split part l
+      (part : PlainPart) → slice_get parts x.to ≡ Some part → FitsForm split part l
   pub verdicts : (x : Name) (l : Letter) → found x w.under_way ≡ Some l → x.kind ≡ Verdict →
       ruling_read l.body ≡ ruling_in k.rulings x.round
 
@@ -151,7 +145,8 @@ module _ (work : Work) (sound : State → Type 0) (lawful : IsLawful work sound)
       ∙ ap (λ q. needs_of (ring_of q (length parts)) m s.at.spot) it_is.split_is
 
   -- what it needs it holds where it was taken
-  pub holds_need : is_over s.at.spot ≡ false → (x : Name) → Has (needs_of (ring_of split (length parts)) m s.at.spot) x →
+  pub holds_need : is_over s.at.spot ≡ false → (x : Name) →
+      Has (needs_of (ring_of split (length parts)) m s.at.spot) x →
       has_letter x s.held ≡ has_name x k.taken
   holds_need going x h =
       let n = need_here (ring_of split (length parts)) m (ruling_in k.rulings s.at.round) s.at.spot x it_keeps.machine

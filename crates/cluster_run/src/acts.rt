@@ -53,9 +53,12 @@ pub(crate) fn go_site<S: Site>(
         action_of s ≡ Ready }
     requires room { (s : State) → slice_get (map S.state sites.old.items) machine ≡ Some s →
         CanSend (S.work.sent s) flight.old }
-    ensures sites { OnOk result ((s : State) → slice_get (map S.state sites.old.items) machine ≡ Some s
-        → map S.state sites.new.items ≡ slice_set (map S.state sites.old.items) machine (S.work.go s)) }
-    ensures flight { OnOk result ((s : State) → slice_get (map S.state sites.old.items) machine ≡ Some s
+    ensures sites { OnOk result ((s : State)
+        → slice_get (map S.state sites.old.items) machine ≡ Some s
+        → map S.state sites.new.items
+        ≡ slice_set (map S.state sites.old.items) machine (S.work.go s)) }
+    ensures flight { OnOk result ((s : State)
+        → slice_get (map S.state sites.old.items) machine ≡ Some s
         → flight.new ≡ all_placed (S.work.sent s) flight.old) }
     ensures none { OnOk result (out.new.items ≡ []) }
     ensures flags { OnOk result (ready.new.items ≡ flags_of S.state sites.new.items) }
@@ -71,11 +74,13 @@ pub(crate) fn go_site<S: Site>(
 pub(crate) fn take_site<S: Site>(sites: &mut Vec<S>, ready: &mut Vec<bool>, message: Message)
     requires within { message.name.to < length sites.old.items }
     requires flags { ready.old.items ≡ flags_of S.state sites.old.items }
-    requires takeable { (s : State) → slice_get (map S.state sites.old.items) message.name.to ≡ Some s
+    requires takeable { (s : State)
+        → slice_get (map S.state sites.old.items) message.name.to ≡ Some s
         → IsTakeable s (letter_of message) }
     ensures sites { (s : State) → slice_get (map S.state sites.old.items) message.name.to ≡ Some s
         → map S.state sites.new.items
-        ≡ slice_set (map S.state sites.old.items) message.name.to (S.work.take s (letter_of message)) }
+        ≡ slice_set (map S.state sites.old.items) message.name.to
+        (S.work.take s (letter_of message)) }
     ensures flags { ready.new.items ≡ flags_of S.state sites.new.items }
 {
     let receiver = usize::from(message.name.to);

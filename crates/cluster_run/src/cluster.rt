@@ -93,7 +93,8 @@ impl<S: Site, const CAP: usize> Cluster<S, CAP> {
     fn go(&mut self, machine: u8) -> Result<(), EventFault>
         requires on { self.old.ended ≡ false }
         ensures ok { OnOk result ((event_fault self.old.world (Go machine) ≡ None)
-            × (self.new ≡ record { world = step S.work self.old.world (Go machine); ended = false })) }
+            × (self.new
+            ≡ record { world = step S.work self.old.world (Go machine); ended = false })) }
         ensures refused { IfErr result (λ fault. fault ≢ Want
             → (event_fault self.old.world (Go machine) ≡ Some fault) × (self.new ≡ self.old)) }
         ensures want { IfErr result (λ fault. fault ≡ Want → self.new.ended ≡ true) }
@@ -126,7 +127,8 @@ impl<S: Site, const CAP: usize> Cluster<S, CAP> {
     fn take(&mut self, name: &Name) -> Result<(), EventFault>
         requires on { self.old.ended ≡ false }
         ensures ok { OnOk result ((event_fault self.old.world (Take name.now) ≡ None)
-            × (self.new ≡ record { world = step S.work self.old.world (Take name.now); ended = false })) }
+            × (self.new
+            ≡ record { world = step S.work self.old.world (Take name.now); ended = false })) }
         ensures refused { IfErr result (λ fault. (fault ≢ Want)
             × (event_fault self.old.world (Take name.now) ≡ Some fault) × (self.new ≡ self.old)) }
         ensures nearer { OnOk result (events_left self.new.world < events_left self.old.world) }

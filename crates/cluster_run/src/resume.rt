@@ -39,7 +39,8 @@ impl<S: Restart, const CAP: usize> Cluster<S, CAP> {
             (plain_start start.now)) parts.items }
         ensures { (split : Split) → All (λ part. part.split.value ≡ split) parts.items
             → IfOk result (λ cluster. cluster ≡ record {
-              world = restarted_world S.work split (map plain_of parts.items) (plain_start start.now);
+              world = restarted_world S.work split (map plain_of parts.items)
+                  (plain_start start.now);
               ended = false;
             }) }
     {

@@ -46,8 +46,10 @@ module _ (courses : Task → Course → Type 0) where
     inl is,
     part_of_longer w.out.bytes new.out.bytes text (course_text rest) fails.part,
   )
-  course_stands (Prints text rest) calm w new outcome (WantsAtPut wants) = none_put w new outcome (Prints text rest) wants
-  course_stands (Keeps name bytes rest) calm w new outcome (Stored leaves) = course_stands rest calm _ new outcome leaves
+  course_stands (Prints text rest) calm w new outcome (WantsAtPut wants) = none_put w new outcome (Prints text rest)
+      wants
+  course_stands (Keeps name bytes rest) calm w new outcome (Stored leaves) = course_stands rest calm _ new outcome
+      leaves
   course_stands (Keeps name bytes rest) calm w new outcome (NotStored fails same is) =
       let P : Option (List ℕ) → Type 0 = λ now. GainedPart w.out.bytes now (course_text rest) in
       inr (inl is, subst P (sym (ap (λ (o : Outside). o.out.bytes) same)) (no_part w.out.bytes (course_text rest)))

@@ -79,7 +79,8 @@ module _ (courses : Task → Course → Type 0) (files : List File) (input : Opt
     pub ends_alike : (course other : Course) → TakesNothing course → TakesNothing other →
         course_end course ≡ course_end other → Comes courses (follows course) files input outcome →
         Must courses (follows other) files input outcome
-    ends_alike course other calm quiet same comes = must_come_to other quiet files (comes_to course calm files comes ∙ same)
+    ends_alike course other calm quiet same comes = must_come_to other quiet files (comes_to course calm files comes
+        ∙ same)
 
 module _ (courses : Task → Course → Type 0) (are : AreCourses courses) where
   -- ---- what a line stores

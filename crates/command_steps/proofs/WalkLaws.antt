@@ -78,12 +78,14 @@ module _ (courses : Task → Course → Type 0) where
       (has : HasBoth old new name form of typed graph)
       (next : List ℕ → Program → List ℕ → Graph → Order) (out : Held) (input : Left) (after : Outside)
       (outcome : Option Fault) →
-      Leaves courses (next has.has_program.text typed.program has.has_graph.bytes graph) (outside new out input) after outcome →
+      Leaves courses (next has.has_program.text typed.program has.has_graph.bytes graph) (outside new out input) after
+      outcome →
       Leaves courses (with_both name form of next) (outside old out input) after outcome
   both_go old new name form of typed graph has next out input after outcome rest =
       program_goes old old name typed has.has_program
       (λ text program. with_graph form of (λ bytes edges. next text program bytes edges)) out input after outcome
-      (graph_goes old new form of graph has.has_graph (next has.has_program.text typed.program) out input after outcome rest)
+      (graph_goes old new form of graph has.has_graph (next has.has_program.text typed.program) out input after
+      outcome rest)
 
   pub both_stop :
       (old new : Kept) (name : List ℕ) (form : GraphForm) (of : List ℕ) (fault : Fault) →

@@ -12,7 +12,6 @@ use Rattle.command_steps.specs.Notes.{BadByte, BadLine, BadPart, BadProgram, Bad
 use Rattle.command_steps.specs.Orders.{Drawn, DrawnLossy, Ends, Followed, Imaged, Judges, Loads, Order, Origin, Parted, Plain, Play, Puts, Refuses, Renewed, Resumed, Runs, Served, Shown, Task, Tries, follows}
 use Rattle.command_steps.specs.Outputs.{free_text, plan_text}
 use Rattle.symple_words.specs.declared.line.GraphForm.{GraphForm}
-use Rattle.symple_words.specs.declared.line.Lines.{Lines}
 use Rattle.symple_words.specs.Lines as words
 use Rattle.vert_base.specs.declared.limits.TheConstants.{GRAPH_BYTES, IMAGE_BYTES, PROGRAM_BYTES, SCHEDULE_BYTES}
 use Rattle.vert_lex.specs.Text.{origin}
@@ -131,17 +130,13 @@ abbrev pub renew_order : List ℕ → List ℕ → Order
 renew_order schedule target =
     Loads schedule SCHEDULE_BYTES LongSchedule (λ events. Runs (Renewed events target) follows)
 
--- no line is asked for
-abbrev pub no_lines : Lines
-no_lines = record { rounds = false; reads = false; log = false }
-
 abbrev pub part_play : ℕ → ℕ → Program → Graph → Play
 part_play machines draws program graph = record {
   program = program;
   graph = graph;
   machines = machines;
   draws = draws;
-  lines = no_lines;
+  lines = record { rounds = false; reads = false; log = false };
 }
 
 abbrev pub split_order : List ℕ → List ℕ → List ℕ → GraphForm → ℕ → ℕ → Order

@@ -1,5 +1,5 @@
 -- What a command leaves of the outside, and how it ends: with no fault, or with one.
-use Rattle.std.specs.Prelude.{◌≡◌, ◌<◌, ◌≤◌, ◌+◌, ℕ, List, Option, Some, None, codes, drop, length, option_map}
+use Rattle.std.specs.Prelude.{IfSome, List, None, Option, Some, codes, drop, length, option_map, ℕ, ◌+◌, ◌<◌, ◌≡◌, ◌≤◌}
 use Rattle.program_reader.specs.declared.refusal.Refusal.{Refusal}
 use Rattle.program_reader.specs.Accepted.{Refuses as RefusesText, Says}
 use Rattle.outside.specs.Bytes.{gained, GainedPart}
@@ -19,11 +19,6 @@ IsTold (Some files) = Unit {0}
 abbrev pub IsUnder : Option (List File) → List ℕ → Option (List ℕ) → Type 0
 IsUnder None name file = Unit {0}
 IsUnder (Some files) name file = file_named name files ≡ file
-
--- the bytes of an input, where it tells them
-abbrev pub IsLeft : Option (List ℕ) → List ℕ → Type 0
-IsLeft None bytes = Unit {0}
-IsLeft (Some left) bytes = left ≡ bytes
 
 -- memory was wanting, and nothing has changed
 pub record Wants (w new : Outside) (outcome : Option Fault) : Type 0 where
@@ -152,12 +147,13 @@ pub record ServedPart (used : ℕ) (text : List ℕ) (w new : Outside) : Type 0 
 -- the input was served, and then the rest came; or serving ended early
 pub data AfterServing (used : List ℕ → ℕ) (text : List ℕ → List ℕ) (w new : Outside) (outcome : Option Fault)
     (rest : List ℕ → Held → Left → Type 0) : Type 0 where
-  Served : (bytes : List ℕ) → IsLeft w.input.bytes bytes → (spare : ℕ)
+  Served : (bytes : List ℕ) → IfSome w.input.bytes (λ left. left ≡ bytes) → (spare : ℕ)
       → w.out.spare ≤ spare + length (text bytes)
       → rest bytes (after_text w.out (text bytes) spare)
       (record w.input { bytes = option_map (drop (used bytes)) w.input.bytes })
       → AfterServing used text w new outcome rest
-  NotServed : (bytes : List ℕ) → IsLeft w.input.bytes bytes → ServedPart (used bytes) (text bytes) w new
+  NotServed : (bytes : List ℕ) → IfSome w.input.bytes (λ left. left ≡ bytes) →
+      ServedPart (used bytes) (text bytes) w new
       → CannotServe (text bytes) w new outcome → AfterServing used text w new outcome rest
 
 -- ---- the whole

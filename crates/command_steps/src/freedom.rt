@@ -25,8 +25,8 @@ pub fn tell_freedom<H: Shelf, O: Sink>(
     shelf: &mut H,
     out: &mut O,
 ) -> Result<(), Failure>
-    ensures order { Performs H.files H.loads H.stores O.held O.faults O.spare NoTask (free_order name.now)
-        shelf.old shelf.new out.old out.new result }
+    ensures order { Performs H.files H.loads H.stores O.held O.faults O.spare NoTask
+        (free_order name.now) shelf.old shelf.new out.old out.new result }
     ensures later { H.loads shelf.old ≤ H.loads shelf.new }
 {
     let typed = load_program(alloc, shelf, name)?;

@@ -1,6 +1,6 @@
 -- The events that are chosen lead to the end of a run.
 use Rattle.std.proofs.Common.{◌≡◌, ℕ, zero, suc, ◌<◌, ◌%◌, Bool, true, false, List, [], ◌∷◌, length, Option, Some, None, refl, ap, sym, ◌∙◌, subst, arith, ⊎_elim, slice_get}
-use Rattle.std.specs.Prelude.{◌||◌, if◌then◌else◌, is_some}
+use Rattle.std.specs.Prelude.{◌||◌, if◌then◌else◌}
 use Rattle.std.specs.List.{Contains}
 use Rattle.std.proofs.lemmas.Bool.{and_from, and_parts, cases_Bool, false≢true}
 use Rattle.std.proofs.lemmas.Option.{get_or_from_slice_get, slice_get_within}
@@ -22,6 +22,7 @@ use Rattle.cluster_run.specs.Driven.{IsReached}
 use Rattle.cluster_run.specs.Laws.{ChoicesArePossible, EachCanBeTaken, EventsComeNearer, StepsReach, UnfinishedGoesOn}
 use Rattle.delivery_log.specs.Choosers.{DrawnEventsAreOne, DrawnEventsEnd, DrawnRunsAreComplete, IsDrawnRun, NumbersFit, PlainRunsAreComplete, behind_word, drawn_of, word_of}
 use Rattle.delivery_log.specs.ScheduleTexts.{IsEvent}
+use Rattle.state_laws.proofs.Options.{some_of}
 
 -- ---- a chosen event can be told in a text
 proper_by_plan : (ring : Ring) (kind : NameKind) (x : Name) → goes_by_plan ring kind x ≡ true →
@@ -43,15 +44,11 @@ takeable_proper s l can =
     proper_by_plan (ring_of s.split s.part.at.machines) l.name.kind l.name
     (and_parts _ _ (and_parts _ _ planned).1).0
 
-there : {X : Type 0} (o : Option X) → is_some o ≡ true → (x : X) × (o ≡ Some x)
-there None some = absurd (false≢true some)
-there (Some x) some = (x, refl)
-
 pub told : (work : Work) (sound : State → Type 0) → EachCanBeTaken work sound → (w : World) → IsReached work sound w →
     (e : Event) → NumbersFit e → possible w e ≡ true → IsEvent e
 told work sound taken w r (Go m) fits can = fits
 told work sound taken w r (Take x) fits can =
-    let letter = there (found x w.under_way) can in
+    let letter = some_of (found x w.under_way) can in
     let at = taken w x letter.0 r letter.1 in
     let proper = takeable_proper at.0 letter.0 at.2 in
     record {

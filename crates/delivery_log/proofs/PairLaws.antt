@@ -157,10 +157,12 @@ both_bad : (form : Form) (held : ℕ) (es fs : List Event) (r s : List ℕ) → 
     AllByRecursion IsEvent fs → rest_text form held es ++ r ≡ rest_text form held fs ++ s →
     HasNoEvent form (last_round held es) r → HasNoEvent form (last_round held fs) s → es ≡ fs
 both_bad form held [] [] r s a b e bad worse = refl
-both_bad form held [] (f ∷ fs) r s a b e bad worse = absurd (bad.none f (rest_text form (round_after held f) fs ++ s) b.0
+both_bad form held [] (f ∷ fs) r s a b e bad worse = absurd (bad.none f (rest_text form (round_after held f) fs ++ s)
+    b.0
     (e ∙ ap (λ t. t ++ s) (first_event form held f fs)
     ∙ append_assoc (text_of (event_lines form held f)) (rest_text form (round_after held f) fs) s))
-both_bad form held (x ∷ es) [] r s a b e bad worse = absurd (worse.none x (rest_text form (round_after held x) es ++ r) a.0
+both_bad form held (x ∷ es) [] r s a b e bad worse = absurd (worse.none x (rest_text form (round_after held x)
+    es ++ r) a.0
     (sym e ∙ ap (λ t. t ++ r) (first_event form held x es)
     ∙ append_assoc (text_of (event_lines form held x)) (rest_text form (round_after held x) es) r))
 both_bad form held (x ∷ es) (f ∷ fs) r s a b e bad worse =

@@ -1,11 +1,8 @@
 -- What a recorder writes.
-use Rattle.std.proofs.Common.{◌≡◌, ℕ, ◌+◌, ◌<◌, ◌≤◌, List, [], ◌∷◌, ◌++◌, length, take, get_or, ap, sym, ◌∙◌, arith, append-nil, length-append}
+use Rattle.std.proofs.Common.{◌≡◌, ℕ, ◌≤◌, List, [], ◌∷◌, ◌++◌, length, ap, sym, ◌∙◌, arith, length-append}
 use Rattle.std.specs.Prelude.{decimal, Result, Ok, Err}
 use Rattle.std.specs.Result.{IsErrAnd}
 use Rattle.std.proofs.lemmas.Fmt.{length-decimal-le}
-use Rattle.std.proofs.lemmas.Grind.{flat_map-append}
-use Rattle.std.proofs.lemmas.List.{take_more}
-use Rattle.vert_base.specs.NameTexts.{number_text, numbers_text}
 use Rattle.delivery_log.specs.declared.fault.RecordFault.{RecordFault}
 use Rattle.delivery_log.specs.declared.form.Form.TheVariants.{Roundless}
 use Rattle.vert_base.specs.declared.message.Event.{Event}
@@ -13,14 +10,6 @@ use Rattle.vert_base.specs.declared.limits.TheConstants.{SCHEDULE_BYTES}
 use Rattle.delivery_log.specs.Records.{Recording, Records}
 use Rattle.delivery_log.specs.ScheduleTexts.{event_lines, header_text, last_round, round_after, schedule_text, text_of}
 use Rattle.delivery_log.proofs.ReadLaws.{round_more, text_more}
-
--- one number more
-pub numbers_more : (numbers : List ℕ) (i : ℕ) → i < length numbers →
-    numbers_text (take (i + 1) numbers) ≡ numbers_text (take i numbers) ++ number_text (get_or numbers i 0)
-numbers_more numbers i below =
-    ap numbers_text (take_more numbers i 0 below)
-    ∙ flat_map-append number_text (take i numbers) (get_or numbers i 0 ∷ [])
-    ∙ ap (λ (t : List ℕ). numbers_text (take i numbers) ++ t) (append-nil (number_text (get_or numbers i 0)))
 
 -- the text of the machines alone is short
 pub begun_small : (machines : ℕ) → machines ≤ 64 → length (schedule_text Roundless machines []) ≤ 23

@@ -88,13 +88,6 @@ told_take Roundless held round x line told for =
     let said : round_line x.round ≡ line = ap round_line for ∙ sym told.1 in
     ap (λ ls. ls ++ take_line Roundless x ∷ []) (told_lines held x other ∙ ap (λ l. l ∷ []) said)
 
--- of the round that is held
-pub held_spelled : (form : Form) (held : ℕ) (x : Name) (line behind : List ℕ) → IsRoundFor form held x →
-    line ≡ take_line form x → line ++ 10 ∷ behind ≡ text_of (take_lines form held x) ++ behind
-held_spelled form held x line behind for e =
-    ap (λ l. l ++ 10 ∷ behind) e
-    ∙ sym (ap (λ ls. text_of ls ++ behind) (held_take form held x for) ∙ first_line (take_line form x) [] behind)
-
 -- of a round that the first line tells
 pub told_spelled :
     (form : Form) (held round : ℕ) (x : Name) (line next behind rest : List ℕ) →

@@ -17,3 +17,4 @@ pub use laws::{chosen_runs_are_complete, schedules_read_back};
 pub use line::line_at;
 pub use read::{form_of, lines_of, read_schedule, round_after};
 pub use recorder::Recorder;
+pub use spelling::push_behind;

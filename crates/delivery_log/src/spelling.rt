@@ -45,7 +45,8 @@ fn push_take(bytes: &mut Vec<u8>, name: &Name) -> Result<(), AllocError>
     Ok(())
 }
 
-fn push_behind(bytes: &mut Vec<u8>, name: &Name) -> Result<(), AllocError>
+/// Writes what stands behind the kind and the round of a name at the end of bytes.
+pub fn push_behind(bytes: &mut Vec<u8>, name: &Name) -> Result<(), AllocError>
     ensures { OnOk result (bytes.new.items
         ≡ bytes.old.items ++ numbers_text (numbers_behind name.now)) }
 {

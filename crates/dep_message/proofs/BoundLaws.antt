@@ -1,6 +1,5 @@
 -- How long a body that fits a shape is at most.
-use Rattle.std.proofs.Common.{◌≡◌, ℕ, zero, suc, ◌+◌, ◌*◌, ◌<◌, ◌≤◌, min, Bool, true, false, ◌&&◌, leb, eqb, cond, count_by, Option, Some, None, is_none, List, [], ◌∷◌, length, take, drop, refl, ap, subst, arith}
-use Rattle.std.specs.Option.{option_map_or}
+use Rattle.std.proofs.Common.{◌≡◌, ℕ, zero, suc, ◌+◌, ◌*◌, ◌<◌, ◌≤◌, min, Bool, true, ◌&&◌, leb, eqb, count_by, Some, None, List, [], ◌∷◌, length, take, drop, ap, subst, arith}
 use Rattle.std.specs.Int.RustNames.{count_ones}
 use Rattle.std.proofs.lemmas.Bool.{and_parts, ltb-true, ltb-false, leb-true, eqb-true}
 use Rattle.std.proofs.lemmas.List.{length-drop, length-take}
@@ -14,10 +13,7 @@ use Rattle.body_shape.specs.declared.shape.BodyShape.TheVariants.{Refresh, Dep, 
 use Rattle.body_shape.specs.Fit.{are_rows, are_updates, behind_update, bit_len, bits_in, is_mask, is_push, is_ruling, is_tally, is_verdict, words_len}
 use Rattle.body_shape.proofs.UpdateLaws.{some_from_test}
 use Rattle.dep_message.specs.Laws.{AreBytes, FitIsBounded}
-
-none_from_test : {X : Type 0} (o : Option X) → is_none o ≡ true → o ≡ None
-none_from_test None e = refl
-none_from_test (Some x) e = absurd (cc)
+use Rattle.state_laws.proofs.Options.{none_of}
 
 length-rows : (count words bools : ℕ) (bytes : List ℕ) → are_rows count words bools bytes ≡ true →
     length bytes ≡ 8 * words * count
@@ -117,7 +113,7 @@ verdict-le dense sparse totals (ruling ∷ words) fit =
 
 pub bounded_law : FitIsBounded
 bounded_law (Refresh vertices words bools) body fits fit = omega (arith, length-rows vertices words bools body fit)
-bounded_law (Dep vertices words bools) body fits fit = dep-le vertices words bools body (none_from_test _ fit)
+bounded_law (Dep vertices words bools) body fits fit = dep-le vertices words bools body (none_of _ fit)
 bounded_law (Update vertices slots reduced) body fits fit = updates-le slots reduced vertices body fits fit
 bounded_law (Push vertices words bools) body fits fit = push-le vertices words bools body fit
 bounded_law (Tally totals) body fits fit = omega (arith, length-tally totals body fit)

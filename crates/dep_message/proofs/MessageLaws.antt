@@ -1,21 +1,20 @@
 -- Spellings of messages, and what is read from them.
-use Rattle.std.proofs.Common.{◌≡◌, ℕ, ◌+◌, ◌-◌, ◌^◌, ◌<◌, ◌≤◌, Bool, true, false, cond, eqb, Option, Some, None, List, [], ◌∷◌, ◌++◌, length, get_or, take, drop, ◌⊎◌, inl, inr, refl, sym, ap, subst, ◌∙◌, arith}
+use Rattle.std.proofs.Common.{◌≡◌, ℕ, ◌+◌, ◌-◌, ◌^◌, ◌<◌, ◌≤◌, Bool, true, false, cond, eqb, Option, Some, None, List, [], ◌∷◌, ◌++◌, length, take, drop, ◌⊎◌, inl, inr, refl, sym, ap, subst, ◌∙◌, arith}
 use Rattle.std.specs.Option.{option_map}
 use Rattle.std.proofs.lemmas.Bool.{ltb-false, le-ltb, eqb-true, eq-eqb, not-false, not_from_true, cond-false, cases_lt}
 use Rattle.std.proofs.lemmas.List.{get_or-take, get_or-drop, get_or_past, length-take, length-drop, take_all}
-use Rattle.std.proofs.lemmas.List.Elements.{All-get_or}
-use Rattle.std.proofs.lemmas.Nat.{le_bytes_4, from_le_bytes-to_le_bytes_4}
 use Rattle.vert_base.specs.declared.message.Name.{Name}
 use Rattle.vert_base.specs.declared.message.NameKind.{NameKind}
 use Rattle.vert_base.specs.declared.message.NameKind.TheVariants.{Refresh, Dep, Update, Push, Tally, Verdict}
 use Rattle.body_shape.specs.declared.shape.BodyShape.{BodyShape}
 use Rattle.dep_message.specs.declared.fault.MessageFault.TheVariants.{Short}
 use Rattle.dep_message.specs.declared.header.Header.{Header}
-use Rattle.dep_message.specs.Laws.{AcceptedIsSpelled, AreBytes, HeaderIsRead, SpelledOnce, SpellingIsCounted}
+use Rattle.dep_message.specs.Laws.{AcceptedIsSpelled, HeaderIsRead, SpelledOnce, SpellingIsCounted}
 use Rattle.vert_base.specs.HeaderBytes.{HasSpelling, code_of, four_bytes, kind_of, name_with, number_of_four, spelled_header, spelled_message}
 use Rattle.dep_message.specs.Messages.{header_in, refusal_of, refusal_of_named}
 use Rattle.dep_layout.proofs.SpellingLaws.{passed, below_from_All}
 use Rattle.dep_layout.proofs.WordLaws.{AreBelow}
+use Rattle.state_laws.proofs.Words.{four_again, four_back}
 
 -- ---- four bytes
 
@@ -29,18 +28,9 @@ below_here start bytes fits i =
           (omega (arith, length-take 4 (drop start bytes))))) (omega arith)
     ]
 
--- the number that four bytes spell has these bytes
-four_again : (bytes : List ℕ) → length bytes ≡ 4 → AreBelow bytes → four_bytes (number_of_four bytes) ≡ bytes
-unfolding four_bytes number_of_four
-four_again bytes count fits = le_bytes_4 bytes _ count fits refl
-
 four_below : (bytes : List ℕ) → AreBelow bytes → number_of_four bytes < 2 ^ 32
 unfolding number_of_four
 four_below bytes fits = omega (arith, fits 0, fits 1, fits 2, fits 3)
-
-number_again : (n : ℕ) → n < 2 ^ 32 → number_of_four (four_bytes n) ≡ n
-unfolding four_bytes number_of_four
-number_again n below = from_le_bytes-to_le_bytes_4 n below
 
 -- ---- kinds
 
@@ -191,8 +181,8 @@ header_law x size rest round_fits size_fits =
     ap (λ kind. header_with (option_map (name_with bytes) kind) (number_of_four (take 4 (drop 9 bytes))))
     (kind_of-code_of x.kind)
     ∙ ap (λ round. header_with (Some (with_round x round)) (number_of_four (take 4 (drop 9 bytes))))
-    (number_again x.round round_fits)
-    ∙ ap (λ n. header_with (Some x) n) (number_again size size_fits)
+    (four_back x.round round_fits)
+    ∙ ap (λ n. header_with (Some x) n) (four_back size size_fits)
 
 -- the header of what a message is spelled as
 header-spelled : (x : Name) (body : List ℕ) → HasSpelling x body →

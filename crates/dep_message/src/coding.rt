@@ -49,7 +49,8 @@ pub fn decode(alloc: Global, bytes: &[u8], part: &Part) -> Result<Message, Messa
 fn judged(bytes: &[u8], part: &Part) -> Result<Name, MessageFault>
     ensures name { IfOk result (λ x. (header_in bytes.now).name ≡ Some x) }
     ensures accepted { OnOk result (refusal_of (forms_of part.now) bytes.now ≡ None) }
-    ensures refused { IfErr result (λ fault. refusal_of (forms_of part.now) bytes.now ≡ Some fault) }
+    ensures refused { IfErr result (λ fault.
+        refusal_of (forms_of part.now) bytes.now ≡ Some fault) }
 {
     if bytes.len() < HEADER {
         return Err(MessageFault::Short);
@@ -81,8 +82,8 @@ fn fault_of(name: &Name, body: &[u8], part: &Part) -> Option<MessageFault>
     }
 }
 
-// Whether the step and half are 0 where the kind has none.
-fn is_proper(name: &Name) -> bool
+/// Whether the step and half are 0 where the kind has none.
+pub fn is_proper(name: &Name) -> bool
     ensures { result ≡ is_proper name.now }
 {
     matches!(name.kind, NameKind::Dep | NameKind::Update) || name.step == 0 && name.half == 0

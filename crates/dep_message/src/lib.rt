@@ -11,7 +11,7 @@ mod rows;
 mod sends;
 mod updates;
 
-pub use coding::{decode, encode};
+pub use coding::{decode, encode, is_proper};
 pub use fault::MessageFault;
 pub use fitting::fits;
 pub use header::{HEADER, Header};

@@ -1,5 +1,5 @@
 -- Each message of a run is taken once, as it was sent.
-use Rattle.std.proofs.Common.{◌≡◌, ◌⊎◌, ℕ, ◌≤◌, Bool, true, false, ◌||◌, List, [], ◌∷◌, ◌++◌, length, Option, Some, None, refl, ap, sym, ◌∙◌, subst, inl, inr, ⊎_elim, slice_get}
+use Rattle.std.proofs.Common.{◌≡◌, ◌⊎◌, ℕ, ◌≤◌, Bool, true, false, List, [], ◌∷◌, ◌++◌, length, Option, Some, None, refl, ap, sym, ◌∙◌, subst, inl, inr, ⊎_elim, slice_get}
 use Rattle.std.specs.Prelude.{if◌then◌else◌, is_some}
 use Rattle.std.specs.List.{Contains}
 use Rattle.std.proofs.lemmas.Bool.{and_parts, false≢true}
@@ -20,14 +20,15 @@ use Rattle.symple_face.specs.Lawful.{IsLawful}
 use Rattle.symple_face.specs.Parts.{PlainPart}
 use Rattle.symple_face.specs.State.{State}
 use Rattle.symple_face.specs.Work.{Work}
-use Rattle.cluster_run.specs.Sends.{AreNew}
+use Rattle.cluster_run.specs.Sends.{AreNew, sent_with}
 use Rattle.cluster_run.proofs.GoWorlds as go
 use Rattle.cluster_run.proofs.Letters.{all_placed_is, names_of, without_is}
 use Rattle.cluster_run.proofs.PartsAt.{parts_few}
 use Rattle.cluster_run.proofs.ReachedWorlds.{IsTied}
 use Rattle.cluster_run.proofs.Results.{empty}
 use Rattle.cluster_run.proofs.TakeWorlds as take
-use Rattle.link_core.specs.LinkOrder.{IsDeliveredOnce, sent_at, sent_in, taken_at, taken_in}
+use Rattle.link_core.specs.LinkOrder.{IsDeliveredOnce, sent_in, taken_at, taken_in}
+use Rattle.link_core.proofs.TrafficLaws.{not_either}
 
 -- ---- messages put among others stay, and those put there are found
 keeps_placed : (l : Letter) (ms : List Letter) (x : Name) (y : Letter) → found l.name ms ≡ None →
@@ -70,10 +71,6 @@ left_or_taken x l ms y false e there here = inr here
 -- none is there twice
 abbrev NotTaken : Skeleton → Letter → Type 0
 NotTaken k l = has_name l.name k.taken ≡ false
-
-untaken_step : (a b : Bool) → (a || b) ≡ false → (a ≡ false) × (b ≡ false)
-untaken_step true b e = absurd (false≢true (sym e))
-untaken_step false b e = (refl, e)
 
 once_not : (ls : List Letter) (x : Name) → ((l : Letter) → Has ls l → same_name l.name x ≡ false) →
     Contains (names_of ls) x → ⊥
@@ -160,8 +157,8 @@ module _ (work : Work) (sound : State → Type 0) (lawful : IsLawful work sound)
       let d = rest v (go_tied w t m s here can es) more in
       let is : step work w (plain.Go m) ≡ v = ap (cluster.go_at work w m) here in
       let sent : sent_in work w (plain.Go m ∷ es) ≡ work.sent s ++ sent_in work v es =
-      ap (λ q. sent_at work (slice_get w.sites m) ++ sent_in work q es) is
-      ∙ ap (λ o. sent_at work o ++ sent_in work v es) here in
+      ap (λ q. sent_with work (slice_get w.sites m) ++ sent_in work q es) is
+      ∙ ap (λ o. sent_with work o ++ sent_in work v es) here in
       let taken : taken_in work w (plain.Go m ∷ es) ≡ taken_in work v es = ap (λ q. taken_in work q es) is in
       record {
         from = λ l h.
@@ -201,7 +198,7 @@ module _ (work : Work) (sound : State → Type 0) (lawful : IsLawful work sound)
       ∙ ap (λ o. taken_at o ++ taken_in work v es) there in
       let later : (q : Letter) → Has (taken_in work v es) q →
       (same_name q.name x ≡ false) × (has_name q.name k.taken ≡ false) =
-      λ q h. untaken_step (same_name q.name x) (has_name q.name k.taken) (d.new q h) in
+      λ q h. not_either (same_name q.name x) (has_name q.name k.taken) (d.new q h) in
       record {
         from = λ q h.
             subst (λ ls. (found q.name w.under_way ≡ Some q) ⊎ Has ls q) (sym sent)

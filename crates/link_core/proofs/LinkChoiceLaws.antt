@@ -222,7 +222,8 @@ module _ (l : Linked) (is : IsTraffic l.traffic) (choices : AreChoices l.world) 
   listed : (e : LinkEvent) → can_happen l e ≡ true → Has (goes_over ++ wire_choices t) e
   listed (Go m) can =
       has_left goes_over (wire_choices t) (Go m)
-      (is_go (Go m) m (has_from_contains (goes l.world ++ takes l.world) (plain.Go m) (choices.listed (plain.Go m) can)))
+      (is_go (Go m) m (has_from_contains (goes l.world ++ takes l.world) (plain.Go m) (choices.listed (plain.Go m)
+      can)))
   listed (Take x) can =
       has_right goes_over (wire_choices t) (Take x)
       (has_left (map (λ y. Take y) (names_of t.copies)) loses (Take x)

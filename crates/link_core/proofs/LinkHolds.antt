@@ -7,7 +7,6 @@ use Rattle.vert_base.specs.declared.message.Event.TheVariants as plain
 use Rattle.vert_base.specs.HeaderBytes.{is_proper}
 use Rattle.vert_base.specs.Letters.{Letter, found}
 use Rattle.vert_base.specs.Names.{same_name}
-use Rattle.vert_base.proofs.LetterLaws.{names_law}
 use Rattle.circulant_plan.specs.Skeleton.{Skeleton, has_name}
 use Rattle.circulant_plan.proofs.Members.{Has}
 use Rattle.circulant_plan.proofs.NameLists.{Once, has_from_name, same_as_self}
@@ -35,6 +34,7 @@ use Rattle.link_core.proofs.GiftNames.{gift_proper}
 use Rattle.link_core.proofs.PileLaws.{fewer_are, more_are}
 use Rattle.link_core.proofs.TrafficLaws.{Counts, IsTraffic, all_sent_acks, all_sent_is, counts_of, new_apart, new_once, none_fewer, none_sent, not_either, once_sent}
 use Rattle.link_core.proofs.WireLaws.{other_fewer, other_more}
+use Rattle.state_laws.proofs.Letters.{apart_names}
 
 -- nothing of a name is on the wire or kept
 pub record IsUnknown (t : Traffic) (x : Name) : Type 0 where
@@ -61,11 +61,6 @@ pub record HoldsWith (t : Traffic) (k : Skeleton) : Type 0 where
 
 some_count : (n : ℕ) → nat_le 1 n ≡ true → n ≡ 0 → ⊥
 some_count n e zero = false≢true (sym (ap (nat_le 1) zero) ∙ e)
-
-other_name : (x y : Name) → (x ≡ y → ⊥) → same_name x y ≡ false
-other_name x y differ =
-    ⊎_elim (λ (e : same_name x y ≡ true). absurd (differ (names_law x y e)))
-    (λ (e : same_name x y ≡ false). e) (cases_Bool (same_name x y))
 
 -- ---- events that leave the machines
 module _ (t : Traffic) (k : Skeleton) (holds : HoldsWith t k) (x : Name) where
@@ -114,7 +109,7 @@ module _ (t : Traffic) (k : Skeleton) (holds : HoldsWith t k) (x : Name) where
   module _ (has : nat_le 1 (count_of x t.kept) ≡ true) where
     repeated_unknown : (y : Name) → IsUnknown t y → IsUnknown (repeated x t) y
     repeated_unknown y none =
-        let other = other_name x y (λ same. some_count (count_of x t.kept) has
+        let other = apart_names x y (λ same. some_count (count_of x t.kept) has
         (subst (λ z. count_of z t.kept ≡ 0) (sym same) none.kept)) in
         record {
           copies = other_more x y t.copies holds.traffic.copies.ascend other ∙ none.copies;
@@ -137,7 +132,7 @@ module _ (t : Traffic) (k : Skeleton) (holds : HoldsWith t k) (x : Name) where
   module _ (has : has_ack t x ≡ true) where
     ack_other : (y : Name) → has_name y k.under_way ≡ true → same_name x y ≡ false
     ack_other y flies =
-        other_name x y (λ same. some_count (count_of x t.acks) has
+        apart_names x y (λ same. some_count (count_of x t.acks) has
         (subst (λ z. count_of z t.acks ≡ 0) (sym same) (holds.waits y flies).acks))
 
     acknowledged_unknown : (y : Name) → IsUnknown t y → IsUnknown (acknowledged x t) y
@@ -171,12 +166,12 @@ module _ (t : Traffic) (k : Skeleton) (holds : HoldsWith t k) (x : Name) where
       (not_new : IsFresh j x → IsFresh k x) where
     copy_other : (y : Name) → IsFresh j y → same_name x y ≡ false
     copy_other y new =
-        other_name x y (λ same. some_count (count_of x t.copies) has
+        apart_names x y (λ same. some_count (count_of x t.copies) has
         (holds.fresh x (not_new (subst (IsFresh j) (sym same) new))).copies)
 
     taken_unknown : (y : Name) → IsUnknown t y → IsUnknown (taken x t) y
     taken_unknown y none =
-        let other = other_name x y (λ same. some_count (count_of x t.copies) has
+        let other = apart_names x y (λ same. some_count (count_of x t.copies) has
         (subst (λ z. count_of z t.copies ≡ 0) (sym same) none.copies)) in
         record {
           copies = none_fewer x y t.copies holds.traffic.copies none.copies;
@@ -312,7 +307,7 @@ module _ (work : Work) (sound : State → Type 0) (lawful : IsLawful work sound)
         taken_holds t at.tied.k at.holds x at.tied.k has
         (λ y flies. (
           flies,
-          other_name x y (λ same. false≢true (sym grounded
+          apart_names x y (λ same. false≢true (sym grounded
               ∙ subst (λ z. has_name z at.tied.k.under_way ≡ true) (sym same) flies)),
         ))
         (λ y new other. new)

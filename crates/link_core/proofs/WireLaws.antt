@@ -33,13 +33,6 @@ right_along t u x kept copies =
     ap (λ (n : ℕ). if nat_le 1 n && nat_lt (count_of x t.copies) 255 then 1 else 0) (sym kept)
     ∙ ap (λ (n : ℕ). if nat_le 1 (count_of x u.kept) && nat_lt n 255 then 1 else 0) (sym copies)
 
-pub right_few : (t : Traffic) (x : Name) → right t x ≤ 1
-right_few t x = few (can_repeat t x)
-  where
-    few : (b : Bool) → (if b then 1 else 0) ≤ 1
-    few true = omega arith
-    few false = omega arith
-
 -- ---- the name itself
 -- each name is counted as it should be, where the others were and this one is
 by_name : (x : Name) (count should : Name → ℕ) → ((y : Name) → same_name x y ≡ false → count y ≡ should y) →
@@ -64,7 +57,8 @@ module _ (x : Name) (repeatable : List Pile) (should : Name → ℕ) (up : Ascen
       more_here : count_of x (more x repeatable) ≡ 1
       more_here =
           count_more x x repeatable up
-          ∙ ap (λ (b : Bool). if b then min (count_of x repeatable + 1) 255 else count_of x repeatable) (same_self (numbers_of x))
+          ∙ ap (λ (b : Bool). if b then min (count_of x repeatable + 1) 255 else count_of x repeatable)
+          (same_self (numbers_of x))
           ∙ ap (λ (n : ℕ). min (n + 1) 255) none
 
   pub settled_fewer : count_of x repeatable ≤ 1 → should x ≡ 0 → (y : Name) → count_of y (fewer x repeatable) ≡ should y

@@ -1,5 +1,5 @@
 -- Which of the possible events over links is played next.
-use Rattle.std.specs.Prelude.{◌≡◌, ◌<◌, ◌^◌, ℕ, ◌%◌, true, false, Option, Some, List, [], ◌∷◌, length, slice_get}
+use Rattle.std.specs.Prelude.{◌≡◌, ◌<◌, ◌^◌, ◌%◌, true, false, Option, Some, List, [], ◌∷◌, length, slice_get}
 use Rattle.rand_pcg.specs.Lcg.{Lcg}
 use Rattle.vert_base.specs.declared.message.Name.{Name}
 use Rattle.symple_face.specs.Cluster.{finished}

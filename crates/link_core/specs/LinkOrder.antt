@@ -14,6 +14,7 @@ use Rattle.link_core.specs.LinkChoices.{link_choices, repeatable}
 use Rattle.link_core.specs.LinkRuns.{IsLinkReached}
 use Rattle.link_core.specs.Links.{Linked, link_after, link_possible, link_step, links_possible, plain_part}
 use Rattle.link_core.specs.Piles.{names_of}
+use Rattle.cluster_run.specs.Sends.{sent_with}
 
 -- possible events leave the machines in the world of their plain part, which is possible as well
 pub record IsOverPlain (work : Work) (l : Linked) (es : List LinkEvent) : Type 0 where
@@ -54,17 +55,13 @@ abbrev pub LinkChoicesArePossible : Work → (State → Type 0) → Type 0
 LinkChoicesArePossible work sound = (l : Linked) → IsLinkReached work sound l → AreLinkChoices l
 
 -- the messages that the events of a cluster send, and those that they take, in order
-abbrev pub sent_at : Work → Option State → List Letter
-sent_at work None = []
-sent_at work (Some s) = work.sent s
-
 abbrev pub taken_at : Option Letter → List Letter
 taken_at None = []
 taken_at (Some l) = l ∷ []
 
 abbrev pub sent_in : Work → World → List Event → List Letter
 sent_in work w [] = []
-sent_in work w (plain.Go m ∷ es) = sent_at work (slice_get w.sites m) ++ sent_in work (step work w (plain.Go m)) es
+sent_in work w (plain.Go m ∷ es) = sent_with work (slice_get w.sites m) ++ sent_in work (step work w (plain.Go m)) es
 sent_in work w (plain.Take x ∷ es) = sent_in work (step work w (plain.Take x)) es
 
 abbrev pub taken_in : Work → World → List Event → List Letter

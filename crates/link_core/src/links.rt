@@ -70,7 +70,8 @@ impl<S: Site, const CAP: usize> Links<S, CAP> {
     /// Plays an event, or says why it can't be played.
     pub fn event(&mut self, event: &LinkEvent) -> Result<(), LinkFault>
         ensures ok { OnOk result ((link_fault_of self.old.links event.now ≡ None)
-            × (self.new ≡ record { links = link_step S.work self.old.links event.now; ended = false })) }
+            × (self.new
+            ≡ record { links = link_step S.work self.old.links event.now; ended = false })) }
         ensures refused { IfErr result (λ fault. fault ≢ Want
             → (link_fault_of self.old.links event.now ≡ Some fault) × (self.new ≡ self.old)) }
         ensures plain { result ≢ Err (Plain event_fault.Want) }

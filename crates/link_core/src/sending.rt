@@ -64,7 +64,8 @@ pub(crate) fn send_from<S: Site>(wire: &mut Wire, site: &S, spot: &Spot) -> Resu
     requires few { p_of (S.state site.now) ≤ 64 }
     requires spot { let s = S.state site.now in IsSpotOf (ring_of s.split (p_of s)) spot.now }
     ensures { let s = S.state site.now in OnOk result (Carries wire.new
-        (all_sent (gives_of (ring_of s.split (p_of s)) (machine s) spot.now (ruling_behind s.at.spot))
+        (all_sent (gives_of (ring_of s.split (p_of s)) (machine s) spot.now
+        (ruling_behind s.at.spot))
         (traffic_of wire.old))) }
 {
     let part = site.part();

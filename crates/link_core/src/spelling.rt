@@ -1,8 +1,9 @@
 ghost use Rattle.std.specs.Prelude.{◌≡◌, [], ◌∷◌, ◌++◌, OnOk, decimal};
-ghost use Rattle.vert_base.specs.NameTexts.{name_text, numbers_behind, numbers_text};
+ghost use Rattle.vert_base.specs.NameTexts.{name_text};
 ghost use Rattle.link_core.specs.LinkTexts.{event_line, event_text, word_text};
 
 use crate::event::LinkEvent;
+use delivery_log::push_behind;
 use itoa::Buffer;
 use std::alloc::AllocError;
 use vert_base::Name;
@@ -53,25 +54,4 @@ fn push_name(bytes: &mut Vec<u8>, name: &Name) -> Result<(), AllocError>
     bytes.extend_from_slice(b" ")?;
     push_number(bytes, name.round)?;
     push_behind(bytes, name)
-}
-
-fn push_behind(bytes: &mut Vec<u8>, name: &Name) -> Result<(), AllocError>
-    ensures { OnOk result (bytes.new.items
-        ≡ bytes.old.items ++ numbers_text (numbers_behind name.now)) }
-{
-    if name.kind.has_steps() {
-        push_numbers(bytes, &[name.step, name.half, name.from, name.to])
-    } else {
-        push_numbers(bytes, &[name.from, name.to])
-    }
-}
-
-fn push_numbers(bytes: &mut Vec<u8>, numbers: &[u8]) -> Result<(), AllocError>
-    ensures { OnOk result (bytes.new.items ≡ bytes.old.items ++ numbers_text numbers.now) }
-{
-    for number in numbers {
-        bytes.extend_from_slice(b" ")?;
-        push_number(bytes, u32::from(*number))?;
-    }
-    Ok(())
 }

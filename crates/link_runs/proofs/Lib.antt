@@ -22,5 +22,4 @@ pub mod FarLaws
 pub mod LinkedLaws
 pub mod OneLaws
 pub mod OverPlain
-pub mod ResultLaws
 pub mod WantLaws

@@ -54,7 +54,8 @@ lossy_runs work play seed name l few is_first anew old new outcome on =
     let at = subst (λ (k : Linked). RecordsOn (by_links work play.lines) (links_text play.machines)
     (IsDrawnFar work play.machines) name [] k (generator_of seed) old new outcome) anew on in
     Ran (recorded_as (by_links work play.lines) (links_text play.machines) name [] (linked_anew l.world) at.events)
-    (record { first = l.world; is_first = is_first; events = at.events; few = few; drawn = at.drawn; course_is = refl }) at.leaves
+    (record { first = l.world; is_first = is_first; events = at.events; few = few; drawn = at.drawn; course_is = refl })
+    at.leaves
 
 -- a followed text from there
 pub linked_follows : (work : Work) (play : Play) (events : List LinkEvent) (l : Linked) →

@@ -160,7 +160,8 @@ no_line e behind is same = starts (event_front e) same
     starts (x ∷ xs) same = cc
 
 lines_settle : (es fs : List LinkEvent) (a b : List ℕ) → AllByRecursion IsLinkEvent es →
-    AllByRecursion IsLinkEvent fs → HasNoLink a → HasNoLink b → flat_map event_line es ++ a ≡ flat_map event_line fs ++ b →
+    AllByRecursion IsLinkEvent fs → HasNoLink a → HasNoLink b → flat_map event_line es ++ a
+    ≡ flat_map event_line fs ++ b →
     (es ≡ fs) × (a ≡ b)
 lines_settle [] [] a b is also none bare same = (refl, same)
 lines_settle [] (f ∷ fs) a b is also none bare same =

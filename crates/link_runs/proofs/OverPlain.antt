@@ -1,5 +1,5 @@
 -- A run over links puts what its plain part puts, where no line of an event is asked for.
-use Rattle.std.proofs.Common.{◌≡◌, ℕ, ◌+◌, Bool, true, false, List, [], ◌∷◌, ◌++◌, Option, Some, None, refl, ap, sym, ◌∙◌, append-nil, append_assoc, length, nat_lt}
+use Rattle.std.proofs.Common.{◌≡◌, ℕ, ◌+◌, Bool, true, false, List, [], ◌∷◌, ◌++◌, Option, Some, None, refl, ap, sym, ◌∙◌, append-nil, length, nat_lt}
 use Rattle.std.specs.Prelude.{◌&&◌, if◌then◌else◌, not, option_map}
 use Rattle.std.proofs.lemmas.Bool.{and_from, and_parts}
 use Rattle.array_text.specs.Events.{event_line as machine_line}
@@ -22,26 +22,15 @@ use Rattle.link_core.specs.Traffic.{can_repeat, has_ack, has_copy}
 use Rattle.link_runs.specs.LinkTellings.{by_links, link_line, link_round, listed_links, why_not, wire_line}
 use Rattle.machine_runs.specs.PlainPlays.{log_line}
 use Rattle.machine_runs.specs.Tellings.{followed_as, lack_of, recorded_as, told_end, told_event, unless_lacking, unless_refused}
-use Rattle.schedule_laws.specs.Layout.{lines_of, round_lines, table_of, taken_in, text_of}
-use Rattle.symple_face.specs.Cluster.{World, after, finished, possible, step}
+use Rattle.schedule_laws.specs.Layout.{table_of, taken_in, text_of}
+use Rattle.symple_face.specs.Cluster.{World, finished, possible, step}
 use Rattle.symple_face.specs.Work.{Work}
 use Rattle.symple_words.specs.declared.line.Lines.{Lines}
 use Rattle.vert_base.specs.declared.limits.TheConstants.{SCHEDULE_BYTES}
 use Rattle.vert_base.specs.declared.message.Event.{Event}
 use Rattle.vert_base.specs.declared.message.Event.TheVariants as plain
 use Rattle.vert_base.specs.declared.message.Name.{Name}
-
--- of machines: the texts of an event in front of those behind it
-pub text_behind : (work : Work) (lines : Lines) (w : World) (e : Event) (es : List Event) (text : List ℕ) →
-    text ≡ text_of work lines (step work w e) es →
-    log_line lines w e ++ (round_lines work lines w e ++ text) ≡ text_of work lines w (e ∷ es)
-text_behind work lines w e es text is =
-    let rest = text_of work lines (step work w e) es in
-    let round = round_lines work lines w e in
-    ap (λ (t : List ℕ). log_line lines w e ++ (round ++ t)) is
-    ∙ sym (append_assoc (log_line lines w e) round rest)
-    ∙ sym (append_assoc (log_line lines w e ++ round) (lines_of work lines (step work w e) es)
-    (table_of work (after work (step work w e) es)))
+use Rattle.machine_runs.proofs.TextLaws.{text_behind}
 
 -- ---- an event that isn't refused is possible
 not_over : (b : Bool) (fault : Option LinkFault) → (if b then Some (Plain RunOver) else fault) ≡ None →

@@ -32,6 +32,7 @@ use Rattle.work_laws.proofs.Sparse.{begin_go_fits}
 use Rattle.machine_steps.specs.Going.{gone_from, onward, sent_from}
 use Rattle.machine_steps.specs.Kept.{IsBuffer}
 use Rattle.machine_core.proofs.SoundLaws.{steady}
+use Rattle.state_laws.proofs.Rulings.{within_limit}
 
 -- ---- what is left to do after the action
 acted_onward : (s : State) (spot : Spot) → onward (acted s spot) ≡ gone_from s spot
@@ -176,12 +177,6 @@ begun_sound s r at sound =
       spot = subst (FitsSpot (begin_go s r)) (sym at) after;
     })
 
-may_low : (blocks : Blocks) (r : ℕ) (ruling : Ruling) → ruling ≢ Stop → may_rule blocks r ruling ≡ true →
-    r ≤ blocks.limit
-may_low blocks r Stop going may = absurd (going refl)
-may_low blocks r Dense going may = leb-true r blocks.limit (and_parts blocks.dense (nat_le r blocks.limit) may).1
-may_low blocks r Sparse going may = leb-true r blocks.limit (and_parts blocks.sparse (nat_le r blocks.limit) may).1
-
 -- a round that is begun takes place within the limit
 pub begin_low : (s : State) (r : ℕ) → ∥ core_sound s ∥₁ → s.at.spot ≡ Begin r → action_of s ≡ Ready →
     (1 ≤ r) × (r ≤ 10000) × (s.ruling ≢ Stop)
@@ -191,7 +186,7 @@ begin_low s r sound at ready =
     let spot : FitsSpot s (Begin r) = subst (FitsSpot s) at k.spot in
     let ruled = spot.2 (ready_knows s r spot.0 at (k.round ∙ ap (round_of s.at.round) at) ready) in
     let few = few_rounds (program_of s.split) k.can.program.typed in
-    let low = may_low (blocks_of s.split) r s.ruling ruled.0 ruled.1 in
+    let low = within_limit (blocks_of s.split) r s.ruling ruled.0 ruled.1 in
     (spot.0, omega arith, ruled.0))
 
 -- and so does one that is closed

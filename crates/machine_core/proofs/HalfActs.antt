@@ -30,6 +30,7 @@ use Rattle.work_laws.proofs.Held.{MayRead, may_read, same_chunk, shape_parts}
 use Rattle.work_laws.proofs.Sees.{scan_kept_fits, scan_read_fits}
 use Rattle.machine_steps.specs.Going.{half_sent, sent_from}
 use Rattle.machine_steps.specs.Halves.{needed_body}
+use Rattle.state_laws.proofs.Options.{none_of}
 
 -- ---- the numbers of the spot
 pub record IsScanOf (s : State) (r step h : ℕ) : Type 0 where
@@ -123,10 +124,6 @@ without_bools width count bools body =
       typed = rows_typed
           (rows_in width (started (take count (pairs_in (take (mark_len count) body)))) (drop (mark_len count) body));
     }))
-
-none_of : {X : Type 0} (o : Option X) → is_none o ≡ true → o ≡ None
-none_of None e = refl
-none_of (Some x) e = cc
 
 no_byte : {X : Type 0} (xs : List ℕ) → xs ≡ [] → 0 < length xs → X
 no_byte xs none some = let no : length xs ≡ 0 = ap (λ (l : List ℕ). length l) none in absurd (omega arith)

@@ -1,73 +1,24 @@
 // A machine before its first action.
-ghost use Rattle.std.specs.Prelude.{◌≡◌, ◌<◌, ◌≤◌, ◌+◌, ◌^◌, IfOk, length, map, replicate};
-ghost use Rattle.std.specs.List.{All};
+ghost use Rattle.std.specs.Prelude.{◌≡◌, ◌<◌, ◌≤◌, ◌+◌, IfOk, length, map, replicate};
 ghost use Rattle.symple_face.specs.CoreFirst.{first_row_of};
 ghost use Rattle.symple_face.specs.CoreScan.{fresh};
 ghost use Rattle.symple_face.specs.CoreSight.{field_count};
 ghost use Rattle.symple_face.specs.CoreTakes.{empty_partials, slot_count};
-ghost use Rattle.symple_face.specs.Lawful.{AreCounts, CanRun};
 ghost use Rattle.symple_face.specs.PartViews.{plain_of};
 ghost use Rattle.symple_face.specs.Parts.{chunk_vertices};
 ghost use Rattle.symple_face.specs.Plans.{loop_carry};
 ghost use Rattle.symple_face.specs.Shapes.{reduced_in, words_in};
 
 use flat_table::Grid;
-use instrument::Split;
 use machine_parts::{Groups, RingHalf, Rows};
 use machine_steps::{empty_row, ring_width};
 use slot_merge::Partial;
+use state_laws::tells_can_run;
 use std::alloc::Global;
-use symple_face::{Degree, Part};
+use symple_face::Part;
 use vert_base::Want;
 use vert_code::compile;
 use vertex_work::{Ground, fill_rows};
-use word_kinds::{edges_have_weights, literals_are_words};
-
-// How many edges lead into a vertex, which fits 32 bits.
-fn ins_of(degree: &Degree) -> u32
-    ensures is { result ≡ degree.now.ins }
-    ensures fits { degree.now.ins < 2 ^ 32 }
-{
-    degree.ins
-}
-
-// How many edges lead out of a vertex, which fits 32 bits.
-fn outs_of(degree: &Degree) -> u32
-    ensures is { result ≡ degree.now.outs }
-    ensures fits { degree.now.outs < 2 ^ 32 }
-{
-    degree.outs
-}
-
-// Both degrees of a vertex fit 32 bits.
-fn counts_fit(degree: &Degree)
-    ensures { AreCounts degree.now }
-{
-    let _ins = ins_of(degree);
-    let _outs = outs_of(degree);
-}
-
-// Each degree of a list fits 32 bits. It reads each one, and does no more.
-fn degrees_are_counts(degrees: &[Degree])
-    ensures { All AreCounts degrees.now }
-{
-    for degree in degrees {
-        counts_fit(degree);
-    }
-}
-
-// Reading a part tells that its machine can run.
-fn tells_can_run(part: &Part)
-    ensures { CanRun (plain_of part.now) part.now.split.value }
-{
-    let split: &Split = &part.split;
-    literals_are_words(&split.program);
-    edges_have_weights(&part.scan);
-    edges_have_weights(&part.push);
-    degrees_are_counts(&part.degrees);
-    let _ends = part.cuts.ends();
-    let _machine = part.at.number();
-}
 
 /// The code of a part's program and the tables of its edges, with the part.
 pub(crate) fn make_ground(alloc: Global, part: Part) -> Result<Ground, Want>

@@ -166,16 +166,6 @@ module _ (width count : ℕ) (marks : List Mark) (words : Rows ℤ)
       let P : State → Type 0 = λ s. s.mark ≡ Fresh → s.words ≡ replicate width (pos 0) in
       subst (λ (ss : List State). All P ss) (sym fresh_all) (All-replicate P count (fresh_state width) (λ fresh. refl))
 
--- one state more is that of the next vertex
-pub states_more : {X : Type 0} (view : X → State) (states : List State) (i : ℕ) (xs new : List X) (x : X)
-    → i < length states →
-    map view xs ≡ take i states → new ≡ xs ++ x ∷ [] → view x ≡ state_at states i → map view new ≡ take (i + 1) states
-states_more view states i xs new x lt so_far pushed here =
-    ap (map view) pushed ∙ map_push view xs x
-    ∙ ap (λ ss. ss ++ view x ∷ []) so_far
-    ∙ ap (λ s. take i states ++ s ∷ []) here
-    ∙ sym (take_more states i (fresh_state 0) lt)
-
 -- one state more is put
 pub put_more : {X : Type 0} (view : X → State) (xs : List X) (i : ℕ) (x d : X) (states new : List State) → i < length xs
     → length states ≡ length xs →

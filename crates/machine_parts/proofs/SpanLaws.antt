@@ -376,7 +376,7 @@ module _ {X : Type 0} (p q : X → Bool) (xs : List X) (i : ℕ) (d : X) (within
       ∙ filter_all q (drop i xs) (all_weaker (λ y. p y ≡ false) (λ y. q y ≡ true) (λ y h. other y ∙ ap not h) (drop
       i xs) behind))
 
-below_too : (a b v : ℕ) → a ≤ b → nat_lt b v ≡ true → nat_lt a v ≡ true
+pub below_too : (a b v : ℕ) → a ≤ b → nat_lt b v ≡ true → nat_lt a v ≡ true
 below_too a b v le h = grind (arith, nat_tests)
 
 -- the vertices below one stand in front of the others

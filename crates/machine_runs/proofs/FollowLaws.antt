@@ -1,5 +1,5 @@
 -- What following a text leaves of the outside, event by event, whatever the events are.
-use Rattle.std.proofs.Common.{◌≡◌, ℕ, List, [], ◌∷◌, Option, Some, None, Ok, Err, refl, sym, ap, subst}
+use Rattle.std.proofs.Common.{◌≡◌, ℕ, List, ◌∷◌, Option, Some, None, Ok, Err, refl, sym, ap, subst}
 use Rattle.command_steps.specs.declared.impossible.Impossible.{Impossible}
 use Rattle.command_steps.specs.Leaves.{Gained, Leaves, NotPut, Refused, WantsAtPut, WantsAtRefusal}
 use Rattle.command_steps.specs.Notes.{BadEvent, Fault, NoMemory, NoWrite}
@@ -84,7 +84,8 @@ module _ {X E : Type 0} (t : Telling X E) (first x : X) (all left ls : List (Lis
   follow_goes new plays y is = λ shelf input after outcome leaves.
       here shelf input after outcome
       (plays (followed_as t (t.behind x l.event) ls) shelf input after outcome
-      (subst (λ (u : X). Leaves NoTask (follows (followed_as t u ls)) (outside shelf new input) after outcome) is leaves))
+      (subst (λ (u : X). Leaves NoTask (follows (followed_as t u ls)) (outside shelf new input) after outcome) is
+      leaves))
 
   pub follow_stops : (new : Held) (fault : Fault) → StopsListed t x l.event l.line mid new fault →
       FollowsUp t first all old new (Some fault)

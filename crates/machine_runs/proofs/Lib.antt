@@ -33,4 +33,5 @@ pub mod RecordLaws
 pub mod RoundLaws
 pub mod SourceFollows
 pub mod TellingLaws
+pub mod TextLaws
 pub mod WorldLaws

@@ -16,7 +16,7 @@ use Rattle.command_steps.specs.Leaves.{Gained, Leaves, NotPut, Ran, WantsAtPut, 
 use Rattle.command_steps.specs.Notes.{Fault, NoMemory, NoWrite}
 use Rattle.command_steps.specs.Orders.{Course, NoTask, Order, Plain, Play, Puts, Runs, Task, follows}
 use Rattle.machine_runs.specs.PlayedEvents.{PutsLines, StopsInLines}
-use Rattle.machine_runs.specs.PlainPlays.{GoesOn, IsFirstWorld, IsPlainPlay, course_from, ends_round, first_report, is_late_judge, judges_late, log_line, report_with}
+use Rattle.machine_runs.specs.PlainPlays.{GoesOn, IsFirstWorld, IsPlainPlay, course_from, ends_round, first_report, is_late_judge, judges_late, report_with}
 use Rattle.command_steps.specs.declared.failure.Failure.{Failure}
 use Rattle.command_steps.specs.declared.failure.Failure.TheVariants as failure
 use Rattle.command_steps.specs.Faults.{fault_of}
@@ -47,7 +47,8 @@ module _ {S : Type 0} (held : S → Option (List ℕ)) (faults spare : S → ℕ
       (subst (λ (h : Held). Leaves NoTask next (outside shelf h input) after outcome) (after_is old new text w) rest)
 
   -- a text could not be put
-  pub put_stops : (old new : S) (text : List ℕ) (fault : SinkFault) → Writes held faults spare old new text (Err fault) →
+  pub put_stops : (old new : S) (text : List ℕ) (fault : SinkFault) →
+      Writes held faults spare old new text (Err fault) →
       (next : Order) (shelf : Kept) (input : Left) →
       Leaves NoTask (Puts text next) (outside shelf (of old) input) (outside shelf (of new) input) (Some NoWrite)
   put_stops old new text fault w next shelf input =
@@ -147,7 +148,8 @@ by_machine work lines w m false is = refl
 
 -- the lines of the round that an event ends are those that are put once it is played
 pub round_is : (work : Work) (lines : Lines) (w : World) (e : Event) →
-    (if ends_round w e then told_lines lines (told_in lines.reads work (step work w e) (first_report work (step work w e)))
+    (if ends_round w e then told_lines lines (told_in lines.reads work (step work w e) (first_report work
+    (step work w e)))
     else []) ≡ round_lines work lines w e
 round_is work lines w (Go m) = by_machine work lines w m (m == 0) refl
 round_is work lines w (Take x) = refl

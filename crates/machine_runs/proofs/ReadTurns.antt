@@ -86,7 +86,12 @@ module _ (work : Work) (w : World) (c v step : ℕ) (sources : List VertexId) (l
   read_some some =
       some_test (reads_by_steps work w c v)
       (some_in (read_in_step work w c v) steps step 0 (below_numbers (length w.sites) step lt)
-      (subst (λ (l : List ℕ). 0 < length l) (is ∙ here) (omega (arith, some, length-map sources (λ (u : VertexId). u.0)))))
+      (subst (λ (l : List ℕ). 0 < length l) (is ∙ here) (omega (
+        arith,
+        some,
+        length-map sources (λ (u : VertexId).
+            u.0),
+      ))))
 
   pub read_none_more : length sources ≡ 0 → flat_map (read_in_step work w c v) (take step steps) ≡ [] →
       flat_map (read_in_step work w c v) (take (step + 1) steps) ≡ []
@@ -135,14 +140,16 @@ module _ (work : Work) (w : World) (round k : ℕ) where
   long lt = omega (arith, length-map (vertices_in w) (reads_in work w), lt)
 
   pub read_lines_more : k < length (vertices_in w) →
-      read_lines round 0 (take k lists) ++ read_line round k (reads_in work w k) ≡ read_lines round 0 (take (k + 1) lists)
+      read_lines round 0 (take k lists) ++ read_line round k (reads_in work w k)
+      ≡ read_lines round 0 (take (k + 1) lists)
   read_lines_more lt = numbered_more (reads_numbered round) lists k [] (read_line round k (reads_in work w k)) (long lt)
       (ap (read_line round k) (list_at_place lt))
 
   pub read_lines_split : k < length (vertices_in w) →
       (read_lines round 0 (take k lists) ++ read_line round k (reads_in work w k))
       ++ read_lines round (k + 1) (drop (k + 1) lists) ≡ read_lines round 0 lists
-  read_lines_split lt = numbered_split (reads_numbered round) lists k [] (read_line round k (reads_in work w k)) (long lt)
+  read_lines_split lt = numbered_split (reads_numbered round) lists k [] (read_line round k (reads_in work w k))
+      (long lt)
       (ap (read_line round k) (list_at_place lt))
 
   pub read_lines_all : length (vertices_in w) ≤ k → read_lines round 0 (take k lists) ≡ read_lines round 0 lists

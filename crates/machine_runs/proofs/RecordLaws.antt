@@ -105,7 +105,8 @@ module _ {X E : Type 0} (t : Telling X E) (text : List E → List ℕ) (IsDrawn 
           Leaves NoTask (Puts (t.table y) Ends) (outside new mid input) (outside new last input) outcome →
           RecordsOn t text IsDrawn name [] x g (outside shelf old input) (outside new last input) outcome
       behind_store outcome leaves = record_ends (outside new last input) outcome
-          (store_goes NoTask name bytes shelf new keeps (Puts (t.table y) Ends) mid input (outside new last input) outcome
+          (store_goes NoTask name bytes shelf new keeps (Puts (t.table y) Ends) mid input (outside new last input)
+          outcome
           leaves)
 
       -- it was, and the table was put, or could not be

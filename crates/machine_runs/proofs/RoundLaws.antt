@@ -17,9 +17,6 @@ use Rattle.vert_tree.specs.declared.program.Program.{Program}
 pub asked : (b : Bool) (text : List ℕ) → b ≡ true → text ≡ (if b then text else [])
 asked b text is = sym (ap (λ (a : Bool). if a then text else []) is)
 
-pub unasked : (b : Bool) (text : List ℕ) → b ≡ false → [] ≡ (if b then text else [])
-unasked b text is = sym (ap (λ (a : Bool). if a then text else []) is)
-
 -- the lines of rows are numbered
 pub rows_numbered : (p : Program) → AreNumbered (row_text p) (rows_text p)
 rows_numbered p = record { none = λ v. refl; more = λ v row rows. refl }
@@ -41,6 +38,7 @@ pub told_are : (lines : Lines) (work : Work) (w : World) (report first : Report)
     ≡ told_lines lines (told_in lines.reads work w first)
 told_are lines work w report first is =
     ap (λ (text : List ℕ).
-    (if lines.rounds then round_text report.round report.ruling report.active report.edges report.reads else []) ++ text)
+    (if lines.rounds then round_text report.round report.ruling report.active report.edges report.reads else [])
+    ++ text)
     (kept_asked lines.reads report.round (map (reads_in work w) (vertices_in w)))
     ∙ ap (λ (r : Report). told_lines lines (told_in lines.reads work w r)) is

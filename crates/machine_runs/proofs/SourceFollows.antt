@@ -31,12 +31,12 @@ use Rattle.rand_pcg.specs.Lcg.{Lcg}
 use Rattle.schedule_laws.specs.Events.{ring_in}
 use Rattle.schedule_laws.specs.Laws.{later_run, whole_run}
 use Rattle.schedule_laws.specs.Layout.{table_of}
-use Rattle.schedule_laws.specs.OutputText.{run_of}
+use Rattle.schedule_laws.specs.OutputText.{next_by, run_of}
 use Rattle.schedule_laws.specs.Runs.{IsSourceRun}
 use Rattle.schedule_laws.proofs.Follows.{Follows, count, few}
 use Rattle.schedule_laws.proofs.Parts.{parts_run}
 use Rattle.schedule_laws.proofs.Printing.{next_follows}
-use Rattle.schedule_laws.proofs.Saying.{ended_says, quiet, table_says, taken_says}
+use Rattle.schedule_laws.proofs.Saying.{ended_says, table_says, taken_says}
 use Rattle.schedule_laws.proofs.Whole.{first_site, later_goes, later_is_a_run, whole_follows, whole_is_a_run}
 use Rattle.symple_face.specs.declared.action.Action.TheVariants.{Over}
 use Rattle.symple_face.specs.Cluster.{IsOneRun, IsPlainRun, World, after, all_possible, choices_of, finished, first_world, is_complete, missing_of, possible, restarted_world, step}
@@ -55,9 +55,10 @@ use Rattle.vert_base.specs.Letters.{Letter}
 use Rattle.word_kinds.specs.Fits.{IsFitting}
 use Rattle.work_laws.specs.Sound.{core_sound}
 use Rattle.work_laws.proofs.Whole.{core_lawful}
-use Rattle.machine_runs.specs.SourceTellings.{IsDrawnOrder, IsPlainOrder, behind, by_source, first_untaken, next_events, order_fault, standing_fault, turn_fault}
+use Rattle.machine_runs.specs.SourceTellings.{IsDrawnOrder, IsPlainOrder, by_source, first_untaken, next_events, order_fault, standing_fault, turn_fault}
 use Rattle.machine_runs.specs.Tellings.{by_worlds, followed, lack_of, listed, recorded, why_of}
 use Rattle.machine_runs.proofs.TellingLaws.{AreAlike, GoesWell, followed_alike, recorded_alike}
+use Rattle.schedule_laws.specs.Texts.{no_lines}
 
 -- ---- what a machine waits for
 first_alike : (xs : List Name) (held : List Letter) (taken : List Name) →
@@ -157,7 +158,7 @@ module _ (src : Source) (parts : List PlainPart) (one : IsOneRun parts) (run : I
       let c = and_parts (possible w e) (all_possible core_work (step core_work w e) es) can in (
         sym (over_alike w k f) ∙ plain.0,
         ap (λ (all : List Event). slice_get all 0) (sym (choices_next w k f)) ∙ plain.1,
-        plain_order (step core_work w e) (behind src k e) (next_follows src parts one run same_ends w k f e c.0) es c.1
+        plain_order (step core_work w e) (next_by src k e) (next_follows src parts one run same_ends w k f e c.0) es c.1
             plain.2,
       )
 
@@ -168,7 +169,7 @@ module _ (src : Source) (parts : List PlainPart) (one : IsOneRun parts) (run : I
       let c = and_parts (possible w e) (all_possible core_work (step core_work w e) es) can in (
         sym (over_alike w k f) ∙ drawn.0,
         ap (λ (all : List Event). slice_get all (word_of g % length all)) (sym (choices_next w k f)) ∙ drawn.1,
-        drawn_order (step core_work w e) (behind src k e) (next_follows src parts one run same_ends w k f e c.0)
+        drawn_order (step core_work w e) (next_by src k e) (next_follows src parts one run same_ends w k f e c.0)
             (behind_word g) es c.1 drawn.2,
       )
 
@@ -182,7 +183,7 @@ module _ (src : Source) (parts : List PlainPart) (one : IsOneRun parts) (run : I
 
   module _ (lines : Lines) where
     goes_on : (w : World) (k : Skeleton) → Goes w k → (e : Event) → possible w e ≡ true →
-        Goes (step core_work w e) (behind src k e)
+        Goes (step core_work w e) (next_by src k e)
     goes_on w k g e can = record {
       reached = steps_on core_work core_sound w e g.reached can;
       follows = next_follows src parts one run same_ends w k g.follows e can;
@@ -221,7 +222,7 @@ module _ (src : Source) (parts : List PlainPart) (one : IsOneRun parts) (run : I
         let all = and_parts (all_possible core_work w (e ∷ es)) (finished (after core_work w (e ∷ es))) complete in
         let c = and_parts (possible w e) (all_possible core_work (step core_work w e) es) all.0 in (
           ap (option_map (why_of e)) (possible_played w e g.reached c.0),
-          goes_well (step core_work w e) (behind src k e) (goes_on w k g e c.0) es
+          goes_well (step core_work w e) (next_by src k e) (goes_on w k g e c.0) es
               (and_from (all_possible core_work (step core_work w e) es)
               (finished (after core_work (step core_work w e) es)) c.1 all.1),
         )
@@ -259,7 +260,7 @@ module _ (split : Split) (parts : List PlainPart) (one : IsOneRun parts) (fits :
           here = refl;
         };
         follows = follows_first;
-        ends = λ es complete. table_says quiet whole parts one is_run refl w k follows_first site.0 site.1
+        ends = λ es complete. table_says no_lines whole parts one is_run refl w k follows_first site.0 site.1
             (ap (λ n. if nat_le 1 n then n else 1) site.2) es complete;
       }
 

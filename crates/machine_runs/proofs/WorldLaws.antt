@@ -125,14 +125,16 @@ module _ (work : Work) (w : World) (k : ℕ) (s : State) (at : slice_get w.sites
   long : k < length (vertices_in w) → k < length rows
   long lt = omega (arith, length-map (vertices_in w) (row_in work w), lt)
 
-  same_line : k < length (vertices_in w) → line_of work w k ≡ row_text s.split.program.program k (get_or rows k empty_row)
+  same_line : k < length (vertices_in w) → line_of work w k
+      ≡ row_text s.split.program.program k (get_or rows k empty_row)
   same_line lt = ap (line_with work w k) at ∙ ap (row_text s.split.program.program k) (row_at_place lt)
 
   pub lines_more : k < length (vertices_in w) →
       lines_to work w k (slice_get w.sites 0) ++ line_of work w k ≡ lines_to work w (k + 1) (slice_get w.sites 0)
   lines_more lt =
       ap (λ (o : Option State). lines_to work w k o ++ line_of work w k) at
-      ∙ numbered_more (rows_numbered s.split.program.program) rows k empty_row (line_of work w k) (long lt) (same_line lt)
+      ∙ numbered_more (rows_numbered s.split.program.program) rows k empty_row (line_of work w k) (long lt)
+      (same_line lt)
       ∙ sym (ap (lines_to work w (k + 1)) at)
 
   pub lines_split : k < length (vertices_in w) →
@@ -140,7 +142,8 @@ module _ (work : Work) (w : World) (k : ℕ) (s : State) (at : slice_get w.sites
       ++ lines_behind work w (k + 1) (slice_get w.sites 0) ≡ rows_of work w
   lines_split lt =
       ap (λ (o : Option State). (lines_to work w k o ++ line_of work w k) ++ lines_behind work w (k + 1) o) at
-      ∙ numbered_split (rows_numbered s.split.program.program) rows k empty_row (line_of work w k) (long lt) (same_line lt)
+      ∙ numbered_split (rows_numbered s.split.program.program) rows k empty_row (line_of work w k) (long lt)
+      (same_line lt)
       ∙ rows_are work w s at
 
   pub lines_all : length (vertices_in w) ≤ k → lines_to work w k (slice_get w.sites 0) ≡ rows_of work w

@@ -1,5 +1,5 @@
 -- The first worlds of runs by machines of a kind, what they tell of their events, and plain runs.
-use Rattle.std.specs.Prelude.{◌≡◌, ◌==◌, ◌&&◌, nat_le, ℕ, Bool, true, false, List, [], ◌∷◌, Option, None, Some, drop, if◌then◌else◌, map, slice_get, take}
+use Rattle.std.specs.Prelude.{◌≡◌, ◌==◌, ◌&&◌, nat_le, ℕ, Bool, false, List, [], ◌∷◌, Option, None, Some, drop, if◌then◌else◌, map, slice_get, take}
 use Rattle.array_text.specs.Events.{event_line}
 use Rattle.array_text.specs.Tables.{row_text, rows_text}
 use Rattle.edge_reader.specs.EdgeList.{Graph}
@@ -85,7 +85,8 @@ course_from work lines w (e ∷ es) =
     Prints (log_line lines w e) (Prints (round_lines work lines w e) (course_from work lines (step work w e) es))
 
 -- the world is that of machines of a kind before any event, each made of its part of the graph
-pub record IsFirstWorld (work : Work) (program : Program) (graph : Graph) (machines draws : ℕ) (w : World) : Type 0 where
+pub record IsFirstWorld (work : Work) (program : Program) (graph : Graph) (machines draws : ℕ)
+    (w : World) : Type 0 where
   pub split : Split
   pub program_is : split.program.program ≡ program
   pub fits : IsFitting split.program.program
@@ -111,4 +112,5 @@ pub record GoesOn (work : Work) (lines : Lines) (w : World) (old new : Held) (ou
 -- a run that goes on behind some events, at a world and a sink, is one that goes on from before them
 abbrev pub LeadsOn : Work → Lines → World → Held → World → Held → Type 0
 LeadsOn work lines w old v new =
-    (after : Held) (outcome : Option Fault) → GoesOn work lines v new after outcome → GoesOn work lines w old after outcome
+    (after : Held) (outcome : Option Fault) → GoesOn work lines v new after outcome →
+    GoesOn work lines w old after outcome

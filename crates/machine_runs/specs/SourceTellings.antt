@@ -4,8 +4,7 @@ use Rattle.array_text.specs.Events.{event_line}
 use Rattle.array_text.specs.Tables.{table_text}
 use Rattle.circulant_plan.specs.declared.spot.Ring.{Ring}
 use Rattle.circulant_plan.specs.Choosing.{missing_of, names_in_order, ready_machines}
-use Rattle.circulant_plan.specs.Runs.{ruled}
-use Rattle.circulant_plan.specs.Skeleton.{Skeleton, has_name, is_finished, is_over, step_of}
+use Rattle.circulant_plan.specs.Skeleton.{Skeleton, has_name, is_finished, is_over}
 use Rattle.circulant_plan.specs.Standing.{Standing}
 use Rattle.circulant_plan.specs.Table.{needs_of}
 use Rattle.cluster_run.specs.declared.fault.EventFault.{EventFault}
@@ -14,7 +13,7 @@ use Rattle.cluster_run.specs.Faults.{lacks}
 use Rattle.delivery_log.specs.Choosers.{behind_word, word_of}
 use Rattle.rand_pcg.specs.Lcg.{Lcg}
 use Rattle.schedule_laws.specs.Events.{ring_in}
-use Rattle.schedule_laws.specs.OutputText.{ended_lines, ideal_taken, rulings_of, run_of}
+use Rattle.schedule_laws.specs.OutputText.{ended_lines, ideal_taken, next_by, run_of}
 use Rattle.symple_face.specs.Source.{Source}
 use Rattle.symple_words.specs.declared.line.Lines.{Lines}
 use Rattle.vert_base.specs.declared.message.Event.{Event}
@@ -50,17 +49,13 @@ next_events ring k = map (λ m. Go m) (ready_machines ring k) ++ map (λ x. Take
 
 -- ---- what the source's run tells of them
 
--- where a run stands behind an event
-abbrev pub behind : Source → Skeleton → Event → Skeleton
-behind src k e = step_of (ring_in src) (ruled (rulings_of src) k) e k
-
 -- each message is taken with its ideal body, and each round told as it is played
 abbrev pub by_source : Lines → Source → Telling Skeleton Event
 by_source lines src = record {
   own = λ k e. if lines.log then event_line e (ideal_taken src e) else [];
   ended = ended_lines lines src;
   table = λ k. table_text src.job.program (run_of src).last.rows;
-  behind = behind src;
+  behind = next_by src;
   refusal = λ k e. option_map (why_of e) (order_fault (ring_in src) k e);
   lacks = λ k. option_map lack_of (option_map lacks (missing_of (ring_in src) k));
 }
@@ -71,7 +66,8 @@ by_source lines src = record {
 abbrev pub IsPlainOrder : Source → Skeleton → List Event → Type 0
 IsPlainOrder src k [] = is_finished k ≡ true
 IsPlainOrder src k (e ∷ es) =
-    (is_finished k ≡ false) × (slice_get (next_events (ring_in src) k) 0 ≡ Some e) × IsPlainOrder src (behind src k e) es
+    (is_finished k ≡ false) × (slice_get (next_events (ring_in src) k) 0 ≡ Some e)
+    × IsPlainOrder src (next_by src k e) es
 
 -- the choice that the next word draws
 abbrev pub drawn_next : Ring → Lcg → Skeleton → Option Event
@@ -82,4 +78,4 @@ abbrev pub IsDrawnOrder : Source → Skeleton → Lcg → List Event → Type 0
 IsDrawnOrder src k g [] = is_finished k ≡ true
 IsDrawnOrder src k g (e ∷ es) =
     (is_finished k ≡ false) × (drawn_next (ring_in src) g k ≡ Some e)
-    × IsDrawnOrder src (behind src k e) (behind_word g) es
+    × IsDrawnOrder src (next_by src k e) (behind_word g) es

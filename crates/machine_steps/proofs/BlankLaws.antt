@@ -23,6 +23,7 @@ use Rattle.symple_face.specs.CoreSight.{program_of}
 use Rattle.symple_face.specs.CoreTakes.{classes_of, empty_partials, reduced_ops, slot_count}
 use Rattle.symple_face.specs.Plans.{loop_carry}
 use Rattle.symple_face.specs.Shapes.{reduced_in, words_in}
+use Rattle.state_laws.proofs.Carries.{few_carry}
 
 -- the same element for each of so many numbers
 pub same_for_each : {X : Type 0} (x : X) (a n : ℕ) → map (λ v. x) (range_with_len a n) ≡ replicate n x
@@ -56,16 +57,6 @@ reduced_count i [] = refl
 reduced_count i (Constant ∷ cs) = reduced_count (i + 1) cs
 reduced_count i (Carried ∷ cs) = reduced_count (i + 1) cs
 reduced_count i (Reduced op ∷ cs) = ap suc (reduced_count (i + 1) cs)
-
-few_carry : (breaks : Bool) (cs : List Class) (n : ℕ) → length cs ≤ n → words_in (carry_in breaks cs) ≤ n
-few_carry breaks cs n few = by (breaks || nat_lt 0 (carried_in cs))
-  where
-    by : (b : Bool) → words_in (if b then Some (record { words = carried_in cs }) else None) ≤ n
-    by true =
-        let told = length-filter is_carried cs in
-        let most = count_by-le-length is_carried cs in
-        omega (arith, few, told, most)
-    by false = omega arith
 
 -- ---- a split
 module _ (split : Split) where

@@ -15,20 +15,12 @@ use Rattle.double_buffer.specs.Held.{AreOfRound, Held}
 use Rattle.double_buffer.specs.Taking.{CanTake}
 use Rattle.symple_face.specs.CoreTakes.{emptied, emptied_under}
 use Rattle.round_laws.proofs.FoldScanHeld.{name_stays}
-
-has_either : (x : Name) (xs ys : List Name) → has_name x (xs ++ ys) ≡ (has_name x xs || has_name x ys)
-has_either x [] ys = refl
-has_either x (z ∷ zs) ys =
-    ap (λ b. same_name x z || b) (has_either x zs ys) ∙ assoc (same_name x z) (has_name x zs) (has_name x ys)
-  where
-    assoc : (a b c : Bool) → (a || (b || c)) ≡ ((a || b) || c)
-    assoc true b c = refl
-    assoc false b c = refl
+use Rattle.state_laws.proofs.Letters.{name_append}
 
 -- a body is dropped by its name, whatever was dropped before
 under-append : (xs ys : List Name) (l : Letter) → emptied_under ys (emptied_under xs l) ≡ emptied_under (xs ++ ys) l
 under-append xs ys l =
-    by (has_name l.name xs) ∙ ap (λ b. if b then record l { body = [] } else l) (sym (has_either l.name xs ys))
+    by (has_name l.name xs) ∙ ap (λ b. if b then record l { body = [] } else l) (sym (name_append l.name xs ys))
   where
     same : (c : Bool) → (if c then record l { body = [] } else record l { body = [] }) ≡ record l { body = [] }
     same true = refl

@@ -6,9 +6,7 @@ use Rattle.vert_base.specs.Letters.{Ascends, Letter, found, placed, without}
 use Rattle.vert_base.specs.Names.{is_before, same_name}
 use Rattle.vert_base.proofs.LetterLaws.{Behind, names_law, none_behind, not_later, not_same, one_way}
 use Rattle.symple_face.specs.CoreTakes.{emptied}
-
-abbrev pub bare : Name → Letter
-bare x = record { name = x; body = [] }
+use Rattle.state_laws.specs.Letters.{bare}
 
 -- where there is no such message nothing is dropped
 pub not_held : (x : Name) (ms : List Letter) → found x ms ≡ None → emptied (x ∷ []) ms ≡ ms
@@ -52,7 +50,3 @@ dropped x (z ∷ zs) up some = by (dropped x zs up.1) (same_name z.name x) refl 
         ap (λ b. if b then z ∷ placed (bare x) (without x zs) else bare x ∷ z ∷ without x zs)
         (found_behind z.name x zs up.0 some)
         ∙ ap (λ ms. z ∷ ms) (later some)
-
-pub none_found : (o : Option Letter) → is_some o ≡ false → o ≡ None
-none_found None e = refl
-none_found (Some l) e = cc

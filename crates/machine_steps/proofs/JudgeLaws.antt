@@ -36,6 +36,7 @@ use Rattle.vert_tree.specs.Typed.{is_typed}
 use Rattle.vert_tree.proofs.ReadLaws.{stop_read}
 use Rattle.vert_tree.proofs.TypedLaws.{stop_stands}
 use Rattle.circulant_plan.specs.Names.{verdict_name}
+use Rattle.round_laws.proofs.Judging.{stops_same}
 
 module _ (ts : List TotalDecl) (held told : List ℤ) (i : ℕ) where
   -- the total at a place is joined
@@ -94,12 +95,6 @@ verdicts_all round body sent to p n end count so_far =
     (range_with_len 1 n))
 
 -- ---- the stop test
--- it looks at no vertex
-pub stops_same : (o : Option Expr) → option_all (expr_read in_stop) o ≡ true → (a b : Env) → SameButVertex a b →
-    stops o b ≡ stops o a
-stops_same None read a b same = refl
-stops_same (Some test) read a b same = ap is_set (stop_anywhere test read a b same)
-
 pub stop_placed : (p : Program) → is_typed p ≡ true → (env : Env) → counts_of env ≡ stop_counts p →
     IsStopPlaced p.stop env
 stop_placed p typed env counts = by p.stop refl

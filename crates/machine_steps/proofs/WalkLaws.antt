@@ -28,10 +28,6 @@ pub record Walking (f : ℕ → LoopState → Scanned) (edges : List Edge) (star
   pub reads : zip_with (read_first edges) (take i ids) (take i counts)
       ++ map (λ x. x.reads) (scans f start (drop i ids) now) ≡ map (λ x. x.reads) (scans f start ids first)
 
-pub walking_none : (f : ℕ → LoopState → Scanned) (edges : List Edge) (start : ℕ) (ids : List ℕ)
-    (first : List LoopState) (counts : List ℕ) → Walking f edges start ids 0 first first counts
-walking_none f edges start ids first counts = record { states = refl; reads = refl }
-
 -- one vertex more
 module _ (f : ℕ → LoopState → Scanned) (start : ℕ) (ids : List ℕ) (i v : ℕ) (now new : List LoopState)
     (lt : i < length ids) (is : v ≡ get_or ids i 0)

@@ -170,7 +170,8 @@ module _ (most : ℕ) (ends : List ℕ) (edges : List Edge) (are : AreEnds most 
       (cases_Bool (lies_in ends m v)))
       (refresh_list ends k m edges) (all_passes (λ v. list_any (λ e. target e == v) between) (range_with_len 0 n))
 
-  own_known : filter (lies_in ends m) (known_of ends edges m) ≡ chunk_vertices ends m
+  -- of the vertices that a machine knows those of its chunk are its own
+  pub own_known : filter (lies_in ends m) (known_of ends edges m) ≡ chunk_vertices ends m
   own_known =
       let g : ℕ → List ℕ = λ k. if k == m then chunk_vertices ends k else refresh_list ends k m edges in
       filter-flat_map (lies_in ends m) g (range_with_len 0 (length ends))

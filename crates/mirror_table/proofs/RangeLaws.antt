@@ -39,11 +39,6 @@ counts_more number v end all list new x lt rest is at =
     ∙ (append_assoc (map number list) (v ∷ []) R
     ∙ (ap (λ ys. map number list ++ ys) (sym (range_first v end lt)) ∙ rest)))
 
-pub counts_all : {X : Type 0} (number : X → ℕ) (v end : ℕ) (all : List ℕ) (list : List X) → end ≤ v →
-    map number list ++ range_with_len v (end - v) ≡ all → map number list ≡ all
-counts_all number v end all list le rest = sym (append-nil (map number list))
-    ∙ (ap (λ ys. map number list ++ ys) (sym (range_none v end le)) ∙ rest)
-
 -- the lists of one more number
 pub flat_map_more : {X : Type 0} (f : ℕ → List X) (k : ℕ) →
     flat_map f (range_with_len 0 (k + 1)) ≡ flat_map f (range_with_len 0 k) ++ f k

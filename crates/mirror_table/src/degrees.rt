@@ -44,7 +44,7 @@ fn push_known(
 }
 
 /// The vertices of chunk `m` and those of the lists of the other chunks, chunk by chunk.
-pub(crate) fn known(
+pub fn known(
     alloc: Global,
     cuts: &Cuts<MACHINES>,
     m: u8,

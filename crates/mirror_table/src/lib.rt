@@ -8,5 +8,7 @@ mod laws;
 mod lists;
 mod machines;
 
+pub use degrees::known;
 pub use laws::{degrees_ascend, edges_once, shapes_agree};
+pub use lists::{Mirrors, mirrors_of};
 pub use machines::parts;

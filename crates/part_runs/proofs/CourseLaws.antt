@@ -82,7 +82,8 @@ module _ (prefix program : List ℕ) where
       IsParted play program prefix other → course ≡ other
   parted_same play course other a b =
       a.course_is
-      ∙ ap (parted prefix program) (parts_same play.machines play.draws play.graph a.parts b.parts a.of_graph b.of_graph)
+      ∙ ap (parted prefix program) (parts_same play.machines play.draws play.graph a.parts b.parts a.of_graph
+      b.of_graph)
       ∙ sym b.course_is
 
 -- ---- serving

@@ -1,11 +1,11 @@
 -- What serving an input leaves of the outside, up to the lines that are kept.
 use Rattle.std.proofs.Common.{◌≡◌, ◌≢◌, ℕ, List, Option, Some, None, Result, Ok, Err, refl, sym, ap, subst, ◌∙◌}
-use Rattle.std.specs.Prelude.{option_map, drop}
+use Rattle.std.specs.Prelude.{IfSome, drop, option_map}
 use Rattle.outside.specs.Bytes.{gained}
 use Rattle.command_steps.specs.declared.failure.Failure.{Failure}
 use Rattle.command_steps.specs.Faults.{fault_of}
 use Rattle.command_steps.specs.FileWalks.{HasBytes, StoresFile}
-use Rattle.command_steps.specs.Leaves.{IsLeft, Leaves, NotServed, PutFailed, Ran, Refused, Served, TakeFailed, WantsAtRun, WantsToServe}
+use Rattle.command_steps.specs.Leaves.{Leaves, NotServed, PutFailed, Ran, Refused, Served, TakeFailed, WantsAtRun, WantsToServe}
 use Rattle.command_steps.specs.Commands.{worker_order}
 use Rattle.command_steps.specs.Notes.{BadPart, Fault}
 use Rattle.command_steps.specs.Orders.{Course, Ends, Fails, IsOver, Keeps, NoTask, Runs, Stores, Task, follows}
@@ -28,7 +28,7 @@ use Rattle.worker_stream.specs.declared.fault.PartFault.{PartFault}
 use Rattle.worker_stream.specs.declared.fault.PartFault.TheVariants.{Magic, Length, Number, Text, Want}
 use Rattle.worker_stream.specs.declared.fault.ServeFault.{ServeFault}
 use Rattle.worker_stream.specs.declared.fault.ServeFault.TheVariants as serve
-use Rattle.worker_stream.specs.Serving.{AreLeft, IsServed, Serves, Streams}
+use Rattle.worker_stream.specs.Serving.{IsServed, Serves, Streams}
 use Rattle.worker_stream.specs.Worker as worked
 use Rattle.worker_stream.specs.Worker.{worker}
 
@@ -41,10 +41,6 @@ input_of s = record { bytes = s.left; faults = s.takes }
 
 abbrev pub between : Kept → Streams → Outside
 between shelf s = outside shelf (sink_of s) (input_of s)
-
-left_is : (left : Option (List ℕ)) (bytes : List ℕ) → AreLeft left bytes → IsLeft left bytes
-left_is None bytes is = tt
-left_is (Some left) bytes is = is
 
 -- what stands behind an input that was served
 abbrev behind : Kept → worked.Served → Streams → ℕ → Outside
@@ -67,7 +63,7 @@ served_is shelf w old new is =
     (record { bytes = option_map (drop w.used) old.left; faults = n })) is.takes
 
 module _ (work : Work) (part : PlainPart) (split : Split) (rows : List ℕ)
-    (shelf : Kept) (old new : Streams) (bytes : List ℕ) (are : AreLeft old.left bytes) where
+    (shelf : Kept) (old new : Streams) (bytes : List ℕ) (are : IfSome old.left (λ l. l ≡ bytes)) where
   abbrev does : worked.Served
   does = worker work part split bytes
 
@@ -76,7 +72,7 @@ module _ (work : Work) (part : PlainPart) (split : Split) (rows : List ℕ)
       Leaves NoTask (follows (course_after work rows does.end)) (between shelf new) after outcome →
       Leaves NoTask (follows (serving work part split rows)) (between shelf old) after outcome
   goes_behind is after outcome rest =
-      Served bytes (left_is old.left bytes are) new.spare is.spared
+      Served bytes are new.spare is.spared
       (subst (λ (o : Outside). Leaves NoTask (follows (course_after work rows does.end)) o after outcome)
       (served_is shelf does old new is) rest)
 
@@ -93,15 +89,15 @@ module _ (work : Work) (part : PlainPart) (split : Split) (rows : List ℕ)
   serve_stops state (serve.Message code at) (ends, is) = refused_behind is _ (ap (course_after work rows) ends)
   serve_stops state (serve.Ended name) (ends, is) = refused_behind is _ (ap (course_after work rows) ends)
   serve_stops state serve.Source (is, rose, calm) =
-      NotServed bytes (left_is old.left bytes are)
+      NotServed bytes are
       (record { size = is.size; within = is.within; lost = is.lost; part = is.part; shelf = refl })
       (TakeFailed rose calm refl)
   serve_stops state serve.Sink (is, rose, sure, calm) =
-      NotServed bytes (left_is old.left bytes are)
+      NotServed bytes are
       (record { size = is.size; within = is.within; lost = is.lost; part = is.part; shelf = refl })
       (PutFailed rose sure calm refl)
   serve_stops state serve.Want (is, takes, puts) =
-      NotServed bytes (left_is old.left bytes are)
+      NotServed bytes are
       (record { size = is.size; within = is.within; lost = is.lost; part = is.part; shelf = refl })
       (WantsToServe puts takes refl)
 
@@ -153,7 +149,8 @@ module _ (work : Work) (rows : List ℕ) where
 
   -- there is no part, and the command ended
   pub part_stops : (name : List ℕ) (old new : Kept) (fault : Fault) → LacksPart old new name fault → (out : Held)
-      (input : Left) → Leaves courses (worker_order name rows) (outside old out input) (outside new out input) (Some fault)
+      (input : Left) → Leaves courses (worker_order name rows) (outside old out input) (outside new out input)
+      (Some fault)
   part_stops name old new fault (NotLoaded none) out input =
       bytes_stop courses old new name GRAPH_BYTES (BadPart 2) fault none
       (λ bytes. Runs (order.Served bytes rows) follows) out input
@@ -167,14 +164,16 @@ module _ (work : Work) (rows : List ℕ) where
   -- the part was read, and its machine served
   pub part_serves : (name : List ℕ) (old new : Kept) (part : Part) → HasPart old new name part → (out : Held)
       (input : Left) (after : Outside) (outcome : Option Fault) →
-      Leaves NoTask (follows (serving work (plain_of part) part.split.value rows)) (outside new out input) after outcome →
+      Leaves NoTask (follows (serving work (plain_of part) part.split.value rows)) (outside new out input) after
+      outcome →
       Leaves courses (worker_order name rows) (outside old out input) after outcome
   part_serves name old new part has out input after outcome leaves =
       bytes_go courses old new name GRAPH_BYTES (BadPart 2) has.bytes has.has
       (λ bytes. Runs (order.Served bytes rows) follows) out input after outcome
       (Ran (serving work (plain_of part) part.split.value rows)
       (IsPart (plain_of part) part.split.value has.is refl)
-      (unplayed courses (follows (serving work (plain_of part) part.split.value rows)) (outside new out input) after outcome
+      (unplayed courses (follows (serving work (plain_of part) part.split.value rows)) (outside new out input) after
+      outcome
       leaves))
 
 -- what a file answers that was loaded
@@ -190,7 +189,8 @@ judged_here old new name bytes has read same (Err why) none =
     NotRead bytes has (subst (λ (b : List ℕ). NoPart b (fault_of why)) same none)
 
 -- what judging bytes answers
-pub judged_by : (bytes : List ℕ) (part : Part) → ReadsPart bytes (Ok part) → IsPartFile bytes (plain_of part) part.split.value
+pub judged_by : (bytes : List ℕ) (part : Part) → ReadsPart bytes (Ok part) →
+    IsPartFile bytes (plain_of part) part.split.value
 judged_by bytes part (begins, (sections, cut, (sound, is, says))) = record {
   begins = begins;
   sections = sections;

@@ -1,5 +1,5 @@
 // `worker`: one machine that serves the messages of an input.
-ghost use Rattle.std.specs.Prelude.{◌≡◌, ◌≤◌, List, ℕ};
+ghost use Rattle.std.specs.Prelude.{◌≡◌, ◌≤◌, IfSome, List, ℕ};
 ghost use Rattle.command_steps.specs.Commands.{worker_order};
 ghost use Rattle.command_steps.specs.Faults.{fault_of};
 ghost use Rattle.command_steps.specs.Leaves.{Leaves};
@@ -9,7 +9,7 @@ ghost use Rattle.command_steps.specs.Walks.{fault_after};
 ghost use Rattle.part_runs.specs.PartWalks.{GivesPart, IsPartRun, JudgesPart, ServesInput, failure_for};
 ghost use Rattle.part_runs.specs.Serving.{part_fault, serving};
 ghost use Rattle.symple_face.specs.PartViews.{plain_of};
-ghost use Rattle.worker_stream.specs.Serving.{AreLeft, streams};
+ghost use Rattle.worker_stream.specs.Serving.{streams};
 ghost use Rattle.worker_stream.specs.Worker.{worker};
 
 use crate::rows::store_rows;
@@ -83,7 +83,8 @@ fn serve_part<S: Site, H: Shelf, I: Source, O: Sink>(
     input: &mut I,
     out: &mut O,
 ) -> Result<(), Failure>
-    ensures order { Leaves NoTask (follows (serving S.work (plain_of part) part.split.value rows.now))
+    ensures order { Leaves NoTask
+        (follows (serving S.work (plain_of part) part.split.value rows.now))
         (outside (shelf_state H.files H.loads H.stores shelf.old)
         (sink_state O.held O.faults O.spare out.old) (input_state I.left I.faults input.old))
         (outside (shelf_state H.files H.loads H.stores shelf.new)
@@ -102,7 +103,7 @@ fn serve_input<S: Site, I: Source, O: Sink>(
     input: &mut I,
     out: &mut O,
 ) -> Result<S, Failure>
-    ensures { (bytes : List ℕ) × AreLeft (I.left input.old) bytes
+    ensures { (bytes : List ℕ) × IfSome (I.left input.old) (λ left. left ≡ bytes)
         × ServesInput S.state (worker S.work (plain_of part) part.split.value bytes)
         (streams I.left I.faults O.held O.faults O.spare input.old out.old)
         (streams I.left I.faults O.held O.faults O.spare input.new out.new) result }

@@ -7,7 +7,7 @@ use Rattle.vert_eval.specs.declared.environment.Env.{Env}
 use Rattle.vert_eval.specs.declared.environment.Flow.TheVariants.{Going}
 use Rattle.vert_eval.specs.Runs.{Act, Ran, in_turn}
 use Rattle.vert_eval.proofs.RunLaws.{turn_going}
-use Rattle.plain_run.specs.Frames.{SameEnd, SameFrame}
+use Rattle.plain_run.specs.Frames.{SameEnd, SameCounts}
 
 module _ {X : Type 0} (act : X → Act) (xs : List X) (i : ℕ) (x : X) (env : Env) (lt : i < length xs)
     (is : x ≡ get_or xs i x) where
@@ -39,8 +39,8 @@ SameEnd-trans i j k ps qs rs a b c p q = record {
       ∙ q.partials;
 }
 
-pub SameFrame-trans : (a b c : Env) → SameFrame a b → SameFrame b c → SameFrame a c
-SameFrame-trans a b c p q = record {
+pub SameCounts-trans : (a b c : Env) → SameCounts a b → SameCounts b c → SameCounts a c
+SameCounts-trans a b c p q = record {
   counts = q.counts ∙ p.counts;
   id = q.id ∙ p.id;
   round = q.round ∙ p.round;

@@ -28,6 +28,3 @@ none_more slots i values more lt so_far is =
 
 pub length_empty : (slots : List SlotDecl) → length (map empty_partial (map (λ s. s.op) slots)) ≡ length slots
 length_empty slots = length-map (map (λ s. s.op) slots) empty_partial ∙ length-map slots (λ s. s.op)
-
-pub length_none : (slots : List SlotDecl) → length (no_values (map (λ s. s.op) slots)) ≡ length slots
-length_none slots = length-map (map (λ s. s.op) slots) (λ op. None) ∙ length-map slots (λ s. s.op)

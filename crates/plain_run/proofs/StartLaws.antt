@@ -16,7 +16,7 @@ use Rattle.slot_merge.specs.Combine.{combined_of, neutral}
 use Rattle.vert_eval.specs.declared.environment.Env.{Env}
 use Rattle.vert_eval.specs.Words.{is_set}
 use Rattle.vert_eval.specs.Values.{counts_of, value_of}
-use Rattle.vert_eval.specs.Rounds.{Scene, env_at, row_after, row_at, rows_after}
+use Rattle.vert_eval.specs.Rounds.{Scene, env_at, row_after, rows_after}
 use Rattle.vert_eval.specs.SourceRun.{Job, first_row, scene_of, standing_after, total_after, totals_after, with_row}
 use Rattle.plain_run.specs.declared.job.Job as code_job
 use Rattle.plain_run.specs.declared.job.Standing as code_standing
@@ -39,20 +39,6 @@ first_row_is j v env left words active e w l a =
     l ∙ (ap (λ ws. with_row (row ws) env) all ∙ ap (with_row (row firsts)) e) in
     let put : List ℤ → Bool → Row = λ ws b. record { words = record { items = ws }; active = b } in
     ap (λ ws. put ws active) all ∙ ap (put firsts) (a ∙ ap (λ x. is_set (value_of j.program.start x)) same)
-
--- how many words the environment of a vertex has where there are rows alone
-pub row_counts_are : (s : Scene) (v : ℕ) (p : Program) → length (row_at s.rows v).words.items ≡ length p.fields.items
-    → s.totals ≡ [] → counts_of (env_at s v []) ≡ row_counts p
-row_counts_are s v p wide none =
-    let made : ℕ → ℕ → Counts = λ f t. record {
-      fields = f;
-      locals = 0;
-      sends = 0;
-      slots = 0;
-      totals = t;
-      other_fields = f;
-    } in
-    ap (λ f. made f (length s.totals)) wide ∙ ap (λ ts. made (length p.fields.items) (length ts)) none
 
 -- one vertex more of a total
 pub total_more :

@@ -7,7 +7,7 @@ use Rattle.vert_eval.specs.Values.{counts_of}
 use Rattle.vert_eval.specs.Runs.{Ran}
 
 -- what stays the same in a run
-pub record SameFrame (old new : Env) : Type 0 where
+pub record SameCounts (old new : Env) : Type 0 where
   pub counts : counts_of new ≡ counts_of old
   pub id : new.id ≡ old.id
   pub round : new.round ≡ old.round

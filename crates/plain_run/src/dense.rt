@@ -6,7 +6,7 @@ ghost use Rattle.slot_merge.specs.Partials.{with_emissions};
 ghost use Rattle.vert_eval.specs.Values.{CanDraw, counts_of};
 ghost use Rattle.vert_eval.specs.declared.environment.Flow.TheVariants.{Going};
 ghost use Rattle.vert_eval.specs.Rounds.{dense_at, dense_block, loop, member_act, with_lets};
-ghost use Rattle.plain_run.specs.Frames.{SameDraws, SameFrame};
+ghost use Rattle.plain_run.specs.Frames.{SameDraws, SameCounts};
 ghost use Rattle.plain_run.specs.Views.{AreInside, AreWide, IsReady, counts_in, members_at, members_in, scene_of};
 
 use super::graph::Members;
@@ -44,7 +44,7 @@ fn visit(scene: &Scene, body: &[Stmt], member: &Edge, env: &mut Env, emits: &mut
     ensures flow { result ≡ (member_act (scene_of scene.now) body.now member.now env.old).flow }
     ensures emits { emits.new.slots.items ≡ with_emissions env.old.key emits.old.slots.items
         (member_act (scene_of scene.now) body.now member.now env.old).emitted }
-    ensures kept { SameFrame env.old env.new }
+    ensures kept { SameCounts env.old env.new }
     ensures partials { length emits.new.slots.items ≡ length emits.old.slots.items }
 {
     enter_member(scene, member, env);
@@ -80,7 +80,7 @@ fn run_members(
     ensures whole { result.flow ≡ Going → result.read ≡ length members.now }
     ensures reads { map source (take result.read members.now)
         ≡ (loop (scene_of scene.now) body.now members.now env.old).reads }
-    ensures kept { SameFrame env.old env.new }
+    ensures kept { SameCounts env.old env.new }
     ensures partials { length emits.new.slots.items ≡ length emits.old.slots.items }
 {
     let mut read = 0;
@@ -123,7 +123,7 @@ fn run_loop(
     ensures within { result ≤ length (members_in members.now) }
     ensures reads { map source (take result (members_in members.now))
         ≡ (loop (scene_of scene.now) body.now (members_in members.now) env.old).reads }
-    ensures kept { SameFrame env.old env.new }
+    ensures kept { SameCounts env.old env.new }
     ensures partials { length emits.new.slots.items ≡ length emits.old.slots.items }
 {
     let first = run_members(scene, body, members.first, env, emits);

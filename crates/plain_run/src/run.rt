@@ -4,7 +4,7 @@ ghost use Rattle.vert_tree.specs.Places.{Rights, body_placed, is_target, stmt_pl
 ghost use Rattle.slot_merge.specs.Partials.{with_emissions};
 ghost use Rattle.vert_eval.specs.Values.{CanDraw, counts_of};
 ghost use Rattle.vert_eval.specs.Runs.{act_of, emission, noted, run, with_target};
-ghost use Rattle.plain_run.specs.Frames.{SameFrame};
+ghost use Rattle.plain_run.specs.Frames.{SameCounts};
 
 use slot_merge::Emits;
 use vert_eval::{Env, Flow, assign, eval, put, truth, word_in};
@@ -20,7 +20,7 @@ pub(crate) fn run_body(body: &[Stmt], env: &mut Env, emits: &mut Emits) -> Flow
     ensures flow { result ≡ (run body.now env.old).flow }
     ensures emits { emits.new.slots.items ≡ with_emissions env.old.key emits.old.slots.items
         (run body.now env.old).emitted }
-    ensures kept { SameFrame env.old env.new }
+    ensures kept { SameCounts env.old env.new }
     ensures partials { length emits.new.slots.items ≡ length emits.old.slots.items }
 {
     for stmt in body {
@@ -41,7 +41,7 @@ fn run_stmt(stmt: &Stmt, env: &mut Env, emits: &mut Emits) -> Flow
     ensures flow { result ≡ (act_of stmt.now env.old).flow }
     ensures emits { emits.new.slots.items ≡ with_emissions env.old.key emits.old.slots.items
         (act_of stmt.now env.old).emitted }
-    ensures kept { SameFrame env.old env.new }
+    ensures kept { SameCounts env.old env.new }
     ensures partials { length emits.new.slots.items ≡ length emits.old.slots.items }
 {
     match stmt {
@@ -76,7 +76,7 @@ fn run_stmt(stmt: &Stmt, env: &mut Env, emits: &mut Emits) -> Flow
 fn assign_to(target: What, op: AssignOp, word: i64, env: &mut Env)
     requires { (rights : Rights) × IsTrue (is_target rights (counts_of env.old) target) }
     ensures value { env.new ≡ with_target target op word env.old }
-    ensures kept { SameFrame env.old env.new }
+    ensures kept { SameCounts env.old env.new }
 {
     match target {
         What::Field(i) => {

@@ -138,7 +138,7 @@ lets_filled at place p (Reduced op ∷ cs) left buckets (q ∷ qs) are each =
 
 -- ---- environments
 -- lets change nothing but the locals
-only_locals : (ds : List Decl) (env : Env) → with_lets ds env ≡ record env { locals = (with_lets ds env).locals }
+pub only_locals : (ds : List Decl) (env : Env) → with_lets ds env ≡ record env { locals = (with_lets ds env).locals }
 only_locals [] env = refl
 only_locals (d ∷ ds) env =
     only_locals ds (record env { locals = record { items = env.locals.items ++ value_of d.value env ∷ [] } })

@@ -10,7 +10,7 @@ use Rattle.vert_base.specs.declared.value.Row.{Row}
 use Rattle.vert_base.specs.declared.value.Ruling.{Ruling}
 use Rattle.vert_base.specs.declared.value.Ruling.TheVariants as ruling
 use Rattle.vert_base.specs.Letters.{Letter, found}
-use Rattle.vert_eval.specs.SourceRun.{Job, active_edges, ruling_after, standing_after}
+use Rattle.vert_eval.specs.SourceRun.{Job, active_edges, ruling_after}
 use Rattle.slot_merge.specs.Filled.{AreFilled}
 use Rattle.circulant_plan.specs.declared.spot.Spot.TheVariants.{Judge, Over}
 use Rattle.circulant_plan.specs.Names.{tally_name}
@@ -36,7 +36,6 @@ use Rattle.round_laws.specs.Partials.{partial_ops}
 use Rattle.round_laws.specs.Tallies.{source_count}
 use Rattle.round_laws.proofs.FoldCloses.{at_most, begin, no_reads, no_ring, no_words}
 use Rattle.round_laws.proofs.FoldScanHeld.{found_holds, ready_one, ready_rest, still_ahead}
-use Rattle.round_laws.proofs.IdealClose.{stand_next}
 use Rattle.round_laws.proofs.Judging.{counts_ideal, judges_as_source}
 use Rattle.round_laws.proofs.ReadsTargets.{targets_read}
 use Rattle.round_laws.proofs.Tallies.{tallies_summed}
@@ -49,11 +48,6 @@ ready_each f (k ∷ ks) held ready =
     (ready_one (f k) (map f ks) held ready, ready_each f ks held (ready_rest (f k) (map f ks) held ready))
 
 -- ---- what stands after a round of the run follows of its rows
-pub stands_after : (src : Source) (round : ℕ) → src.base ≤ round →
-    stand src (round + 1) ≡ standing_after src.job round (stand src (round + 1)).rows
-stands_after src round le =
-    let next = stand_next src round le in next ∙ ap (standing_after src.job round) (sym (ap (λ x. x.rows) next))
-
 module _ (src : Source) (most round : ℕ) (state : State) (fits : IsCountedRound src most round) where
   abbrev ends : List ℕ
   ends = src.job.graph.ends

@@ -127,7 +127,7 @@ same_in_turn key f g (e ∷ es) qs all =
     ∙ same_in_turn key f g es (with_emissions (key e) qs (g e)) all.1
 
 -- what holds of all of two lists of facts holds of their pairs
-all_pairs : {X : Type 0} (P Q R : X → Type 0) (xs : List X) → ((x : X) → P x → Q x → R x) → AllByRecursion P xs →
+pub all_pairs : {X : Type 0} (P Q R : X → Type 0) (xs : List X) → ((x : X) → P x → Q x → R x) → AllByRecursion P xs →
     AllByRecursion Q xs → AllByRecursion R xs
 all_pairs P Q R [] f ps qs = tt
 all_pairs P Q R (x ∷ xs) f ps qs = (f x ps.0 qs.0, all_pairs P Q R xs f ps.1 qs.1)

@@ -43,8 +43,9 @@ use Rattle.round_laws.specs.SparseClose.{push_buckets}
 use Rattle.round_laws.proofs.FoldPushLists.{all_among, all_told, empty_push, lies_by_owner}
 use Rattle.round_laws.proofs.FoldPushWalk.{worked_filled, worked_length}
 use Rattle.round_laws.proofs.FoldTakes.{known_stays, totals_stay}
-use Rattle.round_laws.proofs.Held.{all_placed, apart_names, still_found}
+use Rattle.round_laws.proofs.Held.{still_found}
 use Rattle.round_laws.proofs.Members.{push_members}
+use Rattle.state_laws.proofs.Letters.{all_placed, apart_names}
 
 clash : true ≡ false → ⊥
 clash e = cc

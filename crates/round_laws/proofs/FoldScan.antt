@@ -50,7 +50,7 @@ use Rattle.round_laws.specs.FoldScan.{IsDenseRound, ScansAndGoesOn}
 use Rattle.round_laws.specs.IsIdeal.{HoldsBody, IsIdeal, came_words, dense_words, half_at, is_dense, is_past, keys_below, reads_held, ring_held, step_came, words_by}
 use Rattle.round_laws.specs.Partials.{partial_ops, sent_words}
 use Rattle.round_laws.proofs.FoldScanHalves.{half_within, in_half, owner_holds}
-use Rattle.round_laws.proofs.FoldScanHeld.{still_ahead, still_there, still_whole}
+use Rattle.round_laws.proofs.FoldScanHeld.{still_ahead, still_whole}
 use Rattle.round_laws.proofs.FoldScanPlaces.{IsBehindScan, behind, is_behind, last_step}
 use Rattle.round_laws.proofs.FoldScanReady.{own_last, scans_at}
 use Rattle.round_laws.proofs.IdealClose.{half_low}
@@ -58,6 +58,7 @@ use Rattle.round_laws.proofs.IdealSparse.{owner_low}
 use Rattle.round_laws.proofs.Lists.{any_kept, any_range}
 use Rattle.round_laws.proofs.Partials.{fills_sent}
 use Rattle.round_laws.proofs.Sights.{beside_is}
+use Rattle.state_laws.proofs.Letters.{still_there}
 
 -- ---- tests
 now_or : (b e g : Bool) → e ≡ true → g ≡ true → (b || (e && g)) ≡ true

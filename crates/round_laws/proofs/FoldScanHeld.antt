@@ -80,15 +80,6 @@ found_emptied xs x (y ∷ ys) =
     by true rest = refl
     by false rest = rest
 
--- the names stay
-pub still_there : (xs : List Name) (x : Name) (held : List Letter) →
-    is_some (found x (emptied xs held)) ≡ is_some (found x held)
-still_there xs x held = ap is_some (found_emptied xs x held) ∙ by (found x held)
-  where
-    by : (o : Option Letter) → is_some (option_map (emptied_under xs) o) ≡ is_some o
-    by None = refl
-    by (Some l) = refl
-
 -- and a body under another name
 pub still_whole : (xs : List Name) (x : Name) (held : List Letter) → has_name x xs ≡ false →
     found x (emptied xs held) ≡ found x held

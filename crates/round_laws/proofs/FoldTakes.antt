@@ -20,7 +20,8 @@ use Rattle.round_laws.specs.FoldTakes.{TakesWhatIsKept}
 use Rattle.round_laws.specs.IsIdeal.{HoldsBody, IsIdeal, came_words, half_at, awaits_begin, is_open, is_past, is_worked, keys_below, sends_came, sparse_words, step_came, words_by}
 use Rattle.round_laws.specs.Partials.{partial_ops, sent_words}
 use Rattle.round_laws.specs.SparseClose.{push_buckets}
-use Rattle.round_laws.proofs.Held.{all_placed, apart_names, still_found}
+use Rattle.round_laws.proofs.Held.{still_found}
+use Rattle.state_laws.proofs.Letters.{all_placed, apart_names}
 
 -- with a message more that is no verdict, the machine knows what it knew
 module _ (s : State) (l : Letter) (no_verdict : l.name.kind ≡ kind.Verdict → ⊥) where

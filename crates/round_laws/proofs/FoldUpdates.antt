@@ -44,12 +44,13 @@ use Rattle.round_laws.specs.Scans.{Sees}
 use Rattle.round_laws.specs.Vertices.{are_some, members_at}
 use Rattle.round_laws.proofs.FoldScanHalves.{in_half}
 use Rattle.round_laws.proofs.FoldTakes.{known_stays, totals_stay}
-use Rattle.round_laws.proofs.Held.{all_placed, apart_names, still_found}
+use Rattle.round_laws.proofs.Held.{still_found}
 use Rattle.round_laws.proofs.IdealScans.{scans_ideal}
 use Rattle.round_laws.proofs.Lists.{any-filter, any_and, any_range, any_same}
 use Rattle.round_laws.proofs.Partials.{fills_sent}
 use Rattle.round_laws.proofs.Sights.{beside_is}
 use Rattle.round_laws.proofs.Vertices.{refreshed_law}
+use Rattle.state_laws.proofs.Letters.{all_placed, apart_names}
 
 -- ---- lists
 -- a number is among those that pass a test where it passes and is among them all

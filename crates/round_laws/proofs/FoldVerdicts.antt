@@ -32,7 +32,7 @@ use Rattle.round_laws.specs.FoldVerdicts.{TakesVerdicts}
 use Rattle.round_laws.specs.IsIdeal.{HoldsBody, IsIdeal, came_words, half_at, is_dense, is_past, keys_below, reads_held, ring_held, words_by}
 use Rattle.round_laws.specs.Partials.{partial_ops}
 use Rattle.round_laws.proofs.FoldTakes.{IsAside, came_stay}
-use Rattle.round_laws.proofs.Held.{all_placed}
+use Rattle.state_laws.proofs.Letters.{all_placed}
 
 ruling_told : (r : Ruling) (totals : List ℤ) → ruling_read (verdict_body (record { ruling = r; totals = totals })) ≡ r
 ruling_told ruling.Stop totals = refl

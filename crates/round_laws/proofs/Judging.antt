@@ -42,7 +42,7 @@ use Rattle.round_laws.proofs.Tallies.{sum-passing}
 use Rattle.round_laws.proofs.Vertices.{own_law}
 
 -- ---- the ruling
-stops_same : (o : Option Expr) → option_all (expr_read in_stop) o ≡ true → (a b : Env) → SameButVertex a b →
+pub stops_same : (o : Option Expr) → option_all (expr_read in_stop) o ≡ true → (a b : Env) → SameButVertex a b →
     stops o b ≡ stops o a
 stops_same None read a b same = refl
 stops_same (Some test) read a b same = ap is_set (stop_anywhere test read a b same)

@@ -11,19 +11,19 @@ use Rattle.slot_merge.proofs.FillLaws.{fills_more, has_value}
 use Rattle.symple_face.specs.CoreTakes.{with_values}
 use Rattle.round_laws.specs.Partials.{FillsSent}
 
-more_nothing : (b : Bool) (xs : List ℤ) → xs ≡ (if b then xs ++ [] else xs)
-more_nothing true xs = sym (append-nil xs)
-more_nothing false xs = refl
-
 -- with nothing more under a key
 filled_still : (op : Combine) (bucket : ℕ → List ℤ) (bound key : ℕ) (words : List ℤ) (q : Partial) → words ≡ [] →
     Filled op bucket bound q → Filled op (with_more bucket key words) bound q
 filled_still op bucket bound key words q none f = record {
   words = f.words;
   is = f.is;
-  each = λ k. f.each k ∙ more_nothing (key == k) (bucket k) ∙ ap (λ ws. with_more bucket key ws k) (sym none);
+  each = λ k. f.each k ∙ still k (key == k) ∙ ap (λ ws. with_more bucket key ws k) (sym none);
   low = f.low;
 }
+  where
+    still : (k : ℕ) (b : Bool) → bucket k ≡ (if b then bucket k ++ [] else bucket k)
+    still k true = sym (append-nil (bucket k))
+    still k false = refl
 
 filled_word : (op : Combine) (bucket : ℕ → List ℤ) (bound key : ℕ) (words : List ℤ) (word : ℤ) (q : Partial) →
     key < bound →

@@ -30,7 +30,7 @@ use Rattle.round_laws.proofs.Members.{scan_members}
 use Rattle.round_laws.proofs.Tallies.{sum-passing}
 
 -- what the machine of a step reads where no members lie with it
-nothing_read : (src : Source) (round v c step : ℕ) (o : Option Dense) → step_members src v c step ≡ [] →
+pub nothing_read : (src : Source) (round v c step : ℕ) (o : Option Dense) → step_members src v c step ≡ [] →
     (ran_with src round v c step o).reads ≡ []
 nothing_read src round v c step None none = refl
 nothing_read src round v c step (Some d) none = by (is_set (value_of d.when_test env))
@@ -83,7 +83,7 @@ module _ (src : Source) (most m round : ℕ) (are : AreEnds most src.job.graph.e
         nothing_read src round v c step src.job.program.dense
         (ap (λ k. members_with ends k (members_in src v)) reader ∙ no_scan)
 
-    unread : ideal_reads src round m v ≡ []
+    pub unread : ideal_reads src round m v ≡ []
     unread =
         ap (λ l. if nat_le src.base round then l else []) (by_ruling (stand src round).ruling)
         ∙ none (nat_le src.base round)

@@ -3,7 +3,7 @@ use Rattle.std.proofs.Common.{◌≡◌, ◌≢◌, ℕ, ℤ, zero, suc, ◌+◌
 use Rattle.std.specs.Prelude.{slice_index}
 use Rattle.std.specs.List.{filter, flat_map, range_with_len}
 use Rattle.std.proofs.lemmas.List.Concat.{flat_map-append, length-flat_map}
-use Rattle.std.proofs.lemmas.List.Sums.{sum-map, sum_by-append, sum_by-cons}
+use Rattle.std.proofs.lemmas.List.Sums.{sum-map, sum_by-append}
 use Rattle.vert_base.specs.declared.value.Combine.{Combine}
 use Rattle.vert_base.specs.declared.value.Combine.TheVariants.{First}
 use Rattle.slot_merge.specs.Combine.{combined_of, neutral, total_of}
@@ -17,11 +17,9 @@ use Rattle.graph_table.proofs.FilterLaws.{all_range, all_true, filter-flat_map, 
 use Rattle.symple_face.specs.Parts.{chunk_vertices}
 use Rattle.round_laws.specs.Sums.{ChunksCover, CountsByChunks, StepsAreMachines, SumsByChunks, SumsByMachines, TotalsByChunks, each}
 use Rattle.symple_face.proofs.ChunkLaws.{chunk_rises}
+use Rattle.state_laws.proofs.Sums.{sum-cons}
 
 -- ---- lists of numbers
-pub sum-cons : (x : ℕ) (xs : List ℕ) → sum (x ∷ xs) ≡ x + sum xs
-sum-cons x xs = sum_by-cons (λ y. y) x xs
-
 sum-append : (xs ys : List ℕ) → sum (xs ++ ys) ≡ sum xs + sum ys
 sum-append xs ys = sum_by-append (λ x. x) xs ys
 

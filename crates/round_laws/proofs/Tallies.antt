@@ -25,7 +25,8 @@ use Rattle.symple_face.specs.Parts.{chunk_vertices}
 use Rattle.symple_face.specs.Source.{Source, stand}
 use Rattle.round_laws.specs.Sums.{each}
 use Rattle.round_laws.specs.Tallies.{TalliesAreSummed, source_count}
-use Rattle.round_laws.proofs.Sums.{counts_by_chunks, sum-cons, sums_by_chunks, total_alone, totals_by_chunks}
+use Rattle.round_laws.proofs.Sums.{counts_by_chunks, sums_by_chunks, total_alone, totals_by_chunks}
+use Rattle.state_laws.proofs.Sums.{sum-cons}
 
 -- ---- counts joined, field by field
 all_active : (ts : List TotalDecl) (a : Counted) (f : ℕ → Counted) (ks : List ℕ) →

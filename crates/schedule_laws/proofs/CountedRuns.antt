@@ -28,7 +28,8 @@ use Rattle.cluster_run.proofs.PartsAt.{parts_few, parts_some}
 use Rattle.cluster_run.proofs.TakeWorlds as take
 use Rattle.cluster_run.proofs.Worlds.{IsSkeletonOf}
 use Rattle.schedule_laws.specs.CountedRuns.{CompleteRunsAreCounted, HasCounts, ruled_events, ruling_at, ruling_of}
-use Rattle.schedule_laws.proofs.Printed.{some_letter, some_site}
+use Rattle.state_laws.proofs.Options.{some_of}
+use Rattle.cluster_run.proofs.Results.{some_site}
 
 events_are : (work : Work) (w : World) (es : List Event) → map (λ e. e.0) (ruled_events work w es) ≡ es
 events_are work w [] = refl
@@ -76,7 +77,7 @@ module _ (work : Work) (sound : State → Type 0) (lawful : IsLawful work sound)
 
     take_steps : (x : Name) → possible w (Take x) ≡ true → Steps w k (Take x)
     take_steps x can =
-        let l = some_letter (found x w.under_way) can in
+        let l = some_of (found x w.under_way) can in
         record {
           can = sym (at.alike.flies x) ∙ can;
           next = subst (λ v. Stands v (step_of ring Stop (Take x) k))

@@ -1,6 +1,6 @@
 -- A dense round of a run, and a sparse one, as the laws of single events want them.
-use Rattle.std.proofs.Common.{◌≡◌, ◌<◌, ◌≤◌, ◌^◌, ℕ, true, List, length, refl, sym, subst, ◌∙◌, Option, None, Some, arith, ⊎_elim}
-use Rattle.std.specs.Prelude.{is_some, slice_index}
+use Rattle.std.proofs.Common.{◌≡◌, ◌<◌, ◌≤◌, ◌^◌, ℕ, true, List, length, sym, subst, ◌∙◌, Some, arith, ⊎_elim}
+use Rattle.std.specs.Prelude.{slice_index}
 use Rattle.std.proofs.lemmas.Bool.{cases_lt}
 use Rattle.std.proofs.lemmas.List.{get_or_past, length-map}
 use Rattle.vert_base.specs.declared.value.Row.{Row}
@@ -26,11 +26,6 @@ use Rattle.work_laws.proofs.Words.{words_fit}
 use Rattle.schedule_laws.specs.Runs.{IsSourceRun}
 use Rattle.schedule_laws.proofs.SourceSees.{runs, splits, states_fit}
 use Rattle.schedule_laws.proofs.Stands.{fitting, stands_in_words}
-
--- a block that there is
-pub some_of : {X : Type 0} (o : Option X) → is_some o ≡ true → (x : X) × (o ≡ Some x)
-some_of None e = cc
-some_of (Some x) e = (x, refl)
 
 module _ (src : Source) (run : IsSourceRun src) where
   abbrev n : ℕ

@@ -45,13 +45,14 @@ use Rattle.cluster_run.proofs.TakeWorlds as take
 use Rattle.cluster_run.proofs.Worlds.{IsMachine, IsSkeletonOf, it_keeps, it_stands, ready_going}
 use Rattle.round_laws.proofs.FoldCloses.{at_most}
 use Rattle.round_laws.proofs.FoldScanHeld.{found_holds}
-use Rattle.round_laws.proofs.Held as held
+use Rattle.state_laws.proofs.Letters as held
 use Rattle.schedule_laws.specs.Events.{IsInTurn, IsTrue, ring_in}
 use Rattle.schedule_laws.specs.Runs.{IsSourceRun}
 use Rattle.schedule_laws.proofs.Goes.{goes_on}
 use Rattle.schedule_laws.proofs.Takes.{takes_on}
 use Rattle.schedule_laws.specs.OutputText.{rulings_of}
 use Rattle.schedule_laws.proofs.Shown.{there_at}
+use Rattle.state_laws.proofs.Rulings.{judged_on, taken_round}
 
 -- ---- where machine 0 goes
 abbrev pub is_judge : Spot → Bool
@@ -83,11 +84,6 @@ begun_round : (r : ℕ) (a : Ruling) → round_of r (after_begin r a) ≡ r
 begun_round r Stop = refl
 begun_round r Dense = refl
 begun_round r Sparse = refl
-
-pub judged_on : (r : ℕ) (a : Ruling) → round_of (r + 1) (after_judge r a) ≡ r + 1
-judged_on r Stop = refl
-judged_on r Dense = refl
-judged_on r Sparse = refl
 
 stays_by : (ring : Ring) (a : Ruling) (round : ℕ) (spot : Spot) → is_judge spot ≡ false →
     round ≡ round_of round spot → leads ring a round spot ≡ round
@@ -142,16 +138,6 @@ no_verdict ring x first verdict needed =
     (subst (λ m. Contains (needs_of ring m (Begin x.round)) x) first
     (subst (λ q. Contains (needs_of ring x.to (needed_of_kind q ring.machines x)) x) verdict needed))
 
-taken_by : (kind : NameKind) (a : Ruling) (s : Standing) → (standing_taken kind a s).round ≡ s.round
-taken_by kind.Refresh a s = refl
-taken_by kind.Dep a s = refl
-taken_by kind.Update a s = refl
-taken_by kind.Push a s = refl
-taken_by kind.Tally a s = refl
-taken_by kind.Verdict Stop s = refl
-taken_by kind.Verdict Dense s = refl
-taken_by kind.Verdict Sparse s = refl
-
 -- but at a judge the ruling that is made doesn't count
 acts_so : (ring : Ring) (m : ℕ) (k : Skeleton) (round : ℕ) (a b : Ruling) (spot : Spot) → is_judge spot ≡ false →
     plan.go_at ring a m (Some (record { spot = spot; round = round })) k ≡
@@ -165,7 +151,7 @@ acts_so ring m k round a b Over none = refl
 
 -- a take leaves the round
 pub take_stays : (s : State) (l : Letter) → (core_take s l).at.round ≡ s.at.round
-take_stays s l = ap (λ (at : Standing). at.round) (core_lawful.take_at s l) ∙ taken_by l.name.kind _ s.at
+take_stays s l = ap (λ (at : Standing). at.round) (core_lawful.take_at s l) ∙ taken_round l.name.kind _ s.at
 
 -- machine 0 knows its ruling from the first round on
 pub known_zero : (s : State) → machine s ≡ 0 → 1 ≤ s.at.round → known s ≡ true

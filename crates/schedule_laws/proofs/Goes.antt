@@ -53,10 +53,11 @@ use Rattle.work_laws.specs.Sound.{core_sound}
 use Rattle.schedule_laws.specs.Events.{GoesOn, IsTrue, PushesAreHeld}
 use Rattle.schedule_laws.specs.Runs.{IsSourceRun}
 use Rattle.schedule_laws.proofs.Counts.{counted_round}
-use Rattle.schedule_laws.proofs.DenseRounds.{some_of, dense_round, runs_sparse}
+use Rattle.schedule_laws.proofs.DenseRounds.{dense_round, runs_sparse}
 use Rattle.schedule_laws.proofs.Onward.{onward}
 use Rattle.schedule_laws.proofs.SourceSees.{runs, sends_words_all, splits}
 use Rattle.schedule_laws.proofs.Stands.{few}
+use Rattle.state_laws.proofs.Options.{some_of}
 
 -- what a ready machine needs is held
 all_there : (xs : List Name) (held : List Letter) → waiting_for (first_missing xs held) ≡ Ready → (x : Name) →

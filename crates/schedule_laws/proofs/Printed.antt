@@ -1,7 +1,7 @@
 -- What an event prints, and what is still to come behind it.
-use Rattle.std.proofs.Common.{◌≡◌, ◌≢◌, ℕ, ◌+◌, ◌*◌, ◌^◌, ◌<◌, ◌≤◌, true, false, List, [], ◌++◌, length, map, Option, Some, None, refl, ap, sym, ◌∙◌, subst, arith, ⊎_elim, slice_get}
-use Rattle.std.specs.Prelude.{if◌then◌else◌, is_some, nat_le, slice_set, sum}
-use Rattle.std.proofs.lemmas.Bool.{cases_eq, cases_lt, false≢true, ne_eqb}
+use Rattle.std.proofs.Common.{◌≡◌, ◌≢◌, ℕ, ◌+◌, ◌*◌, ◌^◌, ◌<◌, ◌≤◌, true, false, List, [], ◌++◌, length, map, Some, refl, ap, sym, ◌∙◌, subst, arith, ⊎_elim, slice_get}
+use Rattle.std.specs.Prelude.{if◌then◌else◌, nat_le, slice_set, sum}
+use Rattle.std.proofs.lemmas.Bool.{cases_eq, cases_lt, ne_eqb}
 use Rattle.std.proofs.lemmas.Bool.Decides.{nat_tests}
 use Rattle.std.proofs.lemmas.Option.{same_Some, slice_get_within}
 use Rattle.vert_base.specs.declared.message.Name.{Name}
@@ -9,7 +9,7 @@ use Rattle.vert_base.specs.declared.message.Event.{Event}
 use Rattle.vert_base.specs.declared.message.Event.TheVariants.{Go, Take}
 use Rattle.vert_base.specs.declared.value.Ruling.{Ruling}
 use Rattle.vert_base.specs.declared.value.Ruling.TheVariants.{Stop, Dense, Sparse}
-use Rattle.vert_base.specs.Letters.{Letter, found}
+use Rattle.vert_base.specs.Letters.{found}
 use Rattle.vert_eval.specs.Rounds.{reads_of}
 use Rattle.vert_eval.specs.SourceRun.{played_at}
 use Rattle.plain_run.specs.Told.{kept_reads, told_played}
@@ -45,17 +45,12 @@ use Rattle.schedule_laws.proofs.Stands.{few as few_rounds}
 use Rattle.schedule_laws.specs.Layout.{gone_lines, judged_lines, reads_in, round_lines, told_in, vertices_in}
 use Rattle.schedule_laws.specs.OutputText.{lines_at}
 use Rattle.schedule_laws.specs.Texts.{told_lines}
-use Rattle.schedule_laws.proofs.Follows.{Follows, count, few, gone_follows, gone_to, is_judge, judged_next, judged_on, rounds_stay, took_is, zero_judges, zero_stays}
+use Rattle.schedule_laws.proofs.Follows.{Follows, count, few, gone_follows, gone_to, is_judge, judged_next, rounds_stay, took_is, zero_judges, zero_stays}
 use Rattle.schedule_laws.proofs.RunLaws.{rest, rest_on}
 use Rattle.schedule_laws.proofs.Shown.{HasParts, reads_shown}
-
-pub some_site : (o : Option State) → can_act o ≡ true → (s : State) × (o ≡ Some s)
-some_site None e = absurd (false≢true e)
-some_site (Some s) e = (s, refl)
-
-pub some_letter : (o : Option Letter) → is_some o ≡ true → (l : Letter) × (o ≡ Some l)
-some_letter None e = absurd (false≢true e)
-some_letter (Some l) e = (l, refl)
+use Rattle.state_laws.proofs.Options.{some_of}
+use Rattle.cluster_run.proofs.Results.{some_site}
+use Rattle.state_laws.proofs.Rulings.{judged_on}
 
 not_below : (a b : ℕ) → b < a → nat_le a b ≡ false
 not_below a b lt = grind (arith, nat_tests)
@@ -368,7 +363,7 @@ module _ (lines : Lines) (src : Source) (parts : List PlainPart) (one : IsOneRun
 
     take_prints : (x : Name) → Prints (Take x)
     take_prints x s t at there can =
-        let l = some_letter (found x w.under_way) can in
+        let l = some_of (found x w.under_way) can in
         let old =
         rounds_stay src parts one run same_ends w k f x l.0 l.1 0 t
         (subst (λ (v : World). slice_get v.sites 0 ≡ Some t)

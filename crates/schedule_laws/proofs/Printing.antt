@@ -14,8 +14,7 @@ use Rattle.symple_words.specs.declared.line.Lines.{Lines}
 use Rattle.array_text.specs.Events.{event_line}
 use Rattle.circulant_plan.specs.declared.spot.Spot.{Spot}
 use Rattle.circulant_plan.specs.declared.spot.Spot.TheVariants.{Tell, Judge, Begin, Scan, Close, Over}
-use Rattle.circulant_plan.specs.Runs.{ruled}
-use Rattle.circulant_plan.specs.Skeleton.{Skeleton, is_over, ruling_in, step_of}
+use Rattle.circulant_plan.specs.Skeleton.{Skeleton, is_over, ruling_in}
 use Rattle.circulant_plan.specs.Standing.{Standing, place_of}
 use Rattle.skeleton_laws.proofs.Lockstep.{fit}
 use Rattle.skeleton_laws.proofs.ReachedSettles.{reached}
@@ -34,15 +33,16 @@ use Rattle.cluster_run.proofs.PartsAt.{parts_some}
 use Rattle.cluster_run.proofs.Worlds.{it_keeps, it_stands}
 use Rattle.round_laws.specs.IsIdeal.{rows_round}
 use Rattle.round_laws.proofs.FoldCloses.{at_most}
-use Rattle.schedule_laws.specs.Events.{ring_in}
 use Rattle.schedule_laws.specs.Runs.{IsSourceRun}
 use Rattle.schedule_laws.proofs.Stands.{few as few_rounds, stands_in_words}
 use Rattle.schedule_laws.specs.Layout.{lines_of, round_lines, table_of, taken_in}
-use Rattle.schedule_laws.specs.OutputText.{rulings_of}
+use Rattle.schedule_laws.specs.OutputText.{next_by}
 use Rattle.schedule_laws.proofs.Follows.{Follows, few, gone_follows, gone_is, gone_to, judged_next, took_follows, took_is, took_to}
-use Rattle.schedule_laws.proofs.Printed.{event_prints, has_parts, some_letter, some_site, to_come}
+use Rattle.schedule_laws.proofs.Printed.{event_prints, has_parts, to_come}
 use Rattle.schedule_laws.proofs.RunLaws.{rest, rest_over}
 use Rattle.schedule_laws.proofs.Shown.{table_shown, there_at}
+use Rattle.state_laws.proofs.Options.{some_of}
+use Rattle.cluster_run.proofs.Results.{some_site}
 
 -- what each of a list passes its element at a place passes
 all_pass : {X : Type 0} → (p : X → Bool) (xs : List X) (m : ℕ) (x : X) → list_all p xs ≡ true →
@@ -62,10 +62,6 @@ over_rows round (Scan r step h) over = absurd (false≢true over)
 over_rows round (Close r dense) over = absurd (false≢true over)
 over_rows round Over over = refl
 
--- the skeleton behind an event, by the source's rulings
-abbrev pub next_by : Source → Skeleton → Event → Skeleton
-next_by src k e = step_of (ring_in src) (ruled (rulings_of src) k) e k
-
 module _ (src : Source) (parts : List PlainPart) (one : IsOneRun parts) (run : IsSourceRun src)
     (same_ends : src.job.graph.ends ≡ one.ends) where
   -- the world behind an event goes with the source's run
@@ -81,7 +77,7 @@ module _ (src : Source) (parts : List PlainPart) (one : IsOneRun parts) (run : I
       (gone_to src parts one run same_ends w k f m site.0 site.1 ready)) (sym site.1)
       (gone_follows src parts one run same_ends w k f m site.0 site.1 ready))
   next_follows w k f (Take x) can =
-      let l = some_letter (found x w.under_way) can in
+      let l = some_of (found x w.under_way) can in
       subst (λ v. Follows src parts v (took_to src parts one run same_ends w k f x l.0 l.1))
       (sym (took_is src parts one run same_ends w k f x l.0 l.1))
       (took_follows src parts one run same_ends w k f x l.0 l.1)

@@ -8,8 +8,9 @@ use Rattle.vert_eval.specs.SourceRun.{Job, Played, Run, Standing, by_ruling, nex
 use Rattle.array_text.specs.Tables.{table_text}
 use Rattle.plain_run.specs.Told.{rounds_told, told_played}
 use Rattle.symple_words.specs.declared.line.Lines.{Lines}
-use Rattle.symple_face.specs.Source.{Source, stand, stand_after}
+use Rattle.symple_face.specs.Source.{Source, stand}
 use Rattle.schedule_laws.specs.Texts.{text_of_run, told_lines}
+use Rattle.round_laws.proofs.IdealClose.{stand_next}
 
 -- the run from a round on
 abbrev pub run_at : Source → ℕ → Run
@@ -18,13 +19,6 @@ run_at src round = resumed_run src.job round (stand src round)
 -- a run that ends here
 abbrev pub ended : Standing → Run
 ended s = record { rounds = []; last = s }
-
-pub next_stand : (src : Source) (round : ℕ) → src.base ≤ round →
-    stand src (round + 1) ≡ next_standing src.job round (stand src round)
-next_stand src round le =
-    let more : round + 1 - src.base ≡ suc (round - src.base) = omega arith in
-    let here : src.base + (round - src.base) ≡ round = omega arith in
-    ap (stand_after src) more ∙ ap (λ r. next_standing src.job r (stand src round)) here
 
 over_from : (fuel : ℕ) (job : Job) (round : ℕ) (s : Standing) → s.ruling ≡ ruling.Stop →
     rounds_from fuel job round s ≡ ended s
@@ -57,7 +51,7 @@ run_on src round base within mode =
     ap (λ (n : ℕ). rounds_from n job round here) more
     ∙ by_mode here.ruling (ended here)
     (then_runs played (rounds_from fuel job (round + 1) (next_standing job round here))) mode
-    ∙ ap (λ (s : Standing). then_runs played (rounds_from fuel job (round + 1) s)) (sym (next_stand src round base))
+    ∙ ap (λ (s : Standing). then_runs played (rounds_from fuel job (round + 1) s)) (sym (stand_next src round base))
 
 -- the text of what is still to come
 abbrev pub rest : Lines → Source → ℕ → List ℕ

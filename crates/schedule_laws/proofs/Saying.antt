@@ -28,22 +28,21 @@ use Rattle.cluster_run.proofs.Worlds.{it_stands}
 use Rattle.round_laws.proofs.FoldScanHeld.{found_holds}
 use Rattle.schedule_laws.specs.Runs.{IsSourceRun}
 use Rattle.schedule_laws.specs.Layout.{event_lines, gone_lines, judged_lines, lines_of, round_lines, table_of, taken_in, text_of, told_in}
-use Rattle.schedule_laws.specs.OutputText.{ended_lines, ideal_taken, lines_at, output_text, played_lines, run_of, schedule_lines, standing_lines}
-use Rattle.schedule_laws.specs.Texts.{text_of_run, told_lines}
+use Rattle.schedule_laws.specs.OutputText.{ended_lines, ideal_taken, lines_at, next_by, output_text, played_lines, run_of, schedule_lines, standing_lines}
+use Rattle.schedule_laws.specs.Texts.{no_lines, text_of_run, told_lines}
 use Rattle.schedule_laws.proofs.Follows.{Follows, few}
-use Rattle.schedule_laws.proofs.Printed.{judge_says, some_letter, some_site, to_come}
-use Rattle.schedule_laws.proofs.Printing.{all_print, next_by, next_follows}
+use Rattle.schedule_laws.proofs.Printed.{judge_says, to_come}
+use Rattle.schedule_laws.proofs.Printing.{all_print, next_follows}
 use Rattle.schedule_laws.proofs.RunLaws.{rest, run_at}
+use Rattle.state_laws.proofs.Options.{some_of}
+use Rattle.cluster_run.proofs.Results.{some_site}
 
 -- ---- where no lines are asked for
-abbrev pub quiet : Lines
-quiet = record { rounds = false; reads = false; log = false }
-
-quiet_told : (b : Bool) (t : Told) → (if b then told_lines quiet t else []) ≡ []
+quiet_told : (b : Bool) (t : Told) → (if b then told_lines no_lines t else []) ≡ []
 quiet_told true t = refl
 quiet_told false t = refl
 
-quiet_spot : (w : World) (s : State) (spot : Spot) → judged_lines core_work quiet w s spot ≡ []
+quiet_spot : (w : World) (s : State) (spot : Spot) → judged_lines core_work no_lines w s spot ≡ []
 quiet_spot w s Tell = refl
 quiet_spot w s (Judge r) =
     quiet_told (nat_le 1 r)
@@ -53,7 +52,7 @@ quiet_spot w s (Scan r step h) = refl
 quiet_spot w s (Close r dense) = refl
 quiet_spot w s Over = refl
 
-quiet_gone : (w : World) (o : Option State) → gone_lines core_work quiet w o ≡ []
+quiet_gone : (w : World) (o : Option State) → gone_lines core_work no_lines w o ≡ []
 quiet_gone w None = refl
 quiet_gone w (Some s) = quiet_spot w s s.at.spot
 
@@ -61,24 +60,24 @@ quiet_either : (b : Bool) (text : List ℕ) → text ≡ [] → (if b then text 
 quiet_either true text none = none
 quiet_either false text none = refl
 
-quiet_event : (w : World) (e : Event) → round_lines core_work quiet w e ≡ []
+quiet_event : (w : World) (e : Event) → round_lines core_work no_lines w e ≡ []
 quiet_event w (Go m) =
-    quiet_either (m == 0) (gone_lines core_work quiet w (slice_get w.sites 0)) (quiet_gone w (slice_get w.sites 0))
+    quiet_either (m == 0) (gone_lines core_work no_lines w (slice_get w.sites 0)) (quiet_gone w (slice_get w.sites 0))
 quiet_event w (Take x) = refl
 
-quiet_lines : (w : World) (es : List Event) → lines_of core_work quiet w es ≡ []
+quiet_lines : (w : World) (es : List Event) → lines_of core_work no_lines w es ≡ []
 quiet_lines w [] = refl
 quiet_lines w (e ∷ es) =
-    ap (λ text. text ++ lines_of core_work quiet (step core_work w e) es) (quiet_event w e)
+    ap (λ text. text ++ lines_of core_work no_lines (step core_work w e) es) (quiet_event w e)
     ∙ quiet_lines (step core_work w e) es
 
 quiet_rest : (src : Source) (round : ℕ) →
-    rest quiet src round ≡ table_text src.job.program (run_at src round).last.rows
+    rest no_lines src round ≡ table_text src.job.program (run_at src round).last.rows
 quiet_rest src round =
     let run : Run = run_at src round in
     ap (λ text. text ++ table_text src.job.program run.last.rows)
-    (flat_map_none (told_lines quiet) (rounds_told false run)
-    (all_true (λ t. told_lines quiet t ≡ []) (λ t. refl) (rounds_told false run)))
+    (flat_map_none (told_lines no_lines) (rounds_told false run)
+    (all_true (λ t. told_lines no_lines t ≡ []) (λ t. refl) (rounds_told false run)))
 
 -- the run from the first round on
 pub first_run : (src : Source) → run_at src src.base ≡ run_of src
@@ -125,7 +124,7 @@ module _ (lines : Lines) (src : Source) (parts : List PlainPart) (one : IsOneRun
     pub taken_says : (e : Event) → possible w e ≡ true → taken_in w e ≡ ideal_taken src e
     taken_says (Go m) can = refl
     taken_says (Take x) can =
-        let l = some_letter (found x w.under_way) can in
+        let l = some_of (found x w.under_way) can in
         let named : l.0.name ≡ x = found_name x w.under_way l.0 l.1 in
         let body : l.0.body ≡ ideal_body src x =
         ap body_of (sym l.1) ∙ found_holds (λ l. l.body ≡ ideal_body src l.name) x w.under_way f.letters can in
@@ -159,7 +158,7 @@ module _ (lines : Lines) (src : Source) (parts : List PlainPart) (one : IsOneRun
       pub table_says : table_of core_work (after core_work w es) ≡ table_text src.job.program (run_of src).last.rows
       table_says =
           ap (λ text. text ++ table_of core_work (after core_work w es)) (sym (quiet_lines w es))
-          ∙ all_print quiet src parts one run same_ends w k f s at es can ends refl
+          ∙ all_print no_lines src parts one run same_ends w k f s at es can ends refl
           ∙ quiet_rest src (to_come src s.at.round)
           ∙ ap (λ round. table_text src.job.program (run_at src round).last.rows) first
           ∙ ap (λ (r : Run). table_text src.job.program r.last.rows) (first_run src)

@@ -1,8 +1,7 @@
 -- What the source's run does in a round are words, since it is what a machine does that sees the source's rows.
-use Rattle.std.proofs.Common.{◌≡◌, ◌<◌, ◌≤◌, ◌+◌, ◌^◌, ℕ, zero, suc, ℤ, Bool, true, false, List, [], ◌∷◌, length, map, All, refl, sym, ap, subst, ◌∙◌, Option, None, Some, option_map, FitsSigned, w64, arith}
-use Rattle.std.specs.Prelude.{◌&&◌, ◌==◌, if◌then◌else◌}
+use Rattle.std.proofs.Common.{◌≡◌, ◌<◌, ◌≤◌, ◌+◌, ◌^◌, ℕ, zero, suc, ℤ, Bool, true, false, List, [], ◌∷◌, length, map, All, refl, sym, ap, subst, ◌∙◌, Option, None, Some, option_map, arith}
+use Rattle.std.specs.Prelude.{◌==◌, if◌then◌else◌}
 use Rattle.std.specs.List.{AllByRecursion, filter}
-use Rattle.std.proofs.lemmas.Option.{same_Some}
 use Rattle.std.proofs.lemmas.List.{length-map}
 use Rattle.std.proofs.lemmas.List.Elements.{All-filter}
 use Rattle.vert_base.specs.declared.graph.Edge.{Edge}
@@ -19,15 +18,14 @@ use Rattle.value_laws.proofs.Rounds.{degree_small, loops_split, row_words}
 use Rattle.value_laws.proofs.Rows.{env_has, no_values_fit}
 use Rattle.value_laws.proofs.WholeRuns.{scene_words}
 use Rattle.vert_eval.specs.declared.environment.Env.{Env}
-use Rattle.vert_eval.specs.Rounds.{Scene, indegree, no_values, outdegree, row_at, sender_at, sent_by, slot_ops}
+use Rattle.vert_eval.specs.Rounds.{Scene, indegree, no_values, outdegree, row_at, sender_at, slot_ops}
 use Rattle.vert_eval.specs.Values.{value_of}
 use Rattle.vert_eval.specs.Words.{is_set}
 use Rattle.graph_table.proofs.FilterLaws.{all_filter, all_map, all_range, all_true}
 use Rattle.chunk_split.specs.Chunks.{vertices_of}
 use Rattle.instrument.specs.Continued.{IsSplit}
-use Rattle.instrument.specs.Loops.{is_reduced, loop_split, places_where}
+use Rattle.instrument.specs.Loops.{is_reduced, loop_split}
 use Rattle.instrument.proofs.TypedLaws.{length-let_classes}
-use Rattle.carry_analysis.specs.declared.classes.Class.{Class}
 use Rattle.carry_analysis.specs.Classes.{body_marks}
 use Rattle.body_shape.specs.Places.{there}
 use Rattle.body_shape.specs.Refresh.{IsWords}
@@ -54,9 +52,10 @@ use Rattle.work_laws.proofs.Held.{send_kinds}
 use Rattle.work_laws.proofs.Scans.{ScanFits, SentFits, fresh_fits, scanned_fits}
 use Rattle.work_laws.proofs.Sights.{SightFits}
 use Rattle.work_laws.proofs.Sparse.{sends_fit}
-use Rattle.work_laws.proofs.Words.{MayFit, words_fit}
+use Rattle.work_laws.proofs.Words.{words_fit}
 use Rattle.schedule_laws.specs.Runs.{IsSourceRun}
 use Rattle.schedule_laws.proofs.Stands.{fitting, stands_in_words}
+use Rattle.work_laws.proofs.Sent.{sent_count, there_fit, places_few}
 
 -- ---- sends
 -- so many words, where there are some
@@ -72,31 +71,6 @@ sends_words size f (u ∷ us) all = by (f u) all.0 (sends_words size f us all.1)
         AllByRecursion (IsWords size) (there (o ∷ map f us))
     by None one rest = rest
     by (Some ws) one rest = (one ws refl, rest)
-
-sent_count : (o : Option Sparse) (env : Env) (words : List ℤ) → sends_at o env ≡ Some words →
-    length words ≡ length (sends_in o)
-sent_count None env words e = cc
-sent_count (Some b) env words e = by (env.row.active && is_set (value_of b.when_test env)) e
-  where
-    by : (c : Bool) → (if c then Some (sent_by b env) else None) ≡ Some words → length words ≡ length b.sends.items
-    by true is =
-        ap (λ (ws : List ℤ). length ws) (sym (same_Some (sent_by b env) words is))
-        ∙ length-map b.sends.items (λ d. value_of d.value env)
-    by false is = cc
-
-there_fit : (xs : List (Option ℤ)) → AllByRecursion MayFit xs → AllByRecursion (FitsSigned w64) (there xs)
-there_fit [] all = tt
-there_fit (None ∷ xs) all = there_fit xs all.1
-there_fit (Some x ∷ xs) all = (all.0 x refl, there_fit xs all.1)
-
-places_few : (test : Class → Bool) (i : ℕ) (cs : List Class) → length (places_where test i cs) ≤ length cs
-places_few test i [] = omega arith
-places_few test i (c ∷ cs) = by (test c) (places_few test (i + 1) cs)
-  where
-    by : (b : Bool) → length (places_where test (i + 1) cs) ≤ length cs →
-        length (if b then i ∷ places_where test (i + 1) cs else places_where test (i + 1) cs) ≤ length (c ∷ cs)
-    by true rest = omega (arith, rest)
-    by false rest = omega (arith, rest)
 
 module _ (src : Source) (run : IsSourceRun src) (round : ℕ) (small : round < 2 ^ 31) where
   abbrev n : ℕ
@@ -183,11 +157,9 @@ module _ (src : Source) (run : IsSourceRun src) (round : ℕ) (small : round < 2
   is_send u lt words e =
       let env : Env = sender_at sc (slot_ops src.job.program) u in
       let sent : sends_at (program_of src.split).sparse env ≡ Some words = sym (sends_are u) ∙ e in
-      let count = sent_count (program_of src.split).sparse env words sent in
       let kinds : List ValueType = send_kinds src.split in
-      let each : length words ≡ length kinds =
-      count ∙ sym (length-map (sends_in (program_of src.split).sparse) (λ d. d.kind)) in (
-        count,
+      let each : length words ≡ length kinds = sent_count (program_of src.split).sparse env words sent in (
+        each ∙ length-map (sends_in (program_of src.split).sparse) (λ d. d.kind),
         words_fit kinds words each
             (sends_fit src.split fitting_split env (sender_has u lt) words sent),
       )

@@ -23,12 +23,13 @@ use Rattle.schedule_laws.proofs.Stands.{few as few_rounds, stands_in_words}
 use Rattle.schedule_laws.specs.Laws.{whole_run}
 use Rattle.schedule_laws.specs.Layout.{row_in, vertices_in}
 use Rattle.schedule_laws.specs.Starts.{EveryStartIsTold, ahead_with, start_at, start_by, start_told, start_with}
-use Rattle.schedule_laws.proofs.Follows.{Follows, gone_to, judged_on, judges_so, known_zero}
+use Rattle.schedule_laws.proofs.Follows.{Follows, gone_to, judges_so, known_zero}
 use Rattle.schedule_laws.proofs.Printed.{f', goes_to, has_parts, rows_are, there_zero}
 use Rattle.schedule_laws.proofs.Printing.{all_follow}
-use Rattle.schedule_laws.proofs.Saying.{quiet}
 use Rattle.schedule_laws.proofs.Shown.{rows_shown}
 use Rattle.schedule_laws.proofs.Whole.{whole_follows, whole_is_a_run}
+use Rattle.schedule_laws.specs.Texts.{no_lines}
+use Rattle.state_laws.proofs.Rulings.{judged_on}
 
 module _ (src : Source) (parts : List PlainPart) (one : IsOneRun parts) (run : IsSourceRun src)
     (same_ends : src.job.graph.ends ≡ one.ends) (w : World) (k : Skeleton) (f : Follows src parts w k) (s : State)
@@ -43,7 +44,7 @@ module _ (src : Source) (parts : List PlainPart) (one : IsOneRun parts) (run : I
   behind = gone_to src parts one run same_ends w k f 0 s at ready
 
   goes : Follows src parts gone behind
-  goes = f' quiet src parts one run same_ends w k f s at ready r spot
+  goes = f' no_lines src parts one run same_ends w k f s at ready r spot
 
   small : r + 1 ≤ 2 ^ 31
   small =
@@ -57,20 +58,20 @@ module _ (src : Source) (parts : List PlainPart) (one : IsOneRun parts) (run : I
   -- rows
   rows_told : map (row_in core_work gone) (vertices_in gone) ≡ (stand src (r + 1)).rows
   rows_told =
-      rows_shown src gone (has_parts quiet src parts one run same_ends gone behind goes) (stand src (r + 1)).rows
+      rows_shown src gone (has_parts no_lines src parts one run same_ends gone behind goes) (stand src (r + 1)).rows
       (stands_in_words src run (r + 1) small).count
       (λ j u there.
       (goes.machines j u there).ideal.rows
       ∙ ap (λ n. map (row_at (stand src n).rows) (chunk_vertices src.job.graph.ends j))
-      (sym (rows_are quiet src parts one run same_ends w k f s at ready r spot j u there)))
+      (sym (rows_are no_lines src parts one run same_ends w k f s at ready r spot j u there)))
 
   -- what machine 0 tells
   zero : slice_get gone.sites 0 ≡ Some t
-  zero = there_zero quiet src parts one run same_ends w k f s at ready r spot
+  zero = there_zero no_lines src parts one run same_ends w k f s at ready r spot
 
   round : t.at.round ≡ r + 1
   round =
-      ap (λ (q : Standing). q.round) (goes_to quiet src parts one run same_ends w k f s at ready r spot)
+      ap (λ (q : Standing). q.round) (goes_to no_lines src parts one run same_ends w k f s at ready r spot)
       ∙ judged_on r (core_work.judge s)
 
   number : machine t ≡ 0
@@ -97,7 +98,7 @@ module _ (src : Source) (parts : List PlainPart) (one : IsOneRun parts) (run : I
 
   spot_is : t.at.spot ≡ after_judge r (stand src (r + 1)).ruling
   spot_is =
-      ap (λ (q : Standing). q.spot) (goes_to quiet src parts one run same_ends w k f s at ready r spot)
+      ap (λ (q : Standing). q.spot) (goes_to no_lines src parts one run same_ends w k f s at ready r spot)
       ∙ ap (after_judge r) (judges_so src parts one run same_ends w k f 0 s at ready refl r spot)
 
   by_ruling : (q : Ruling) →

@@ -40,10 +40,11 @@ use Rattle.work_laws.specs.Sound.{core_sound}
 use Rattle.work_laws.proofs.Held.{planned_apart, shape_parts}
 use Rattle.schedule_laws.specs.Events.{IsInTurn, IsTrue, TakesOn, ring_in}
 use Rattle.schedule_laws.specs.Runs.{IsSourceRun}
-use Rattle.schedule_laws.proofs.DenseRounds.{some_of, runs_sparse}
+use Rattle.schedule_laws.proofs.DenseRounds.{runs_sparse}
 use Rattle.schedule_laws.proofs.SourceSees.{runs, sends_words_all, splits, suits}
 use Rattle.schedule_laws.proofs.Stands.{few, stands_in_words, total_length}
 use Rattle.schedule_laws.proofs.Took.{took_on}
+use Rattle.state_laws.proofs.Options.{some_of}
 
 pub all_words : (words : List ℤ) → ((i : ℕ) → FitsSigned w64 (word_at words i)) → AllByRecursion (FitsSigned w64) words
 all_words [] each = tt

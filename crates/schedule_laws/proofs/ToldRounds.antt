@@ -3,40 +3,40 @@ use Rattle.std.proofs.Common.{◌≡◌, ◌≢◌, ℕ, ◌+◌, ◌<◌, ◌�
 use Rattle.std.specs.Prelude.{if◌then◌else◌, nat_le, slice_set}
 use Rattle.std.proofs.lemmas.Bool.{and_parts, cases_eq, cases_lt, ne_eqb}
 use Rattle.std.proofs.lemmas.Bool.Decides.{nat_tests}
-use Rattle.std.proofs.lemmas.List.{append_assoc}
 use Rattle.std.proofs.lemmas.Option.{slice_get_within}
 use Rattle.vert_base.specs.declared.message.Event.{Event}
 use Rattle.vert_base.specs.declared.message.Event.TheVariants.{Go, Take}
 use Rattle.vert_base.specs.declared.message.Name.{Name}
 use Rattle.vert_base.specs.declared.value.Ruling.TheVariants.{Stop}
 use Rattle.vert_base.specs.Letters.{found}
-use Rattle.vert_eval.specs.SourceRun.{Run, played_at, resumed_run, source_run}
+use Rattle.vert_eval.specs.SourceRun.{played_at}
 use Rattle.plain_run.specs.Told.{Told, rounds_told, told_played}
 use Rattle.symple_words.specs.declared.line.Lines.{Lines}
-use Rattle.word_kinds.specs.Fits.{IsFitting}
 use Rattle.circulant_plan.specs.declared.spot.Spot.{Spot}
 use Rattle.circulant_plan.specs.declared.spot.Spot.TheVariants.{Tell, Judge, Begin, Scan, Close, Over}
 use Rattle.circulant_plan.specs.Skeleton.{Skeleton, first_skeleton}
-use Rattle.instrument.specs.declared.split.Split.{Split}
 use Rattle.symple_face.specs.Cluster.{IsOneRun, World, after, all_possible, can_act, finished, first_world, is_complete, possible, step}
 use Rattle.symple_face.specs.Cluster as cluster
 use Rattle.symple_face.specs.CoreWork.{core_go, core_work}
 use Rattle.symple_face.specs.Parts.{PlainPart}
-use Rattle.symple_face.specs.Source.{Source, job_of, stand, stand_after}
+use Rattle.symple_face.specs.Source.{Source, stand}
 use Rattle.symple_face.specs.State.{State}
 use Rattle.cluster_run.proofs.Sites.{get_one, set_here, set_other}
 use Rattle.round_laws.proofs.FoldCloses.{at_most}
 use Rattle.schedule_laws.specs.Laws.{EveryRoundIsTold, EveryTableIsTold, whole_run}
 use Rattle.schedule_laws.specs.Layout.{told_in}
-use Rattle.schedule_laws.specs.OutputText.{run_of}
+use Rattle.schedule_laws.specs.OutputText.{next_by}
 use Rattle.schedule_laws.specs.Runs.{IsSourceRun}
 use Rattle.schedule_laws.specs.ToldRounds.{gone_round, judged_round, round_ended, rounds_ended}
 use Rattle.schedule_laws.proofs.Follows.{Follows, is_judge, rounds_stay, took_is, zero_stays}
-use Rattle.schedule_laws.proofs.Printed.{first_prints, late, mode, round_behind, round_is, some_letter, some_site, to_come, told_is, within}
-use Rattle.schedule_laws.proofs.Printing.{late as begun_by, next_by, next_follows, stops, zero_site}
+use Rattle.schedule_laws.proofs.Printed.{first_prints, late, mode, round_behind, round_is, to_come, told_is, within}
+use Rattle.schedule_laws.proofs.Printing.{late as begun_by, next_follows, stops, zero_site}
 use Rattle.schedule_laws.proofs.RunLaws.{run_at, run_on, run_over}
-use Rattle.schedule_laws.proofs.Saying.{first_run, quiet, table_says}
+use Rattle.schedule_laws.proofs.Saying.{first_run, table_says}
 use Rattle.schedule_laws.proofs.Whole.{first_site, whole_follows, whole_is_a_run}
+use Rattle.state_laws.proofs.Options.{some_of}
+use Rattle.cluster_run.proofs.Results.{some_site}
+use Rattle.schedule_laws.specs.Texts.{no_lines}
 
 abbrev keeps : Bool → Lines
 keeps kept = record { rounds = false; reads = kept; log = false }
@@ -151,7 +151,7 @@ module _ (kept : Bool) (src : Source) (parts : List PlainPart) (one : IsOneRun p
 
     take_tells : (x : Name) → Tells (Take x)
     take_tells x s t at there can =
-        let l = some_letter (found x w.under_way) can in
+        let l = some_of (found x w.under_way) can in
         let old =
         rounds_stay src parts one run same_ends w k f x l.0 l.1 0 t
         (subst (λ (v : World). slice_get v.sites 0 ≡ Some t)
@@ -198,6 +198,7 @@ every_round_is_told kept split parts one es fits complete =
 pub every_table_is_told : EveryTableIsTold
 every_table_is_told split parts one es fits complete =
     let site = first_site split parts one fits in
-    table_says quiet (whole_run split parts one) parts one (whole_is_a_run split parts one fits) refl
-    (first_world core_work split parts) (first_skeleton (length parts)) (whole_follows split parts one fits) site.0 site.1
+    table_says no_lines (whole_run split parts one) parts one (whole_is_a_run split parts one fits) refl
+    (first_world core_work split parts) (first_skeleton (length parts)) (whole_follows split parts one fits) site.0
+    site.1
     (ap (λ (n : ℕ). if nat_le 1 n then n else 1) site.2) es complete

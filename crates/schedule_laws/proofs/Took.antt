@@ -24,10 +24,10 @@ use Rattle.symple_face.specs.Source.{Source, stand}
 use Rattle.symple_face.specs.State.{State, has_taken, machine, ruling_read}
 use Rattle.round_laws.specs.FoldBegins.{IsPushName}
 use Rattle.round_laws.specs.IsIdeal.{IsIdeal, awaits_begin, is_open}
-use Rattle.round_laws.proofs.Held.{all_placed}
 use Rattle.work_laws.proofs.Moves.{taken_at, taken_held, taken_part}
 use Rattle.schedule_laws.specs.Events.{IsTrue, PushesAreHeld, ring_in}
 use Rattle.schedule_laws.proofs.Stands.{IsBegun}
+use Rattle.state_laws.proofs.Letters.{all_placed}
 
 over_is : (x : Spot) → is_over x ≡ true → x ≡ Over
 over_is Tell e = cc

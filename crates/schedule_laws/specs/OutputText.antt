@@ -26,6 +26,10 @@ run_of src = resumed_run src.job src.base src.from
 abbrev pub rulings_of : Source → ℕ → Ruling
 rulings_of src round = (stand src round).ruling
 
+-- where the order of events stands behind an event, by the source's rulings
+abbrev pub next_by : Source → Skeleton → Event → Skeleton
+next_by src k e = step_of (ring_in src) (ruled (rulings_of src) k) e k
+
 -- the message that an event takes, with its ideal body
 abbrev pub ideal_taken : Source → Event → Option Letter
 ideal_taken src (Go m) = None
@@ -58,7 +62,7 @@ played_lines lines src k e =
 abbrev pub schedule_lines : Lines → Source → Skeleton → List Event → List ℕ
 schedule_lines lines src k [] = []
 schedule_lines lines src k (e ∷ es) =
-    played_lines lines src k e ++ schedule_lines lines src (step_of (ring_in src) (ruled (rulings_of src) k) e k) es
+    played_lines lines src k e ++ schedule_lines lines src (next_by src k e) es
 
 -- the lines of the events from a first state on, and then the table of the last rows
 abbrev pub output_text : Lines → Source → Skeleton → List Event → List ℕ

@@ -1,5 +1,5 @@
 -- The text of a run: the lines of its rounds that are asked for, and then its table.
-use Rattle.std.specs.Prelude.{ℕ, ◌+◌, List, [], ◌∷◌, ◌++◌, codes, flat_map, if◌then◌else◌}
+use Rattle.std.specs.Prelude.{ℕ, ◌+◌, List, [], ◌∷◌, ◌++◌, codes, false, flat_map, if◌then◌else◌}
 use Rattle.array_text.specs.Reads.{read_head_text, sources_text}
 use Rattle.array_text.specs.Rounds.{round_text}
 use Rattle.array_text.specs.Tables.{table_text}
@@ -22,6 +22,10 @@ read_line round v (u ∷ us) = read_head_text round v ++ (sources_text (u ∷ us
 abbrev pub read_lines : ℕ → ℕ → List (List ℕ) → List ℕ
 read_lines round v [] = []
 read_lines round v (us ∷ others) = read_line round v us ++ read_lines round (v + 1) others
+
+-- no line is asked for
+abbrev pub no_lines : Lines
+no_lines = record { rounds = false; reads = false; log = false }
 
 -- what is asked for of the lines of a round: `--rounds`, and then `--reads`
 abbrev pub told_lines : Lines → Told → List ℕ

@@ -1,5 +1,5 @@
 -- The rounds that the events of a run end, as machines of any kind tell them.
-use Rattle.std.specs.Prelude.{ℕ, nat_le, ◌==◌, Bool, List, [], ◌∷◌, ◌++◌, Option, None, Some, if◌then◌else◌, slice_get}
+use Rattle.std.specs.Prelude.{nat_le, ◌==◌, Bool, List, [], ◌∷◌, ◌++◌, Option, None, Some, if◌then◌else◌, slice_get}
 use Rattle.plain_run.specs.Told.{Told}
 use Rattle.vert_base.specs.declared.message.Event.{Event}
 use Rattle.vert_base.specs.declared.message.Event.TheVariants.{Go, Take}

@@ -22,7 +22,7 @@ use Rattle.instrument.specs.declared.split.Split.{Split}
 use Rattle.schedule_laws.specs.Laws.{whole_run}
 use Rattle.schedule_laws.specs.OutputText.{output_text}
 use Rattle.schedule_laws.specs.Layout.{lines_of, round_lines, table_of, text_of}
-use Rattle.schedule_laws.specs.Texts.{text_of_run}
+use Rattle.schedule_laws.specs.Texts.{no_lines, text_of_run}
 use Rattle.schedule_laws.proofs.Parts.{parts_run}
 use Rattle.schedule_laws.proofs.ToldRounds.{every_round_is_told, every_table_is_told}
 use Rattle.schedule_laws.proofs.Whole.{every_log, every_schedule}
@@ -31,7 +31,6 @@ use Rattle.symple_face.specs.declared.action.Action.TheVariants.{Over, Ready, Wa
 use Rattle.symple_face.specs.Cluster.{IsPlainRun, World, after, all_possible, can_act, finished, first_world, is_complete, is_ready, missing_of, possible, restarted_world, step}
 use Rattle.schedule_laws.specs.ToldRounds.{rounds_ended}
 use Rattle.array_text.specs.Tables.{table_text}
-use Rattle.command_steps.specs.Commands.{no_lines}
 use Rattle.demo_parts.specs.DrawnGraphs.{drawn_graph}
 use Rattle.plain_run.specs.Told.{Told, rounds_told}
 use Rattle.symple_run.specs.Shows.{IsShow, IsSourceShow, shown_course, shown_run}
@@ -64,21 +63,10 @@ use Rattle.vert_base.specs.declared.message.Event.{Event}
 use Rattle.vert_base.specs.declared.message.Event.TheVariants.{Go, Take}
 use Rattle.vert_eval.specs.SourceRun.{Job, source_run}
 use Rattle.vert_tree.specs.declared.program.Program.{Program}
+use Rattle.machine_runs.proofs.TextLaws.{text_behind}
 
 pub plain_printed : (work : Work) (play : Play) (course : Course) → IsPlainPlay work play course → IsPrinted course
 plain_printed work play course is = subst IsPrinted (sym is.course_is) (printed_from work play.lines _ is.events)
-
--- the texts of an event in front of those behind it
-text_behind : (work : Work) (lines : Lines) (w : World) (e : Event) (es : List Event) (text : List ℕ) →
-    text ≡ text_of work lines (step work w e) es →
-    log_line lines w e ++ (round_lines work lines w e ++ text) ≡ text_of work lines w (e ∷ es)
-text_behind work lines w e es text is =
-    let rest = text_of work lines (step work w e) es in
-    let round = round_lines work lines w e in
-    ap (λ (t : List ℕ). log_line lines w e ++ (round ++ t)) is
-    ∙ sym (append_assoc (log_line lines w e) round rest)
-    ∙ sym (append_assoc (log_line lines w e ++ round) (lines_of work lines (step work w e) es)
-    (table_of work (after work (step work w e) es)))
 
 -- its texts are those of the events, and then the table
 text_from : (work : Work) (lines : Lines) (w : World) (es : List Event) →

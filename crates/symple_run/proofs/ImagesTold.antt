@@ -31,9 +31,9 @@ use Rattle.round_laws.proofs.FoldCloses.{at_most}
 use Rattle.schedule_laws.specs.Laws.{whole_run}
 use Rattle.schedule_laws.specs.Runs.{IsSourceRun}
 use Rattle.schedule_laws.specs.Starts.{start_at, start_by, start_told}
-use Rattle.schedule_laws.proofs.Follows.{Follows, few, is_judge, judged_next, judged_on, judges_so, rounds_stay, took_is, zero_judges, zero_stays}
-use Rattle.schedule_laws.proofs.Printed.{some_letter, some_site, to_come}
-use Rattle.schedule_laws.proofs.Printing.{next_by, next_follows}
+use Rattle.schedule_laws.proofs.Follows.{Follows, few, is_judge, judged_next, judges_so, rounds_stay, took_is, zero_judges, zero_stays}
+use Rattle.schedule_laws.proofs.Printed.{to_come}
+use Rattle.schedule_laws.proofs.Printing.{next_follows}
 use Rattle.schedule_laws.proofs.RunLaws.{run_at, run_on, run_over}
 use Rattle.schedule_laws.proofs.Shown.{there_at}
 use Rattle.schedule_laws.proofs.Starts.{start_is}
@@ -58,6 +58,10 @@ use Rattle.symple_words.specs.declared.line.Lines.{Lines}
 use Rattle.vert_eval.specs.SourceRun.{Job, Played, Run, played_at, source_run, then_runs}
 use Rattle.vert_tree.specs.declared.program.Program.{Program}
 use Rattle.word_kinds.specs.Fits.{IsFitting}
+use Rattle.state_laws.proofs.Options.{some_of}
+use Rattle.cluster_run.proofs.Results.{some_site}
+use Rattle.schedule_laws.specs.OutputText.{next_by}
+use Rattle.state_laws.proofs.Rulings.{judged_on}
 
 within_limit : (blocks : Blocks) (round : ℕ) (q : Ruling) → q ≢ Stop → may_rule blocks round q ≡ true →
     nat_le round blocks.limit ≡ true
@@ -272,7 +276,7 @@ module _ (key image : List ℕ) (split : Split) (parts : List PlainPart) (one : 
 
     take_keeps : (x : Name) → KeepsOn (Take x)
     take_keeps x s t at there can =
-        let l = some_letter (found x w.under_way) can in
+        let l = some_of (found x w.under_way) can in
         let old =
         rounds_stay src parts one run refl w k f x l.0 l.1 0 t
         (subst (λ (v : World). slice_get v.sites 0 ≡ Some t) (took_is src parts one run refl w k f x l.0 l.1) there) in

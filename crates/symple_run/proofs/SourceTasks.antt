@@ -9,7 +9,7 @@ use Rattle.command_steps.specs.Orders.{Course, Fails, Play, Task, follows}
 use Rattle.command_steps.specs.Quiet.{IsQuiet, Spares}
 use Rattle.delivery_log.specs.Choosers.{behind_word, generator_of}
 use Rattle.delivery_log.specs.declared.form.Form.{Form}
-use Rattle.machine_runs.specs.SourceTellings.{IsDrawnOrder, behind, by_source}
+use Rattle.machine_runs.specs.SourceTellings.{IsDrawnOrder, by_source}
 use Rattle.machine_runs.specs.Tellings.{followed, recorded}
 use Rattle.machine_runs.proofs.FirstLaws.{parts_same, splits_are_one}
 use Rattle.rand_pcg.specs.Lcg.{Lcg}
@@ -21,6 +21,7 @@ use Rattle.symple_run.specs.SourceTexts.{HasParts, first_order, source_on}
 use Rattle.symple_run.proofs.CourseShapes.{followed_calm, followed_quiet, followed_spares, recorded_calm, recorded_spares}
 use Rattle.symple_run.proofs.TextTasks.{text_holds, text_settles}
 use Rattle.vert_base.specs.declared.message.Event.{Event}
+use Rattle.schedule_laws.specs.OutputText.{next_by}
 
 -- the drawn events are one list
 drawn_one : (src : Source) (k : Skeleton) (g : Lcg) (es fs : List Event) → IsDrawnOrder src k g es →
@@ -30,8 +31,8 @@ drawn_one src k g [] (f ∷ fs) a b = absurd (false≢true (sym b.0 ∙ a))
 drawn_one src k g (e ∷ es) [] a b = absurd (false≢true (sym a.0 ∙ b))
 drawn_one src k g (e ∷ es) (f ∷ fs) a b =
     let same = same_Some e f (sym a.1 ∙ b.1) in
-    let rest = drawn_one src (behind src k e) (behind_word g) es fs a.2
-    (subst (λ (x : Event). IsDrawnOrder src (behind src k x) (behind_word g) fs) (sym same) b.2) in
+    let rest = drawn_one src (next_by src k e) (behind_word g) es fs a.2
+    (subst (λ (x : Event). IsDrawnOrder src (next_by src k x) (behind_word g) fs) (sym same) b.2) in
     (λ i. same i ∷ rest i)
 
 -- the parts of a graph make one run of the source

@@ -120,10 +120,6 @@ seen_counts split g v key values env is fields slots totals = ap counts_of is �
   other_fields = fields j;
 })
 
-pub seen_draws : (g : Sight) (v key : ℕ) (values : List (Option ℤ)) (env : Env) → env ≡ seen_env g v key values →
-    g.round ≤ 10000 → v < 2 ^ 24 → CanDraw env
-seen_draws g v key values env is round low = subst CanDraw (sym is) (record { round = round; id = low })
-
 -- ---- the update
 pub update_ran : (p : Program) (code : Code) (entered left seen : Env) → IsCodeOf p code → entered ≡ seen →
     left ≡ (run_code (list_of code UpdateBody) entered).env →

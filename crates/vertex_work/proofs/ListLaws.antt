@@ -10,12 +10,10 @@ use Rattle.graph_table.proofs.FilterLaws.{filter-map, filter_filter}
 use Rattle.symple_face.specs.CoreSight.{is_within, those_within}
 use Rattle.vert_base.specs.declared.graph.VertexId.{VertexId}
 use Rattle.vertex_work.specs.Known.{number}
+use Rattle.machine_parts.proofs.SpanLaws.{below_too}
 
 abbrev pub no_vertex : VertexId
 no_vertex = record { 0 = 0 }
-
-below_too : (a b v : ℕ) → a ≤ b → nat_lt b v ≡ true → nat_lt a v ≡ true
-below_too a b v le h = grind (arith, nat_tests)
 
 -- the vertices below one stand in front of the others
 pub vertices_in_front : (v : ℕ) (list : List VertexId) → IsNonDecreasingBy number list →

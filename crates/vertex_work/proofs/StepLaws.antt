@@ -31,16 +31,7 @@ use Rattle.symple_face.specs.Plans.{loop_carry}
 use Rattle.symple_face.specs.Shapes.{words_in}
 use Rattle.work_laws.proofs.Scans.{split_dense}
 use Rattle.vertex_work.specs.Stepping.{IsLoopOf, SameRound}
-
--- what is handed on has a word for each carried let
-carry_count : (breaks : Bool) (cs : List Class) → words_in (carry_in breaks cs) ≡ carried_in cs
-carry_count true cs = refl
-carry_count false cs = by (nat_lt 0 (carried_in cs)) refl
-  where
-    by : (b : Bool) → nat_lt 0 (carried_in cs) ≡ b →
-        words_in (if b then Some (record { words = carried_in cs }) else None) ≡ carried_in cs
-    by true e = refl
-    by false e = grind (arith, nat_tests)
+use Rattle.state_laws.proofs.Carries.{carry_count}
 
 carried_few : (cs : List Class) → carried_in cs ≤ length cs
 carried_few [] = omega arith

@@ -23,6 +23,7 @@ use Rattle.instrument.specs.Loops.{loop_split}
 use Rattle.symple_face.specs.CoreClose.{values_of}
 use Rattle.symple_face.specs.Ring.{closing}
 use Rattle.vertex_work.specs.Tails.{IsCodeOf, closing_env, tail_slots}
+use Rattle.round_laws.proofs.DenseClose.{only_locals}
 
 -- the test and the lets of a dense block have their places
 module _ (c : Counts) (d : Dense) (h : dense_placed c d ≡ true) where
@@ -39,12 +40,6 @@ module _ (c : Counts) (d : Dense) (h : dense_placed c d ≡ true) where
   lets_stand =
       (and_parts (lets_placed c d.lets.items) bodies
       (and_parts (expr_placed c d.when_test) (lets_placed c d.lets.items && bodies) h).1).0
-
--- lets change nothing but the locals
-only_locals : (ds : List Decl) (env : Env) → with_lets ds env ≡ record env { locals = (with_lets ds env).locals }
-only_locals [] env = refl
-only_locals (d ∷ ds) env =
-    only_locals ds (record env { locals = record { items = env.locals.items ++ value_of d.value env ∷ [] } })
 
 -- own lets, over which the words for the tail were written
 pub lets_closed : (d : Dense) (decls : List Decl) (carried : List ℤ) (qs : List Partial) (cs : List Class)

@@ -6,12 +6,6 @@ use Rattle.std.proofs.lemmas.Bool.{eq-eqb, ne_eqb}
 use Rattle.std.proofs.lemmas.Nat.Bits.{bit_at_above}
 use Rattle.symple_face.specs.Ring.{operand}
 
--- the word of a let, by whether it is marked
-pub operand_is : (n : ℕ) (word : ℤ) → operand n word ≡ (if not (n == 0) then Some word else None)
-operand_is zero word = refl
-operand_is (suc n) word =
-    sym (ap (λ b. if not b then Some word else None) (ne_eqb (suc n) 0 (λ e. omega arith)))
-
 -- a byte has no mark at a place from 8 on
 pub unmarked : (marks place : ℕ) → marks < 2 ^ 8 → 8 ≤ place → not (bit_at marks place == 0) ≡ false
 unmarked marks place small high = ap not (eq-eqb (bit_at marks place) 0 (bit_at_above marks 8 place small high))

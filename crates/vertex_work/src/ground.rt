@@ -143,7 +143,8 @@ impl Ground {
         ensures vertices { result.vertices ≡ vertices_of self.now.part.cuts }
         ensures round { result.round ≡ round }
         ensures draws { result.draws ≡ self.now.part.draws }
-        ensures slots { result.slots ≡ length self.now.part.split.value.program.program.slots.items }
+        ensures slots { result.slots
+            ≡ length self.now.part.split.value.program.program.slots.items }
     {
         let _machines = self.machines();
         Setting {

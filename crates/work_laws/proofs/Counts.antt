@@ -16,7 +16,6 @@ use Rattle.vert_tree.specs.Kinds.{Kinds, expr_has, field_kinds, kinds_of}
 use Rattle.slot_merge.specs.Combine.{neutral}
 use Rattle.vert_eval.specs.Values.{value_of}
 use Rattle.chunk_split.specs.Chunks.{vertices_of}
-use Rattle.chunk_split.proofs.ReachLaws.{sum_step}
 use Rattle.circulant_plan.specs.Names.{tally_name}
 use Rattle.circulant_plan.specs.Ring.{lies_in}
 use Rattle.vert_base.specs.Ends.{start_of}
@@ -48,22 +47,25 @@ use Rattle.work_laws.proofs.Held.{FitsAs, may_read, shape_parts}
 use Rattle.work_laws.proofs.Partials.{over_range}
 use Rattle.work_laws.proofs.Sees.{among_lies, own_small}
 use Rattle.work_laws.proofs.Sights.{part_sees, seen_has}
+use Rattle.state_laws.proofs.Sums.{sum-cons}
 
 -- ---- sums over vertices
--- the first term and the rest
-more : (x : ℕ) (xs : List ℕ) → sum (x ∷ xs) ≡ x + sum xs
-more x xs = sum_step x (x ∷ xs) xs refl
-
 sum_more : (f g h : ℕ → ℕ) (vs : List ℕ) → ((v : ℕ) → f v ≡ g v + h v) →
     sum (map f vs) ≡ sum (map g vs) + sum (map h vs)
 sum_more f g h [] e = omega arith
 sum_more f g h (v ∷ vs) e = let rest = sum_more f g h vs e in
     let here = e v in
-    omega (arith, rest, here, more (f v) (map f vs), more (g v) (map g vs), more (h v) (map h vs))
+    omega (arith, rest, here, sum-cons (f v) (map f vs), sum-cons (g v) (map g vs), sum-cons (h v) (map h vs))
 
 sum_none : (f : ℕ → ℕ) (vs : List ℕ) → ((v : ℕ) → f v ≡ 0) → sum (map f vs) ≡ 0
 sum_none f [] e = refl
-sum_none f (v ∷ vs) e = let rest = sum_none f vs e in let here = e v in omega (arith, rest, here, more (f v) (map f vs))
+sum_none f (v ∷ vs) e = let rest = sum_none f vs e in let here = e v in omega (
+  arith,
+  rest,
+  here,
+  sum-cons (f v)
+      (map f vs),
+)
 
 abbrev one_at : ℕ → ℕ → ℕ
 one_at s v = if s == v then 1 else 0
@@ -76,7 +78,7 @@ sum_past s a zero lt = refl
 sum_past s a (suc n) lt =
     let here = one_other s a lt in
     let rest = sum_past s (a + 1) n (omega (arith, lt)) in
-    omega (arith, here, rest, more (one_at s a) (map (one_at s) (range_with_len (a + 1) n)))
+    omega (arith, here, rest, sum-cons (one_at s a) (map (one_at s) (range_with_len (a + 1) n)))
 
 sum_ones : (s a n : ℕ) → sum (map (one_at s) (range_with_len a n)) ≤ 1
 sum_ones s a zero = omega arith
@@ -85,11 +87,11 @@ sum_ones s a (suc n) =
     (λ (e : s ≡ a).
     let here : one_at s a ≡ 1 = ap (λ b. if b then 1 else 0) (eq-eqb s a e) in
     let rest = sum_past s (a + 1) n (omega (arith, e)) in
-    omega (arith, here, rest, more (one_at s a) (map (one_at s) (range_with_len (a + 1) n))))
+    omega (arith, here, rest, sum-cons (one_at s a) (map (one_at s) (range_with_len (a + 1) n))))
     (λ other.
     let here : one_at s a ≡ 0 = ap (λ b. if b then 1 else 0) (ne_eqb s a other) in
     let rest = sum_ones s (a + 1) n in
-    omega (arith, here, rest, more (one_at s a) (map (one_at s) (range_with_len (a + 1) n))))
+    omega (arith, here, rest, sum-cons (one_at s a) (map (one_at s) (range_with_len (a + 1) n))))
     (cases_eq s a)
 
 one_more : (key : Edge → ℕ) (e : Edge) (es : List Edge) (v : ℕ) →
@@ -120,8 +122,8 @@ filter_sum f p (v ∷ vs) = by (p v) (filter_sum f p vs)
   where
     by : (b : Bool) → sum (map f (filter p vs)) ≤ sum (map f vs) →
         sum (map f (if b then v ∷ filter p vs else filter p vs)) ≤ sum (map f (v ∷ vs))
-    by true rest = omega (arith, rest, more (f v) (map f vs), more (f v) (map f (filter p vs)))
-    by false rest = omega (arith, rest, more (f v) (map f vs))
+    by true rest = omega (arith, rest, sum-cons (f v) (map f vs), sum-cons (f v) (map f (filter p vs)))
+    by false rest = omega (arith, rest, sum-cons (f v) (map f vs))
 
 within_sum : (part : PlainPart) (vs : List ℕ) (xs : List (List ℕ)) → AreWithin part vs xs →
     sum (map length xs) ≤ sum (map (λ v. length (members_in part v)) vs)
@@ -135,8 +137,8 @@ within_sum part (v ∷ vs) (x ∷ xs) h =
       arith,
       here,
       rest,
-      more (length x) (map length xs),
-      more (length (members_in part v)) (map (λ v. length (members_in part v)) vs),
+      sum-cons (length x) (map length xs),
+      sum-cons (length (members_in part v)) (map (λ v. length (members_in part v)) vs),
     )
 
 pub reads_few : (part : PlainPart) (xs : List (List ℕ)) → AreWithin part (targets_of part) xs →
@@ -188,8 +190,8 @@ sum_under f g a (suc n) h =
       arith,
       here,
       rest,
-      more (f a) (map f (range_with_len (a + 1) n)),
-      more (g a)
+      sum-cons (f a) (map f (range_with_len (a + 1) n)),
+      sum-cons (g a)
           (map g (range_with_len (a + 1) n)),
     )
 

@@ -1,6 +1,6 @@
 -- What a core reads of the bodies that it holds fits, whether they are there or not.
 use Rattle.std.proofs.Common.{◌≡◌, ◌⊎◌, ◌<◌, ◌≤◌, ◌+◌, ◌-◌, ◌==◌, inl, inr, ⊎_elim, ℕ, zero, suc, ℤ, Bool, true, false, not, List, [], ◌∷◌, ◌++◌, map, length, take, drop, All, refl, sym, ap, subst, ◌∙◌, Option, None, Some, FitsSigned, w64, arith, get_or, length-append}
-use Rattle.std.specs.Prelude.{if◌then◌else◌, is_none, nat_lt, slice_index_or}
+use Rattle.std.specs.Prelude.{if◌then◌else◌, nat_lt, slice_index_or}
 use Rattle.std.specs.List.{AllByRecursion, list_all}
 use Rattle.std.proofs.Math.Seq.{take-nil}
 use Rattle.std.proofs.lemmas.Bool.{and_parts, ltb-true}
@@ -50,6 +50,7 @@ use Rattle.symple_face.specs.Shapes as shapes
 use Rattle.work_laws.specs.Sound.{IsHeld, IsLoopState}
 use Rattle.work_laws.proofs.Sights.{all_fit_at}
 use Rattle.work_laws.proofs.Words.{words_alone, words_typed}
+use Rattle.state_laws.proofs.Options.{none_of}
 
 -- ---- bodies under a name
 abbrev pub FitsAs : Split → PlainPart → Name → List ℕ → Type 0
@@ -239,10 +240,6 @@ told_send_fits split part x u body is here may =
     (sends_are kinds (sends_read (length kinds) (length vertices) body) suits.each suits.typed))
 
 -- ---- loop states that were told
-is_none_of : {X : Type 0} (o : Option X) → is_none o ≡ true → o ≡ None
-is_none_of None e = refl
-is_none_of (Some x) e = cc
-
 later_none : {X : Type 0} (b : Bool) (x : X) (o : Option X) → (if b then Some x else o) ≡ None → o ≡ None
 later_none true x o e = cc
 later_none false x o e = e
@@ -254,7 +251,7 @@ states_read width bools count body (inl none) =
     (subst (λ pairs. AllByRecursion (IsState width bools) (states_in width pairs (drop (mark_len count) [])))
     (sym (ap (λ marks. take count (pairs_in marks)) (take-nil (mark_len count)) ∙ take-nil count)) tt)
 states_read width bools count body (inr fits) =
-    let none : refusal_of width count bools body ≡ None = is_none_of (refusal_of width count bools body) fits in
+    let none : refusal_of width count bools body ≡ None = none_of (refusal_of width count bools body) fits in
     let parts = sound_parts width bools count (take (mark_len count) body) (drop (mark_len count) body)
     (later_none (nat_lt (length body) (mark_len count)) _ _ none) in
     states-states_in width bools (take count (pairs_in (take (mark_len count) body))) (drop (mark_len count) body)

@@ -1,5 +1,5 @@
 -- Where an action or a take of a core leads, and under which names it holds messages.
-use Rattle.std.proofs.Common.{◌≡◌, ◌≢◌, ℕ, Bool, true, false, List, [], ◌∷◌, map, refl, ap, ◌∙◌, Option, Some}
+use Rattle.std.proofs.Common.{◌≡◌, ◌≢◌, ℕ, Bool, true, false, List, [], ◌∷◌, map, refl, ap, ◌∙◌}
 use Rattle.std.specs.Prelude.{◌-◌, ◌&&◌, ◌||◌, not, if◌then◌else◌, is_some, nat_lt}
 use Rattle.vert_base.specs.declared.message.Name.{Name}
 use Rattle.vert_base.specs.declared.message.NameKind.{NameKind}
@@ -9,16 +9,17 @@ use Rattle.vert_base.specs.Names.{same_name}
 use Rattle.vert_base.proofs.LetterLaws.{placed_law}
 use Rattle.circulant_plan.specs.declared.spot.Spot.{Spot}
 use Rattle.circulant_plan.specs.declared.spot.Spot.TheVariants.{Tell, Judge, Begin, Scan, Close, Over}
-use Rattle.circulant_plan.specs.Skeleton.{acting_ruling, has_name, standing_taken}
+use Rattle.circulant_plan.specs.Skeleton.{acting_ruling, standing_taken}
 use Rattle.circulant_plan.specs.Table.{gives_of}
 use Rattle.symple_face.specs.CoreDense.{scan_go, scan_kept, scan_read}
 use Rattle.symple_face.specs.CoreJudge.{judge_at}
 use Rattle.symple_face.specs.CoreSight.{known}
-use Rattle.symple_face.specs.CoreTakes.{emptied}
 use Rattle.symple_face.specs.CoreWork.{acted, core_acting, core_go, core_sent, core_take, held_at, sent_at, taken}
 use Rattle.symple_face.specs.Lawful.{is_begin}
 use Rattle.symple_face.specs.Plans.{ring_of}
 use Rattle.symple_face.specs.State.{State, has_taken, machine, p_of, ruling_read}
+use Rattle.state_laws.proofs.Letters.{still_there}
+use Rattle.state_laws.proofs.Options.{some_if}
 
 -- ---- what an action leaves as it was
 either_same : {X Y : Type 0} (f : X → Y) (b : Bool) (x y : X) (z : Y) → f x ≡ z → f y ≡ z → f (if b then x else y) ≡ z
@@ -56,33 +57,12 @@ acted_ruling s (Close r dense) = refl
 acted_ruling s Over = refl
 
 -- ---- the names held
--- a name is held as before, where a body is dropped
-found_emptied : (xs : List Name) (x : Name) (held : List Letter) →
-    is_some (found x (emptied xs held)) ≡ is_some (found x held)
-found_emptied xs x [] = refl
-found_emptied xs x (l ∷ ls) = by (has_name l.name xs) (found_emptied xs x ls)
-  where
-    by : (b : Bool) → is_some (found x (emptied xs ls)) ≡ is_some (found x ls) →
-        is_some (found x ((if b then record l { body = [] } else l) ∷ emptied xs ls)) ≡ is_some (found x (l ∷ ls))
-    by true more = named (same_name l.name x) (record l { body = [] }) l more
-      where
-        named : (b : Bool) (k m : Letter) → is_some (found x (emptied xs ls)) ≡ is_some (found x ls) →
-            is_some (if b then Some k else found x (emptied xs ls)) ≡ is_some (if b then Some m else found x ls)
-        named true k m more = refl
-        named false k m more = more
-    by false more = named (same_name l.name x) l l more
-      where
-        named : (b : Bool) (k m : Letter) → is_some (found x (emptied xs ls)) ≡ is_some (found x ls) →
-            is_some (if b then Some k else found x (emptied xs ls)) ≡ is_some (if b then Some m else found x ls)
-        named true k m more = refl
-        named false k m more = more
-
 pub acted_held : (s : State) (spot : Spot) (x : Name) → has_taken (acted s spot) x ≡ has_taken s x
 acted_held s Tell x = refl
 acted_held s (Judge r) x = refl
-acted_held s (Begin r) x = found_emptied _ x s.held
+acted_held s (Begin r) x = still_there _ x s.held
 acted_held s (Scan r step h) x =
-    scan_same (λ t. has_taken t x) (has_taken s x) s r step h (found_emptied _ x s.held) (found_emptied _ x s.held)
+    scan_same (λ t. has_taken t x) (has_taken s x) s r step h (still_there _ x s.held) (still_there _ x s.held)
 acted_held s (Close r dense) x = refl
 acted_held s Over x = refl
 
@@ -139,10 +119,6 @@ taken_at kind.Update s l = refl
 taken_at kind.Push s l = push_same (λ t. t.at) s.at s l _ _ refl refl
 taken_at kind.Tally s l = refl
 taken_at kind.Verdict s l = refl
-
-some_if : (b : Bool) (l : Letter) (o : Option Letter) → is_some (if b then Some l else o) ≡ (b || is_some o)
-some_if true l o = refl
-some_if false l o = refl
 
 pub placed_held : (l : Letter) (held : List Letter) (x : Name) →
     is_some (found x (placed l held)) ≡ (same_name l.name x || is_some (found x held))

@@ -1,9 +1,8 @@
 -- A scan at a vertex leaves a state of its form, sends words, and reads no more than the members.
 use Rattle.std.proofs.Common.{◌≡◌, ◌<◌, ◌≤◌, ◌^◌, ℕ, zero, suc, ℤ, pos, Bool, true, false, ◌||◌, not, List, [], ◌∷◌, length, replicate, All, refl, sym, ap, subst, ◌∙◌, Option, None, Some, option_map, FitsSigned, w64, arith}
-use Rattle.std.specs.Prelude.{if◌then◌else◌, nat_lt, slice_index_or}
+use Rattle.std.specs.Prelude.{if◌then◌else◌, slice_index_or}
 use Rattle.std.specs.Int.{bit_at}
 use Rattle.std.specs.List.{AllByRecursion}
-use Rattle.std.proofs.lemmas.Bool.Decides.{nat_tests}
 use Rattle.std.proofs.lemmas.Option.{same_Some}
 use Rattle.std.proofs.lemmas.List.{length-map, length-replicate}
 use Rattle.std.proofs.lemmas.List.Elements.{All-nil}
@@ -15,7 +14,7 @@ use Rattle.vert_tree.specs.declared.program.Program.{Program}
 use Rattle.vert_tree.specs.Kinds.{Kinds, field_kinds, kinds_of}
 use Rattle.carry_analysis.specs.declared.classes.Class.{Class}
 use Rattle.carry_analysis.specs.declared.classes.Class.TheVariants.{Constant, Reduced, Carried}
-use Rattle.carry_analysis.specs.Classes.{body_marks, carried_in, carry_in, is_carried, let_classes}
+use Rattle.carry_analysis.specs.Classes.{body_marks, carried_in, is_carried, let_classes}
 use Rattle.slot_merge.specs.Combine.{slot_values}
 use Rattle.slot_merge.proofs.SlotLaws.{length-slot_values}
 use Rattle.vert_eval.specs.declared.environment.Env.{Env}
@@ -52,6 +51,7 @@ use Rattle.work_laws.specs.Sound.{IsLoopState, IsStateIn}
 use Rattle.work_laws.proofs.Reduced.{AreInts, reduced_are_ints}
 use Rattle.work_laws.proofs.Sights.{Looped, SightFits, dense_of, fits_at, loop_looped, seen_has}
 use Rattle.work_laws.proofs.Words.{MayFit, begun_length, carried_are, carried_kinds, carried_types, neutral_are, received_are, typed_words, words_alone, words_fit}
+use Rattle.state_laws.proofs.Carries.{carry_count}
 
 -- ---- the classes of a block's lets
 abbrev pub block_classes : Dense → List Class
@@ -67,15 +67,6 @@ carried_count (c ∷ cs) [] n = absurd (omega (arith, n))
 carried_count (Constant ∷ cs) (k ∷ ks) n = carried_count cs ks (omega (arith, n))
 carried_count (Reduced op ∷ cs) (k ∷ ks) n = carried_count cs ks (omega (arith, n))
 carried_count (Carried ∷ cs) (k ∷ ks) n = ap suc (carried_count cs ks (omega (arith, n)))
-
-carry_count : (breaks : Bool) (cs : List Class) → words_in (carry_in breaks cs) ≡ carried_in cs
-carry_count true cs = refl
-carry_count false cs = by (nat_lt 0 (carried_in cs)) refl
-  where
-    by : (b : Bool) → nat_lt 0 (carried_in cs) ≡ b →
-        words_in (if b then Some (record { words = carried_in cs }) else None) ≡ carried_in cs
-    by true e = refl
-    by false e = grind (arith, nat_tests)
 
 -- the types of its carried lets
 abbrev pub carried_of : Dense → List ValueType

@@ -112,12 +112,12 @@ sent_row kinds row is =
     flag_word false = truth_word false
 
 -- ---- words that are there
-there_fit : (xs : List (Option ℤ)) → AllByRecursion MayFit xs → AllByRecursion (FitsSigned w64) (there xs)
+pub there_fit : (xs : List (Option ℤ)) → AllByRecursion MayFit xs → AllByRecursion (FitsSigned w64) (there xs)
 there_fit [] all = tt
 there_fit (None ∷ xs) all = there_fit xs all.1
 there_fit (Some x ∷ xs) all = (all.0 x refl, there_fit xs all.1)
 
-places_few : (test : Class → Bool) (i : ℕ) (cs : List Class) → length (places_where test i cs) ≤ length cs
+pub places_few : (test : Class → Bool) (i : ℕ) (cs : List Class) → length (places_where test i cs) ≤ length cs
 places_few test i [] = omega arith
 places_few test i (c ∷ cs) = by (test c) (places_few test (i + 1) cs)
   where
@@ -160,7 +160,7 @@ sent_length : (b : Bool) (n : ℕ) (ws words : List ℤ) → length ws ≡ n →
 sent_length true n ws words count e = subst (λ (l : List ℤ). length l ≡ n) (same_Some ws words e) count
 sent_length false n ws words count e = cc
 
-sent_count : (o : Option SparseBlock) (env : Env) (words : List ℤ) → sends_at o env ≡ Some words →
+pub sent_count : (o : Option SparseBlock) (env : Env) (words : List ℤ) → sends_at o env ≡ Some words →
     length words ≡ length (kinds_of (sends_in o))
 sent_count None env words e = cc
 sent_count (Some b) env words e =

@@ -11,7 +11,7 @@ use Rattle.vert_base.specs.declared.message.NameKind.TheVariants as kind
 use Rattle.vert_base.specs.declared.value.Ruling.{Ruling}
 use Rattle.vert_base.specs.declared.value.Ruling.TheVariants.{Stop, Dense, Sparse}
 use Rattle.vert_base.specs.Letters.{Letter, found, placed}
-use Rattle.vert_base.specs.Names.{is_before, same_name}
+use Rattle.vert_base.specs.Names.{same_name}
 use Rattle.vert_base.proofs.LetterLaws.{names_law, not_true}
 use Rattle.slot_merge.specs.declared.partial.Partial.{Partial}
 use Rattle.dep_layout.specs.Judgement.{words_in}
@@ -36,7 +36,7 @@ use Rattle.symple_face.specs.CoreWork.{core_take, kept, take_update, take_verdic
 use Rattle.symple_face.specs.Plans.{blocks_of, concerns, goes_by_plan, is_in_range, is_planned, ring_of, serves}
 use Rattle.symple_face.specs.Shapes.{form_of, reduced_in}
 use Rattle.symple_face.specs.State.{IsTakeable, State, machine, p_of, ruling_read}
-use Rattle.work_laws.specs.Sound.{ArePartials, FitsForm, FitsSpot, HoldsFit, IsHeld, IsRuled, core_sound}
+use Rattle.work_laws.specs.Sound.{ArePartials, FitsSpot, HoldsFit, IsHeld, IsRuled, core_sound}
 use Rattle.work_laws.proofs.Gone.{dense_not, small_within, sparse_not}
 use Rattle.work_laws.proofs.Held.{beside_is, shape_parts}
 use Rattle.work_laws.proofs.Moves.{placed_held}
@@ -45,17 +45,10 @@ use Rattle.work_laws.proofs.Scans.{SentFits, unsent_fits}
 use Rattle.work_laws.proofs.Sees.{own_partials_are}
 use Rattle.work_laws.proofs.Sparse.{push_worked, told_fit}
 use Rattle.work_laws.proofs.Words.{MayFit}
+use Rattle.state_laws.proofs.Letters.{all_placed}
+use Rattle.state_laws.specs.Letters.{FitsForm}
 
 -- ---- what is held
-placed_all : (P : Letter → Type 0) (l : Letter) (held : List Letter) → P l → AllByRecursion P held →
-    AllByRecursion P (placed l held)
-placed_all P l [] p all = (p, tt)
-placed_all P l (y ∷ ys) p all = by (is_before y.name l.name) (placed_all P l ys p all.1)
-  where
-    by : (b : Bool) → AllByRecursion P (placed l ys) → AllByRecursion P (if b then y ∷ placed l ys else l ∷ y ∷ ys)
-    by true rest = (all.0, rest)
-    by false rest = (p, all)
-
 -- ---- an update
 filled_fit : (flags : List Bool) (xs : List ℤ) → AllByRecursion (FitsSigned w64) xs →
     AllByRecursion MayFit (filled flags xs)
@@ -186,10 +179,10 @@ module _ (s : State) (l : Letter) (sound : core_sound s) (takes : IsTakeable s l
   }
 
   kept_held : AllByRecursion (IsHeld s.split s.part) (placed l s.held)
-  kept_held = placed_all (IsHeld s.split s.part) l s.held (inr form) sound.fits.held
+  kept_held = all_placed (IsHeld s.split s.part) l s.held (inr form) sound.fits.held
 
   noted_held : AllByRecursion (IsHeld s.split s.part) (noted l s.held)
-  noted_held = placed_all (IsHeld s.split s.part) (record l { body = [] }) s.held (inl refl) sound.fits.held
+  noted_held = all_placed (IsHeld s.split s.part) (record l { body = [] }) s.held (inl refl) sound.fits.held
 
   kept_sound : l.name.kind ≢ kind.Verdict → core_sound (kept s l)
   kept_sound other = with_held (placed l s.held) s.partials kept_held sound.fits (known_same s l s.partials other)

@@ -19,17 +19,16 @@ use Rattle.circulant_plan.specs.Standing.{round_of}
 use Rattle.vert_eval.specs.Rounds.{slot_ops}
 use Rattle.instrument.specs.declared.split.Split.{Split}
 use Rattle.instrument.specs.declared.split.SplitLoop.{SplitLoop}
-use Rattle.body_shape.specs.Fit.{is_fit}
 use Rattle.body_shape.specs.Shapes.{bool_bits}
-use Rattle.body_shape.specs.declared.shape.BodyShape.{BodyShape}
 use Rattle.symple_face.specs.CoreSight.{known, program_of, targets_of}
 use Rattle.symple_face.specs.CoreTakes.{classes_of, reduced_ops}
 use Rattle.symple_face.specs.Lawful.{CanRun, IsSmall}
 use Rattle.symple_face.specs.Parts.{PlainPart, chunk_vertices}
 use Rattle.symple_face.specs.Plans.{blocks_of, loop_carry}
-use Rattle.symple_face.specs.Shapes.{carried_in, shape_of, types_at, types_of, words_in}
+use Rattle.symple_face.specs.Shapes.{carried_in, types_at, types_of, words_in}
 use Rattle.vert_tree.specs.Places.{lets_in}
 use Rattle.symple_face.specs.State.{State, Sums, machine, p_of}
+use Rattle.state_laws.specs.Letters.{FitsForm}
 
 -- ---- what is kept of each vertex
 -- one for each own vertex, and each such
@@ -65,10 +64,6 @@ AreWithin part (v ∷ vs) [] = ⊥
 AreWithin part (v ∷ vs) (xs ∷ more) = (length xs ≤ length (members_in part v)) × AreWithin part vs more
 
 -- ---- what is held
--- the body of a message fits its form
-abbrev pub FitsForm : Split → PlainPart → Letter → Type 0
-FitsForm split part l = (shape : BodyShape) × (shape_of split part l.name ≡ Some shape) × (is_fit shape l.body ≡ true)
-
 -- it does, or was merged or dropped
 abbrev pub IsHeld : Split → PlainPart → Letter → Type 0
 IsHeld split part l = (l.body ≡ []) ⊎ FitsForm split part l

@@ -31,13 +31,11 @@ use Rattle.worker_stream.proofs.FrameLaws.{same_part}
 use Rattle.worker_stream.proofs.OrderLaws.{IsInPlace, placed_below}
 use Rattle.worker_stream.proofs.SoundLaws.{scan_below}
 use Rattle.worker_stream.proofs.SpelledLaws.{counted_front, cut_front, degree_again, degree_length, edge_again, edge_length, eight_drop, eight_read, four_again, four_length, four_read, units_back, units_long}
+use Rattle.std.proofs.lemmas.Option.{same_Some}
 
 behind_twelve : (a b c : ℕ) → drop 12 (eight_bytes a ++ (four_bytes b ++ four_bytes c)) ≡ four_bytes c
 unfolding four_bytes eight_bytes
 behind_twelve a b c = refl
-
-some_once : {X : Type 0} (x y : X) → Some x ≡ Some y → x ≡ y
-some_once x y e = cc
 
 none_some : {X : Type 0} (x : X) → None ≡ Some x → ⊥
 none_some x e = absurd cc
@@ -303,7 +301,7 @@ module _ (part : PlainPart) (program : List ℕ) (fits : IsWritable part program
   sections_read s (Err Want) is given = tt
 
   one_cut : (s : Sections) → sections_of (spelled_part part program) ≡ Some s → s ≡ made
-  one_cut s cut = some_once s made (sym cut ∙ cut_again)
+  one_cut s cut = same_Some s made (sym cut ∙ cut_again)
 
   pub read_back : (bytes : List ℕ) (r : Result Part PartFault) → bytes ≡ spelled_part part program →
       ReadsPart bytes r → IsReadBack part program r

@@ -1,19 +1,20 @@
 -- The tests of a part's degrees decide whether they are those of a part.
-use Rattle.std.proofs.Common.{◌≡◌, ℕ, ◌<◌, ◌≤◌, ◌∙◌, ⊎_elim, Bool, true, false, ◌&&◌, not, List, [], ◌∷◌, length, map, refl, sym, ap, subst}
+use Rattle.std.proofs.Common.{◌≡◌, ℕ, ◌<◌, ◌∙◌, ⊎_elim, Bool, true, false, ◌&&◌, not, List, [], ◌∷◌, length, map, refl, sym, ap, subst}
 use Rattle.std.specs.Prelude.{◌==◌}
 use Rattle.std.specs.List.{AllByRecursion, filter, list_all}
 use Rattle.std.proofs.lemmas.Bool.{and_parts, cases_Bool, eq-eqb, eqb-true, or_cases, or_left, or_right, true≢false}
 use Rattle.vert_base.specs.declared.graph.Edge.{Edge}
-use Rattle.vert_base.specs.declared.limits.TheConstants.{EDGES, VERTICES}
 use Rattle.vert_base.specs.Neighbours.{AreBelow, bucket, source, target}
 use Rattle.chunk_split.specs.Chunks.{AreEnds, vertices_of}
 use Rattle.circulant_plan.specs.Ring.{lies_in}
 use Rattle.graph_table.proofs.FilterLaws.{all_filter, all_map, all_passes, all_true, filter-map, map-map, map_itself, map_same}
 use Rattle.symple_face.specs.declared.degree.Degree.{Degree}
 use Rattle.symple_face.specs.Parts.{chunk_vertices, degree_in}
-use Rattle.symple_face.specs.PartsOf.{known_of, push_of, scan_of}
-use Rattle.mirror_table.proofs.PartLaws.{part_is}
+use Rattle.symple_face.specs.PartsOf.{known_of}
 use Rattle.worker_stream.specs.Degrees.{are_known, is_counted}
+use Rattle.vert_base.proofs.Orders.{all_weaker}
+use Rattle.round_laws.proofs.FoldPushWalk.{all_pairs}
+use Rattle.mirror_table.proofs.PartLaws.{own_known}
 
 pub known_says : (ds : List Degree) (vs : List ℕ) → are_known ds vs ≡ true → map (λ d. d.id.0) ds ≡ vs
 known_says [] [] t = refl
@@ -49,16 +50,6 @@ from_filter P p (x ∷ xs) all =
     (λ e. absurd (true≢false (sym e ∙ other)), from_filter P p xs given))
     (cases_Bool (p x))
 
-all_holds : {X : Type 0} (P Q : X → Type 0) (xs : List X) → ((x : X) → P x → Q x) → AllByRecursion P xs →
-    AllByRecursion Q xs
-all_holds P Q [] f all = tt
-all_holds P Q (x ∷ xs) f all = (f x all.0, all_holds P Q xs f all.1)
-
-all_both : {X : Type 0} (P Q R : X → Type 0) (xs : List X) → ((x : X) → P x → Q x → R x) → AllByRecursion P xs →
-    AllByRecursion Q xs → AllByRecursion R xs
-all_both P Q R [] f a b = tt
-all_both P Q R (x ∷ xs) f a b = (f x a.0 b.0, all_both P Q R xs f a.1 b.1)
-
 module _ (ends : List ℕ) (m : ℕ) (ins outs : List Edge) where
   abbrev own : Degree → Bool
   own d = lies_in ends m d.id.0
@@ -89,21 +80,6 @@ module _ (ends : List ℕ) (m : ℕ) (ins outs : List Edge) where
       (λ (other : own d ≡ false). or_left (not (own d)) (in_count && out_count) (ap not other))
       (cases_Bool (own d))
 
-  -- of the vertices that a machine knows those of its chunk are its own
-  own_known : AreEnds 64 ends → AreBelow (vertices_of ends) outs → m < length ends → vertices_of ends ≤ VERTICES →
-      length outs ≤ EDGES → filter (lies_in ends m) (known_of ends outs m) ≡ chunk_vertices ends m
-  own_known are below here within few =
-      let known = known_of ends outs m in
-      let part = part_is 64 ends outs are below m here 0 within few in
-      let number : Degree → ℕ = λ d. d.id.0 in
-      let made = map (degree_in outs outs) known in
-      let numbers : map number made ≡ known = map-map number (degree_in outs outs) known ∙ map_itself known in
-      let vertices = chunk_vertices ends m in
-      ap (filter (lies_in ends m)) (sym numbers)
-      ∙ (filter-map (lies_in ends m) number made
-      ∙ (ap (map number) part.own
-      ∙ (map-map number (degree_in (push_of ends outs m) (scan_of ends outs m)) vertices ∙ map_itself vertices)))
-
   -- the own degrees are those of the chunk's vertices
   abbrev AreOwn : List Degree → Type 0
   AreOwn ds = filter (λ d. lies_in ends m d.id.0) ds ≡ map (degree_in ins outs) (chunk_vertices ends m)
@@ -116,18 +92,18 @@ module _ (ends : List ℕ) (m : ℕ) (ins outs : List Edge) where
       (all_true (λ v. P (degree_in ins outs v)) (λ v. refl) (chunk_vertices ends m)) in
       let here : AllByRecursion P (filter own ds) = subst (λ (q : List Degree). AllByRecursion P q) (sym are) made in
       test_from_all (is_counted ends m ins outs) ds
-      (all_holds (λ d. own d ≡ true → P d) (λ d. is_counted ends m ins outs d ≡ true) ds counts_pass
+      (all_weaker (λ d. own d ≡ true → P d) (λ d. is_counted ends m ins outs d ≡ true) ds counts_pass
       (from_filter P own ds here))
 
   pub counted_says : (are : AreEnds 64 ends) (below : AreBelow (vertices_of ends) outs) (here : m < length ends)
-      (within : vertices_of ends ≤ VERTICES) (few : length outs ≤ EDGES) (ds : List Degree) →
+      (ds : List Degree) →
       map (λ d. d.id.0) ds ≡ known_of ends outs m →
       list_all (is_counted ends m ins outs) ds ≡ true → AreOwn ds
-  counted_says are below here within few ds known t =
+  counted_says are below here ds known t =
       let g : Degree → Degree = λ d. degree_in ins outs d.id.0 in
       let mine = filter own ds in
       let each : AllByRecursion (λ d. d ≡ g d) mine =
-      all_both (λ d. is_counted ends m ins outs d ≡ true) (λ d. own d ≡ true) (λ d. d ≡ g d) mine counts_of
+      all_pairs (λ d. is_counted ends m ins outs d ≡ true) (λ d. own d ≡ true) (λ d. d ≡ g d) mine counts_of
       (all_filter (λ d. is_counted ends m ins outs d ≡ true) own ds (all_from_test (is_counted ends m ins outs) ds t))
       (all_passes own ds) in
       sym (map_itself mine)
@@ -135,4 +111,4 @@ module _ (ends : List ℕ) (m : ℕ) (ins outs : List Edge) where
       ∙ (sym (map-map (degree_in ins outs) (λ d. d.id.0) mine)
       ∙ ap (map (degree_in ins outs))
       (sym (filter-map (lies_in ends m) (λ d. d.id.0) ds)
-      ∙ (ap (filter (lies_in ends m)) known ∙ own_known are below here within few))))
+      ∙ (ap (filter (lies_in ends m)) known ∙ own_known 64 ends outs are below m here))))

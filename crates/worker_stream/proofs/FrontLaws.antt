@@ -1,5 +1,5 @@
 -- What is read step by step is the front of the bytes.
-use Rattle.std.proofs.Common.{◌≡◌, ℕ, ◌+◌, ◌-◌, ◌<◌, ◌≤◌, ◌∙◌, min, true, false, Option, Some, None, Err, List, [], ◌∷◌, ◌++◌, length, take, drop, refl, sym, ap, subst, arith, append_assoc, length-append}
+use Rattle.std.proofs.Common.{◌≡◌, ℕ, ◌+◌, ◌-◌, ◌<◌, ◌≤◌, ◌∙◌, min, true, false, Option, Some, Err, List, [], ◌∷◌, ◌++◌, length, take, drop, refl, sym, ap, subst, arith, append_assoc, length-append}
 use Rattle.std.proofs.lemmas.Bool.{cond-false, cond-true, eq-eqb, le-ltb, ne_eqb}
 use Rattle.std.proofs.lemmas.Bool.Decides.{nat_tests}
 use Rattle.std.proofs.lemmas.Bool.{cases_lt}
@@ -13,6 +13,7 @@ use Rattle.dep_message.specs.Messages.{header_in}
 use Rattle.worker_stream.specs.declared.reading.ReadFault.{ReadFault}
 use Rattle.worker_stream.specs.declared.reading.ReadFault.TheVariants.{Ended, Faulty, Source, Want}
 use Rattle.worker_stream.specs.Fronts.{IsRead, IsWhole, IsWrong, NoByte, ReadsBody, ReadsHeader, ReadsMessage, There, Wrong, front_of, front_with_body, front_with_name, read_of, read_with_name}
+use Rattle.worker_stream.proofs.FillLaws.{led_twice}
 
 pub taken : (xs ys : List ℕ) → take (length xs) (xs ++ ys) ≡ xs
 taken [] ys = refl
@@ -31,14 +32,9 @@ dropped_at n xs ys e = ap (λ q. drop q (xs ++ ys)) (sym e) ∙ dropped xs ys
 less_is : (a b : ℕ) → a < b → nat_lt a b ≡ true
 less_is a b lt = grind (arith, nat_tests)
 
-led_led : (first second : List ℕ) (left : Option (List ℕ)) →
-    led_by first (led_by second left) ≡ led_by (first ++ second) left
-led_led first second None = refl
-led_led first second (Some rest) = ap Some (sym (append_assoc first second rest))
-
 pub led_on : (first second : List ℕ) (old mid new : Option (List ℕ)) → old ≡ led_by first mid →
     mid ≡ led_by second new → old ≡ led_by (first ++ second) new
-led_on first second old mid new a b = a ∙ (ap (led_by first) b ∙ led_led first second new)
+led_on first second old mid new a b = a ∙ (ap (led_by first) b ∙ led_twice first second new)
 
 -- ---- headers
 pub no_byte : (forms : Name → Option BodyShape) (front rest : List ℕ) → length front ≡ 0 → rest ≡ [] →

@@ -12,6 +12,7 @@ use Rattle.chunk_split.specs.Chunks.{AreEnds, vertices_of}
 use Rattle.circulant_plan.specs.Ring.{lies_in}
 use Rattle.symple_face.proofs.ChunkLaws.{chunk_within, lies_high}
 use Rattle.worker_stream.specs.Orders.{are_edges_behind, fits_chunk, may_follow}
+use Rattle.round_laws.proofs.FoldPushWalk.{all_pairs}
 
 -- what the test of two edges says
 abbrev Follows : ℕ × ℕ → ℕ × ℕ → Type 0
@@ -61,11 +62,6 @@ bucket_has P key v (x ∷ xs) all =
     (λ (other : (key x == v) ≡ false). rw other (bucket_has P key v xs all.1))
     (cases_Bool (key x == v))
 
-both_hold : {X : Type 0} (P Q R : X → Type 0) (xs : List X) → ((x : X) → P x → Q x → R x) → AllByRecursion P xs →
-    AllByRecursion Q xs → AllByRecursion R xs
-both_hold P Q R [] f a b = tt
-both_hold P Q R (x ∷ xs) f a b = (f x a.0 b.0, both_hold P Q R xs f a.1 b.1)
-
 -- what holds in a bucket holds of all elements with its key
 from_bucket : {X : Type 0} (P : X → Type 0) (key : X → ℕ) (v : ℕ) (xs : List X) →
     AllByRecursion P (bucket key v xs) → AllByRecursion (λ x. key x ≡ v → P x) xs
@@ -104,7 +100,7 @@ module _ (major minor : Edge → ℕ) where
       ⊎_elim
       (λ (here : (major e == v) ≡ true).
       rw here (
-        both_hold (λ f. Follows (pair_of e) (pair_of f)) (λ f. major f ≡ v) (λ f. minor e ≤ minor f) (bucket major v es)
+        all_pairs (λ f. Follows (pair_of e) (pair_of f)) (λ f. major f ≡ v) (λ f. minor e ≤ minor f) (bucket major v es)
             (λ f g at.
             ⊎_elim
             (λ (less : major e < major f).
@@ -136,7 +132,7 @@ module _ (major minor : Edge → ℕ) where
       ((v : ℕ) → v < n → Rises minor (bucket major v es)) → Ordered es
   ordered n [] up low each = tt
   ordered n (e ∷ es) up low each = (
-    both_hold (λ f. major e ≤ major f) (λ f. major f ≡ major e → minor e ≤ minor f) (λ f.
+    all_pairs (λ f. major e ≤ major f) (λ f. major f ≡ major e → minor e ≤ minor f) (λ f.
         Follows (pair_of e) (pair_of f)) es
         (λ f le then.
         ⊎_elim
@@ -244,7 +240,7 @@ module _ (major minor : Edge → ℕ) where
           (sym (ap (bucket major v) h.order ∙ part-two_orders major minor n es v lt))
           (in_order_rises minor n (bucket major v es)) in
           test_passes es (0, 0)
-          (both_hold (λ e. lies_in ends m (minor e) ≡ true) (λ e. major e < n) Fits es (λ e a b. (a, b))
+          (all_pairs (λ e. lies_in ends m (minor e) ≡ true) (λ e. major e < n) Fits es (λ e a b. (a, b))
           (recursion_from_All (λ e. lies_in ends m (minor e) ≡ true) es h.chunk) low)
           (first_of_all es) (ordered n es up low each)
 
@@ -253,7 +249,7 @@ module _ (major minor : Edge → ℕ) where
           AllByRecursion (λ e. (major e < vertices_of ends) × (minor e < vertices_of ends)) es
       placed_below es h =
           let n = vertices_of ends in
-          both_hold (λ e. major e < n) (λ e. minor e < n) (λ e. (major e < n) × (minor e < n)) es (λ e a b. (a, b))
+          all_pairs (λ e. major e < n) (λ e. minor e < n) (λ e. (major e < n) × (minor e < n)) es (λ e a b. (a, b))
           (subst (λ (q : List Edge). AllByRecursion (λ e. major e < n) q) (sym h.order)
           (in_order_below major n (in_order minor n es)))
           (minors_below es (recursion_from_All (λ e. lies_in ends m (minor e) ≡ true) es h.chunk))

@@ -32,7 +32,7 @@ use Rattle.cluster_run.specs.Driven.{IsReached, anew}
 use Rattle.cluster_run.proofs.Results.{reached_takes, steps_on}
 use Rattle.cluster_run.proofs.Sites.{get_one, map_get, set_other}
 use Rattle.worker_stream.specs.Fronts.{AtFront, IsRead, front_of, front_with_body, front_with_form, front_with_name, read_with_form, read_with_name}
-use Rattle.worker_stream.specs.Prompt.{IsPrompt, PlainRunsArePrompt, PromptRunsAreServed, handed, sent_at, sent_by, sent_with, taken_at, taken_by}
+use Rattle.worker_stream.specs.Prompt.{IsPrompt, PlainRunsArePrompt, PromptRunsAreServed, handed, sent_at, sent_by, taken_at, taken_by}
 use Rattle.worker_stream.specs.Sent.{spelled_letter, spelled_letters}
 use Rattle.worker_stream.specs.Walks.{Walks}
 use Rattle.worker_stream.specs.Worker.{Finishes, Refuses, Served, behind_text, ends_at, is_due, served_from, takes_front}
@@ -40,6 +40,8 @@ use Rattle.worker_stream.proofs.FrontLaws.{body_fits}
 use Rattle.worker_stream.proofs.ShortLaws.{forms_short}
 use Rattle.worker_stream.proofs.StateWalks.{first_walks, go_walks, goes, ranges, take_walks}
 use Rattle.worker_stream.proofs.WorkerLaws.{at_action, at_end, at_message}
+use Rattle.state_laws.proofs.Options.{some_of}
+use Rattle.cluster_run.specs.Sends.{sent_with}
 
 -- ---- the spelling of a message is read as the message
 proper_by : (k : NameKind) (p : ℕ) (split : Split) (x : Name) → goes_by_plan (ring_of split p) k x ≡ true →
@@ -160,17 +162,14 @@ set_there [] m x y at = absurd (cc)
 set_there (z ∷ xs) zero x y at = refl
 set_there (z ∷ xs) (suc m) x y at = set_there xs m x y at
 
-some_there : {X : Type 0} (o : Option X) → is_some o ≡ true → (x : X) × (o ≡ Some x)
-some_there None e = absurd (cc)
-some_there (Some x) e = (x, refl)
-
 -- the events before the first are none, and the texts are joined
 module _ (work : Work) (sound : State → Type 0) (lawful : IsLawful work sound) (m : ℕ) (rest : List ℕ) where
   ends_alone : (at : ℕ) (s : State) (w : World) → slice_get w.sites m ≡ Some s → Walks s → finished w ≡ true →
       GoesAlone work m at s w [] [] [] rest
   ends_alone at s w there walks over =
       let spot = all_over w.sites m s over there in
-      let action : action_of s ≡ Over = ap (λ b. if b then Over else waiting_for (first_missing (needs s) s.held)) spot in
+      let action : action_of s ≡ Over = ap (λ b. if b then Over else waiting_for (first_missing (needs s) s.held))
+      spot in
       record {
         last = s;
         stands = there;
@@ -292,7 +291,7 @@ module _ (work : Work) (sound : State → Type 0) (lawful : IsLawful work sound)
       let can = and_parts (possible w (Take x)) (all_possible work (step work w (Take x)) es) all in
       let on = steps_on work sound w (Take x) reached can.0 in
       let v = step work w (Take x) in
-      let letter = some_there (found x w.under_way) can.0 in
+      let letter = some_of (found x w.under_way) can.0 in
       let l = letter.0 in
       let receiver = reached_takes work sound lawful w reached x l letter.1 in
       let t = receiver.0 in

@@ -5,7 +5,7 @@ use Rattle.std.specs.List.{flat_map}
 use Rattle.vert_base.specs.declared.message.Message.{Message}
 use Rattle.vert_base.specs.Letters.{letter_of}
 use Rattle.outside.specs.Bytes.{gained}
-use Rattle.outside.proofs.BytesLaws.{gained-gained, gained-nothing, part_after, part_of_longer}
+use Rattle.outside.proofs.BytesLaws.{gained-gained, part_after, part_of_longer}
 use Rattle.array_text.proofs.WritesLaws.{texts_split}
 use Rattle.worker_stream.specs.declared.sending.SendFault.{SendFault}
 use Rattle.worker_stream.specs.Sent.{Sends, spelled_letter, spelled_letters}
@@ -16,18 +16,6 @@ bytes_of msg = spelled_letter (letter_of msg)
 pub spelled_map : (ms : List Message) → spelled_letters (map letter_of ms) ≡ flat_map bytes_of ms
 spelled_map [] = refl
 spelled_map (m ∷ ms) = ap (λ q. bytes_of m ++ q) (spelled_map ms)
-
--- no text, and no call
-pub sends_nothing : {S : Type 0} (held : S → Option (List ℕ)) (faults spare : S → ℕ) (sink : S) →
-    Sends held faults spare sink sink [] (Ok tt)
-sends_nothing held faults spare sink = record {
-  whole = sym (gained-nothing (held sink));
-  part = tt;
-  counted = refl;
-  want = λ e. refl;
-  failed = λ e. absurd (cc);
-  spared = omega arith;
-}
 
 -- the same text
 pub sends_same : {S : Type 0} {held : S → Option (List ℕ)} {faults spare : S → ℕ} {old new : S} {text other : List ℕ}
@@ -61,16 +49,17 @@ sends_then {held = held} {old = old} {first = first} {second = second} (Ok done)
   failed = λ e. absurd (cc);
   spared = omega (arith, length-append first second, v.spared, w.spared);
 }
-sends_then {held = held} {old = old} {mid = mid} {new = new} {first = first} {second = second} (Err fault) v w = record {
-  whole = tt;
-  part = part_after (held old) (held mid) (held new) first second v.whole w.part;
-  counted = tt;
-  want = λ e. w.want e ∙ v.counted;
-  failed = λ e.
-      let both = w.failed e in
-      (omega (arith, v.counted, both.0), omega (arith, length-append first second, v.spared, both.1));
-  spared = tt;
-}
+sends_then {held = held} {old = old} {mid = mid} {new = new} {first = first} {second = second} (Err fault) v w =
+    record {
+      whole = tt;
+      part = part_after (held old) (held mid) (held new) first second v.whole w.part;
+      counted = tt;
+      want = λ e. w.want e ∙ v.counted;
+      failed = λ e.
+          let both = w.failed e in
+          (omega (arith, v.counted, both.0), omega (arith, length-append first second, v.spared, both.1));
+      spared = tt;
+    }
 
 -- the messages before one, and that one, of which a part may have been written
 pub sends_here : {S : Type 0} {held : S → Option (List ℕ)} {faults spare : S → ℕ} {old mid new : S}

@@ -1,6 +1,6 @@
 -- The steps of a machine that serves a stream make up what it does with the whole stream.
 use Rattle.std.proofs.Common.{◌≡◌, ◌≢◌, ℕ, ◌+◌, ◌<◌, ◌≤◌, ◌∙◌, Bool, true, false, Option, Some, None, Result, Ok, Err, List, [], ◌∷◌, ◌++◌, length, take, drop, map, refl, sym, ap, subst, arith, ⊎_elim, append_assoc, append-nil, length-append, ◌⊎◌, inl, inr}
-use Rattle.std.specs.Prelude.{◌==◌, ◌&&◌, not, nat_lt, option_map, if◌then◌else◌, OnOk}
+use Rattle.std.specs.Prelude.{IfSome, OnOk, if◌then◌else◌, nat_lt, not, option_map, ◌&&◌, ◌==◌}
 use Rattle.std.specs.List.{All, AllByRecursion}
 use Rattle.std.proofs.lemmas.Bool.{cases_eq, cond-false, false≢true, ne_eqb}
 use Rattle.std.proofs.lemmas.List.Elements.{All-from_recursion}
@@ -36,7 +36,7 @@ use Rattle.worker_stream.specs.declared.sending.SendFault.{SendFault}
 use Rattle.worker_stream.specs.declared.sending.SendFault.TheVariants as send
 use Rattle.worker_stream.specs.Fronts.{AtFront, IsWhole, IsWrong, NoByte, ReadsMessage, There, Wrong, front_of, front_with_body, front_with_form, front_with_name, read_of, told}
 use Rattle.worker_stream.specs.Sent.{IsShort, Sends, spelled_letters}
-use Rattle.worker_stream.specs.Serving.{AreLeft, IsServed, IsServedPart, Serves, Streams}
+use Rattle.worker_stream.specs.Serving.{IsServed, IsServedPart, Serves, Streams}
 use Rattle.worker_stream.specs.Steps.{Breaks, Goes, Halts, IsAlong, IsUndue, StepFails, Takes, TakesNext, unread, unsent}
 use Rattle.worker_stream.specs.Walks.{Stands, names_from}
 use Rattle.worker_stream.specs.Worker.{End, Finishes, Lacks, Onwards, Refuses, Served, behind_text, ends_at, is_due, reads, served_from, takes_front, worker}
@@ -436,10 +436,11 @@ behind_behind first second w =
     ap (λ (q : List ℕ). (let r : Served = record { used = w.used; text = q; end = w.end } in r))
     (sym (append_assoc first second w.text))
 
-are_left : (front : List ℕ) (old left : Option (List ℕ)) → old ≡ led_by front left → AreLeft old (front ++ told left)
-are_left front old left is = subst (λ (q : Option (List ℕ)). AreLeft q (front ++ told left)) (sym is) (by left)
+are_left : (front : List ℕ) (old left : Option (List ℕ)) → old ≡ led_by front left →
+    IfSome old (λ l. l ≡ front ++ told left)
+are_left front old left is = subst (λ (q : Option (List ℕ)). IfSome q (λ l. l ≡ front ++ told left)) (sym is) (by left)
   where
-    by : (left : Option (List ℕ)) → AreLeft (led_by front left) (front ++ told left)
+    by : (left : Option (List ℕ)) → IfSome (led_by front left) (λ l. l ≡ front ++ told left)
     by None = tt
     by (Some rest) = refl
 
@@ -530,7 +531,7 @@ module _ (work : Work) (sound : State → Type 0) (lawful : IsLawful work sound)
 
     pub along_fails : {X : Type 0} (state : X → State) (fault : ServeFault) →
         StepFails at front (served_from work at s (front ++ told new.left)) now new fault →
-        (all : List ℕ) × AreLeft old.left all × Serves state (worker work part split all) old new (Err fault)
+        (all : List ℕ) × IfSome old.left (λ l. l ≡ all) × Serves state (worker work part split all) old new (Err fault)
     along_fails state fault fails = (
       (along.read ++ front) ++ told new.left,
       are_left (along.read ++ front) old.left new.left all_left,
@@ -539,7 +540,7 @@ module _ (work : Work) (sound : State → Type 0) (lawful : IsLawful work sound)
     )
 
   pub along_ends : {X : Type 0} (state : X → State) (site : X) → state site ≡ s → is_over s.at.spot ≡ true →
-      (all : List ℕ) × AreLeft old.left all × Serves state (worker work part split all) old now (Ok site)
+      (all : List ℕ) × IfSome old.left (λ l. l ≡ all) × Serves state (worker work part split all) old now (Ok site)
   along_ends state site is over =
       let w = served_from work at s (told now.left) in
       let end : w ≡ ends_at at (Finishes s) = at_end work sound lawful at s (told now.left) along.stands.walks
@@ -571,7 +572,7 @@ fails_left at front w old new serve.Want fails = fails.0.left
 
 -- memory was wanting before the first step
 pub wants_at_once : {X : Type 0} (state : X → State) (work : Work) (part : PlainPart) (split : Split) (old : Streams) →
-    (all : List ℕ) × AreLeft old.left all × Serves state (worker work part split all) old old (Err serve.Want)
+    (all : List ℕ) × IfSome old.left (λ l. l ≡ all) × Serves state (worker work part split all) old old (Err serve.Want)
 wants_at_once state work part split old = (
   told old.left,
   are_left [] old.left old.left (led_nothing old.left),

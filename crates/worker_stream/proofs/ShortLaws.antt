@@ -1,10 +1,9 @@
 -- No body of a machine's messages is longer than a header can tell.
-use Rattle.std.proofs.Common.{◌≡◌, ℕ, zero, suc, ◌+◌, ◌-◌, ◌*◌, ◌<◌, ◌≤◌, Bool, true, false, ◌||◌, Option, Some, None, List, [], ◌∷◌, ◌++◌, length, min, refl, sym, subst, arith, ⊎_elim, length-append}
+use Rattle.std.proofs.Common.{◌≡◌, ℕ, zero, suc, ◌+◌, ◌-◌, ◌*◌, ◌<◌, ◌≤◌, Bool, true, false, Option, Some, None, List, [], ◌∷◌, ◌++◌, length, min, refl, sym, subst, arith, ⊎_elim, length-append}
 use Rattle.std.specs.Prelude.{◌==◌, nat_lt, nat_le, ◌&&◌, if◌then◌else◌, option_map, slice_index, slice_index_or}
 use Rattle.std.specs.Int.{div_ceil}
 use Rattle.std.proofs.lemmas.Bool.{cases_lt}
 use Rattle.std.proofs.lemmas.List.{length-map}
-use Rattle.std.proofs.lemmas.List.Sums.{count_by-le-length, length-filter}
 use Rattle.std.proofs.lemmas.Nat.{mul-le}
 use Rattle.std.proofs.lemmas.Option.{cond_some}
 use Rattle.vert_base.specs.declared.graph.Edge.{Edge}
@@ -17,8 +16,7 @@ use Rattle.vert_base.specs.Neighbours.{source, target}
 use Rattle.vert_tree.specs.declared.program.Dense.{Dense}
 use Rattle.vert_tree.specs.Places.{sends_in}
 use Rattle.vert_tree.proofs.TypedLaws.{few_fields, few_lets, few_totals}
-use Rattle.carry_analysis.specs.declared.classes.Class.{Class}
-use Rattle.carry_analysis.specs.Classes.{body_marks, carried_in, carry_in, has_break, is_carried, let_classes}
+use Rattle.carry_analysis.specs.Classes.{body_marks, has_break, let_classes}
 use Rattle.chunk_split.specs.Chunks.{vertices_of}
 use Rattle.circulant_plan.specs.Ring.{chunk_of, half_of}
 use Rattle.instrument.specs.declared.split.Split.{Split}
@@ -34,6 +32,7 @@ use Rattle.symple_face.specs.Shapes.{count_within, form_of, half_in, pushed, red
 use Rattle.symple_face.proofs.LimitLaws.{few_sends}
 use Rattle.symple_face.proofs.ListLaws.{ends_met_few, filter_few, others_few}
 use Rattle.worker_stream.specs.Laws.{FormsAreShort}
+use Rattle.state_laws.proofs.Carries.{few_carry}
 
 abbrev reduced_count : Split → ℕ
 reduced_count split = length (reduced_in split.dense)
@@ -116,16 +115,6 @@ module _ (part : PlainPart) (split : Split) (can : CanRun part split) where
   half_low a b (suc h) low = omega arith
 
 -- ---- words
-few_carry : (breaks : Bool) (cs : List Class) (n : ℕ) → length cs ≤ n → words_in (carry_in breaks cs) ≤ n
-few_carry breaks cs n few = by (breaks || nat_lt 0 (carried_in cs))
-  where
-    by : (b : Bool) → words_in (if b then Some (record { words = carried_in cs }) else None) ≤ n
-    by true =
-        let told = length-filter is_carried cs in
-        let most = count_by-le-length is_carried cs in
-        omega (arith, few, told, most)
-    by false = omega arith
-
 few_words : (split : Split) → words_in (loop_carry split.dense) ≤ 8
 few_words split =
     subst (λ (o : Option SplitLoop). words_in (loop_carry o) ≤ 8) (sym split.split)

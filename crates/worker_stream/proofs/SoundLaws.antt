@@ -197,6 +197,6 @@ sound_from_forms f lists frame count scan push lists_are degrees =
             ∙ ap (λ (q : ℕ). flat_map (λ k. if k == f.machine then chunk_vertices f.ends k
             else refresh_list f.ends k f.machine f.scan) (range_with_len 0 q)) (sym count);
         own = counted_says f.ends f.machine f.push f.scan are
-            (scan_below f.ends are f.machine here f.scan from) here within few f.degrees known degrees.counted;
+            (scan_below f.ends are f.machine here f.scan from) here f.degrees known degrees.counted;
       };
     }

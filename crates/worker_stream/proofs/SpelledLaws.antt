@@ -38,10 +38,6 @@ pub eight_drop : (n : ℕ) (rest : List ℕ) → drop 8 (eight_bytes n ++ rest) 
 unfolding eight_bytes
 eight_drop n rest = refl
 
-pub eight_length : (n : ℕ) → length (eight_bytes n) ≡ 8
-unfolding eight_bytes
-eight_length n = refl
-
 pub four_drop : (n : ℕ) (rest : List ℕ) → drop 4 (four_bytes n ++ rest) ≡ rest
 unfolding four_bytes
 four_drop n rest = refl
@@ -77,9 +73,6 @@ counted_front size count items rest low is =
     ∙ cut_front (size * count) items rest is)
 
 -- ---- lists of units
-abbrev IsUnit : {X : Type 0} → (List ℕ → X) → (X → List ℕ) → ℕ → X → Type 0
-IsUnit f g size x = (length (g x) ≡ size) × (f (g x) ≡ x)
-
 pub units_back : {X : Type 0} (f : List ℕ → X) (g : X → List ℕ) (size : ℕ) (xs : List X) → 0 < size →
     AllByRecursion (λ x. (length (g x) ≡ size) × (f (g x) ≡ x)) xs → map f (units_of size (flat_map g xs)) ≡ xs
 units_back f g size [] some all = ap (map f) (units_none size [] some)

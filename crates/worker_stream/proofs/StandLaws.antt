@@ -1,20 +1,16 @@
 -- A machine stands rightly after each action and each message, with the names that it has taken.
-use Rattle.std.proofs.Common.{◌≡◌, ◌≢◌, ℕ, ◌+◌, ◌-◌, ◌*◌, ◌<◌, ◌≤◌, ◌∙◌, Bool, true, false, not, ◌&&◌, ◌||◌, Option, Some, None, List, [], ◌∷◌, length, refl, sym, ap, subst, arith, ⊎_elim}
+use Rattle.std.proofs.Common.{◌≡◌, ◌≢◌, ℕ, ◌+◌, ◌-◌, ◌*◌, ◌<◌, ◌≤◌, ◌∙◌, Bool, true, false, not, ◌&&◌, ◌||◌, None, List, [], ◌∷◌, length, refl, sym, ap, subst, arith, ⊎_elim}
 use Rattle.std.specs.Prelude.{is_some, if◌then◌else◌}
 use Rattle.std.specs.List.{All, AllByRecursion}
 use Rattle.std.proofs.lemmas.Bool.{cases_eq, cases_lt, false≢true}
 use Rattle.std.proofs.lemmas.List.Elements.{All-from_recursion, All-nil, recursion_from_All}
 use Rattle.vert_base.specs.declared.message.Name.{Name}
-use Rattle.vert_base.specs.declared.message.NameKind.{NameKind}
-use Rattle.vert_base.specs.declared.message.NameKind.TheVariants.{Refresh, Dep, Update, Push, Tally, Verdict}
-use Rattle.vert_base.specs.declared.value.Ruling.{Ruling}
-use Rattle.vert_base.specs.declared.value.Ruling.TheVariants.{Stop, Dense, Sparse}
 use Rattle.vert_base.specs.Letters.{Ascends, Letter, found, placed}
 use Rattle.vert_base.specs.Names.{is_before, numbers_of, same_name}
 use Rattle.vert_base.proofs.LetterLaws.{longer, one_way, placed_ascends, placed_law}
 use Rattle.vert_base.proofs.NameOrder.{apart}
 use Rattle.vert_tree.proofs.TypedLaws.{few_rounds}
-use Rattle.circulant_plan.specs.Skeleton.{is_over, standing_taken}
+use Rattle.circulant_plan.specs.Skeleton.{is_over}
 use Rattle.circulant_plan.specs.Standing.{Standing}
 use Rattle.double_buffer.specs.Held.{AreOfRound, Held, with_letter}
 use Rattle.double_buffer.specs.Places.{place_of}
@@ -30,9 +26,12 @@ use Rattle.symple_face.specs.State.{IsTakeable, State, action_of, has_taken, mac
 use Rattle.symple_face.specs.Work.{Work}
 use Rattle.cluster_run.proofs.Onward.{IsOnward, begins, ends, onward, stays}
 use Rattle.round_laws.proofs.Planned.{planned_can_be_taken}
-use Rattle.worker_stream.specs.Steps.{named}
 use Rattle.worker_stream.specs.Walks.{AreTaken, IsLow, Stands, chances, names_from, no_names}
 use Rattle.worker_stream.proofs.StateWalks.{first_walks, go_walks, planned, ready_on, take_walks}
+use Rattle.state_laws.proofs.Letters.{all_placed}
+use Rattle.state_laws.proofs.Options.{none_found, some_if}
+use Rattle.state_laws.proofs.Rulings.{taken_round}
+use Rattle.state_laws.specs.Letters.{bare}
 
 -- ---- no machine can take more messages in a round than it has places for
 -- what comes behind a name lies behind its place
@@ -95,43 +94,10 @@ few_names p round to ms few up together planned =
     omega arith
 
 -- ---- one name more
-placed_step : (P : Letter → Type 0) (m y : Letter) (ys rest : List Letter) (b : Bool) → P m →
-    AllByRecursion P (y ∷ ys) → AllByRecursion P rest → AllByRecursion P (if b then y ∷ rest else m ∷ y ∷ ys)
-placed_step P m y ys rest true is all more = (all.0, more)
-placed_step P m y ys rest false is all more = (is, all)
-
-placed_all : (P : Letter → Type 0) (m : Letter) (ms : List Letter) → P m → AllByRecursion P ms →
-    AllByRecursion P (placed m ms)
-placed_all P m [] is all = (is, tt)
-placed_all P m (y ∷ ys) is all =
-    placed_step P m y ys (placed m ys) (is_before y.name m.name) is all (placed_all P m ys is all.1)
-
-some_if : (b : Bool) (m : Letter) (o : Option Letter) → is_some (if b then Some m else o) ≡ (b || is_some o)
-some_if true m o = refl
-some_if false m o = refl
-
-none_from_some : {X : Type 0} (o : Option X) → is_some o ≡ false → o ≡ None
-none_from_some None e = refl
-none_from_some (Some x) e = absurd (cc)
-
-same_round : (k : NameKind) (a : Ruling) (s : Standing) → (standing_taken k a s).round ≡ s.round
-same_round Refresh a s = refl
-same_round Dep a s = refl
-same_round Update a s = refl
-same_round Push a s = refl
-same_round Tally a s = refl
-same_round Verdict Stop s = refl
-same_round Verdict Dense s = refl
-same_round Verdict Sparse s = refl
-
 -- ---- names where a round begins
 kept : (b : Bool) (names : Held) → (if b then no_names names else names).machines ≡ names.machines
 kept true names = refl
 kept false names = refl
-
-length_kept : (b : Bool) (names : Held) → length (if b then no_names names else names).letters ≤ length names.letters
-length_kept true names = omega arith
-length_kept false names = omega arith
 
 nothing_found : (b : Bool) (names : Held) (x : Name) (held : Bool) → is_some (found x names.letters) ≡ held →
     is_some (found x (if b then no_names names else names).letters) ≡ (not b && held)
@@ -278,16 +244,16 @@ module _ (work : Work) (sound : State → Type 0) (lawful : IsLawful work sound)
 
       take_round : (work.take s l).at.round ≡ s.at.round
       take_round = ap (λ (n : Standing). n.round) (lawful.take_at s l)
-          ∙ same_round l.name.kind (ruling_read l.body) s.at
+          ∙ taken_round l.name.kind (ruling_read l.body) s.at
 
       abbrev after : List Letter
-      after = placed (named l.name) names.letters
+      after = placed (bare l.name) names.letters
 
       pub fresh : found l.name names.letters ≡ None
-      fresh = none_from_some (found l.name names.letters) (stands.taken.has l.name ∙ ap is_some can.new)
+      fresh = none_found (found l.name names.letters) (stands.taken.has l.name ∙ ap is_some can.new)
 
       after_together : AreOfRound s.at.round (machine s) after
-      after_together = of_round_placed s.at.round (machine s) (named l.name) names.letters can.round can.here
+      after_together = of_round_placed s.at.round (machine s) (bare l.name) names.letters can.round can.here
           (stands.taken.together can.going)
 
       pub can_take : CanTake (p_of s) l.name
@@ -306,20 +272,20 @@ module _ (work : Work) (sound : State → Type 0) (lawful : IsLawful work sound)
       after_planned =
           let P : Letter → Type 0 = λ y. CanTake (p_of s) y.name in
           All-from_recursion P after
-          (placed_all P (named l.name) names.letters can_take (recursion_from_All P names.letters stands.taken.planned))
+          (all_placed P (bare l.name) names.letters can_take (recursion_from_All P names.letters stands.taken.planned))
 
       after_ascends : Ascends after
-      after_ascends = placed_ascends (named l.name) names.letters stands.taken.ascends fresh
+      after_ascends = placed_ascends (bare l.name) names.letters stands.taken.ascends fresh
 
       few_after : length after ≤ 768
       few_after = few_names (p_of s) s.at.round (machine s) after stands.walks.few after_ascends after_together
           after_planned
 
-      take_taken : AreTaken (work.take s l) (with_letter (named l.name) names)
+      take_taken : AreTaken (work.take s l) (with_letter (bare l.name) names)
       take_taken = record {
         machines = stands.taken.machines ∙ sym take_count;
-        has = λ x. ap is_some (placed_law (named l.name) names.letters x)
-            ∙ (some_if (same_name l.name x) (named l.name) (found x names.letters)
+        has = λ x. ap is_some (placed_law (bare l.name) names.letters x)
+            ∙ (some_if (same_name l.name x) (bare l.name) (found x names.letters)
             ∙ (ap (λ b. same_name l.name x || b) (stands.taken.has x) ∙ sym (lawful.take_held s l x)));
         together = λ on. subst (λ (n : ℕ). AreOfRound n (machine (work.take s l)) after) (sym take_round)
             (subst (λ (n : ℕ). AreOfRound s.at.round n after) (sym take_machine) after_together);
@@ -327,7 +293,7 @@ module _ (work : Work) (sound : State → Type 0) (lawful : IsLawful work sound)
         ascends = after_ascends;
       }
 
-      pub take_stands : Stands sound (work.take s l) (with_letter (named l.name) names)
+      pub take_stands : Stands sound (work.take s l) (with_letter (bare l.name) names)
       take_stands = record {
         can_run = run_there (work.take s l) (lawful.take_part s l) (lawful.take_split s l);
         is_sound = lawful.take_sound s l stands.is_sound can;
@@ -335,18 +301,18 @@ module _ (work : Work) (sound : State → Type 0) (lawful : IsLawful work sound)
         taken = take_taken;
       }
 
-      pub take_less : chances (work.take s l) (with_letter (named l.name) names) < chances s names
+      pub take_less : chances (work.take s l) (with_letter (bare l.name) names) < chances s names
       take_less =
           let no_more = (take_walks work sound lawful s l stands.walks can).no_more in
           let few = few_after in
-          let long = longer (named l.name) names.letters in
+          let long = longer (bare l.name) names.letters in
           omega arith
 
       pub take_low : (at size : ℕ) → size < 8589934592 → IsLow s names at →
-          IsLow (work.take s l) (with_letter (named l.name) names) (at + size)
+          IsLow (work.take s l) (with_letter (bare l.name) names) (at + size)
       take_low at size small low on =
           let bound = low can.going in
-          let long = longer (named l.name) names.letters in
+          let long = longer (bare l.name) names.letters in
           let round = take_round in
           omega arith
 

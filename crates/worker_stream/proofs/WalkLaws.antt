@@ -1,7 +1,7 @@
 -- A machine gets on in its list of actions, whatever messages it takes.
 use Rattle.std.proofs.Common.{◌≡◌, ◌≢◌, ℕ, ◌+◌, ◌-◌, ◌*◌, ◌<◌, ◌≤◌, ◌∙◌, Bool, true, false, not, ◌&&◌, inl, inr, refl, sym, ap, subst, arith, ⊎_elim}
-use Rattle.std.specs.Prelude.{◌==◌, nat_lt, nat_le, if◌then◌else◌}
-use Rattle.std.proofs.lemmas.Bool.{and_parts, cases_Bool, cases_eq, cases_lt, false≢true, leb-true}
+use Rattle.std.specs.Prelude.{◌==◌, nat_lt, if◌then◌else◌}
+use Rattle.std.proofs.lemmas.Bool.{cases_Bool, cases_eq, cases_lt, false≢true}
 use Rattle.vert_base.specs.declared.value.Ruling.{Ruling}
 use Rattle.vert_base.specs.declared.value.Ruling.TheVariants.{Stop, Dense, Sparse}
 use Rattle.circulant_plan.specs.declared.spot.Ring.{Ring}
@@ -15,15 +15,10 @@ use Rattle.circulant_plan.specs.Table.{next_spot}
 use Rattle.circulant_plan.proofs.StandingLaws.{actions_lead_on, below_false, is_zero, not_zero}
 use Rattle.symple_face.specs.Lawful.{is_begin}
 use Rattle.worker_stream.specs.Walks.{IsKnown, IsWalk}
+use Rattle.state_laws.proofs.Rulings.{within_limit}
 
 going_on : is_over Over ≡ false → ⊥
 going_on e = false≢true (sym e)
-
-within_limit : (blocks : Blocks) (r : ℕ) (ruling : Ruling) → ruling ≢ Stop → may_rule blocks r ruling ≡ true →
-    r ≤ blocks.limit
-within_limit blocks r Stop on may = absurd (on refl)
-within_limit blocks r Dense on may = leb-true _ _ (and_parts blocks.dense (nat_le r blocks.limit) may).1
-within_limit blocks r Sparse on may = leb-true _ _ (and_parts blocks.sparse (nat_le r blocks.limit) may).1
 
 -- ---- an action
 acting_has : (ring : Ring) (m : ℕ) (judged known : Ruling) (spot : Spot) → HasSpot ring m known spot →

@@ -13,6 +13,7 @@ use Rattle.symple_face.specs.State.{State}
 use Rattle.symple_face.specs.Work.{Work}
 use Rattle.worker_stream.specs.Sent.{spelled_letters}
 use Rattle.worker_stream.specs.Worker.{Finishes, worker}
+use Rattle.cluster_run.specs.Sends.{sent_with}
 
 -- the message that an event hands to machine m
 abbrev pub handed : ℕ → Option Letter → List Letter
@@ -22,11 +23,6 @@ handed m (Some l) = if l.name.to == m then l ∷ [] else []
 abbrev pub taken_at : ℕ → World → Event → List Letter
 taken_at m w (Go k) = []
 taken_at m w (Take x) = handed m (found x w.under_way)
-
--- the messages that machine m sends in an event
-abbrev pub sent_with : Work → Option State → List Letter
-sent_with work None = []
-sent_with work (Some s) = work.sent s
 
 abbrev pub sent_at : Work → ℕ → World → Event → List Letter
 sent_at work m w (Go k) = if k == m then sent_with work (slice_get w.sites m) else []

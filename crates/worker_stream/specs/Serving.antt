@@ -1,5 +1,5 @@
 -- What serving leaves of an input and of a sink, and what it answers.
-use Rattle.std.specs.Prelude.{◌≡◌, ◌+◌, ◌≤◌, ℕ, List, drop, length, Option, Some, None, option_map, Result, Ok, Err}
+use Rattle.std.specs.Prelude.{◌≡◌, ◌+◌, ◌≤◌, ℕ, List, drop, length, Option, option_map, Result, Ok, Err}
 use Rattle.outside.specs.Bytes.{GainedPart, gained}
 use Rattle.outside.specs.Causes.{Rose}
 use Rattle.symple_face.specs.State.{State}
@@ -26,11 +26,6 @@ streams left takes held puts spare input out = record {
   puts = puts out;
   spare = spare out;
 }
-
--- the bytes of an input, where it tells them
-abbrev pub AreLeft : Option (List ℕ) → List ℕ → Type 0
-AreLeft None bytes = Unit {0}
-AreLeft (Some left) bytes = left ≡ bytes
 
 -- the input lost what was used, the sink gained the text, and no count rose
 pub record IsServed (w : Served) (old new : Streams) : Type 0 where

@@ -19,17 +19,14 @@ use Rattle.worker_stream.specs.Fronts.{IsRead, IsWrong, NoByte, front_of, read_o
 use Rattle.worker_stream.specs.Serving.{Streams}
 use Rattle.worker_stream.specs.Walks.{IsLow, Stands, chances}
 use Rattle.worker_stream.specs.Worker.{Lacks, Refuses, Served, behind_text, is_due, served_from, worker}
-
--- the name stands for its message, whose body the machine has
-abbrev pub named : Name → Letter
-named x = record { name = x; body = [] }
+use Rattle.state_laws.specs.Letters.{bare}
 
 -- the message of these bytes was taken, whatever stands behind them
 pub record Takes (work : Work) (s : State) (names : Held) (front : List ℕ) (t : State) (after : Held) : Type 0 where
   pub letter : Letter
   pub takeable : IsTakeable s letter
   pub state : t ≡ work.take s letter
-  pub names_are : after ≡ with_letter (named letter.name) names
+  pub names_are : after ≡ with_letter (bare letter.name) names
   pub due : is_due s letter.name ≡ true
   pub read : (behind : List ℕ) → IsRead (shape_at s) front letter behind
 

@@ -6,7 +6,6 @@ mod counts;
 mod fault;
 mod known;
 mod laws;
-mod lists;
 mod numbers;
 mod order;
 mod part_file;

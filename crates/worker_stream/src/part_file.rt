@@ -8,10 +8,10 @@ ghost use Rattle.worker_stream.specs.PartFiles.{spelled_part};
 ghost use Rattle.worker_stream.specs.Sections.{end_count};
 
 use crate::fault::PartFault;
-use crate::lists::Mirrors;
 use crate::part_numbers::{Frame, Numbers, numbers_of};
 use crate::sections::{MAGIC, Sections, cut};
 use instrument::{Split, split_of};
+use mirror_table::Mirrors;
 use program_reader::{ProgramFault, read_program};
 use std::alloc::{AllocError, Global};
 use std::rc::Rc;

@@ -17,14 +17,14 @@ ghost use Rattle.worker_stream.specs.PartFiles.{IsSound, degree_of_unit, edge_in
 
 use crate::counts::{are_counted, counts};
 use crate::fault::PartFault;
-use crate::known::{are_known, known};
-use crate::lists::{Mirrors, mirrors_of};
+use crate::known::are_known;
 use crate::numbers::{degrees, edges, ends};
 use crate::order::are_edges;
 use crate::sections::Sections;
 use byteorder::{ByteOrder, LittleEndian};
 use chunk_split::Cuts;
 use graph_table::Side;
+use mirror_table::{Mirrors, known, mirrors_of};
 use std::alloc::{AllocError, Global};
 use symple_face::Degree;
 use vert_base::limits::{EDGES, MACHINES, VERTICES};

@@ -1,16 +1,15 @@
 // Messages from a source of bytes.
 ghost use Rattle.std.specs.Prelude.{◌≡◌, ◌≢◌, ◌≤◌, ◌<◌, [], ℕ, List, length, min, take, Some, Err, IfErr, IfOk, OnOk, OnErr};
-ghost use Rattle.vert_base.specs.HeaderBytes.{is_proper};
 ghost use Rattle.outside.specs.Bytes.{led_by};
 ghost use Rattle.outside.specs.Causes.{Rose};
 ghost use Rattle.dep_message.specs.Messages.{forms_of};
 ghost use Rattle.worker_stream.specs.Fronts.{ReadsBody, ReadsHeader, ReadsMessage, Wrong, front_with_body, front_with_name, read_with_name, told};
 
-use dep_message::{HEADER, Header, fits};
+use dep_message::{HEADER, Header, fits, is_proper};
 use outside::{Source, SourceFault};
 use std::alloc::Global;
 use symple_face::{BodyShape, Part};
-use vert_base::{Message, Name, NameKind};
+use vert_base::{Message, Name};
 
 /// Why no message was read: no byte was left, the message has the fault M1 to M4 of this number, a take
 /// failed, or memory wanted.
@@ -42,13 +41,6 @@ pub(crate) fn fill<I: Source>(input: &mut I, into: &mut [u8]) -> Result<usize, S
         count += more;
     }
     Ok(count)
-}
-
-// Whether the step and half are 0 where the kind has none.
-fn is_proper(name: &Name) -> bool
-    ensures { result ≡ is_proper name.now }
-{
-    matches!(name.kind, NameKind::Dep | NameKind::Update) || name.step == 0 && name.half == 0
 }
 
 // The form of a message with this name and length, or its fault: M3, and M4 where the length passes the

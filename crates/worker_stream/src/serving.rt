@@ -1,5 +1,5 @@
 // One machine that serves a stream of messages.
-ghost use Rattle.std.specs.Prelude.{◌≡◌, ◌≢◌, ◌<◌, ◌≤◌, ◌+◌, ◌*◌, ◌^◌, ◌&&◌, not, ℕ, List, Err, OnOk, false};
+ghost use Rattle.std.specs.Prelude.{◌≡◌, ◌≢◌, ◌<◌, ◌≤◌, ◌+◌, ◌*◌, ◌^◌, ◌&&◌, not, ℕ, List, Err, IfSome, OnOk, false};
 ghost use Rattle.symple_face.specs.declared.action.Action.TheVariants.{Ready};
 ghost use Rattle.symple_face.specs.PartViews.{plain_of};
 ghost use Rattle.symple_face.specs.Lawful.{is_begin};
@@ -11,7 +11,7 @@ ghost use Rattle.outside.specs.Bytes.{led_by};
 ghost use Rattle.outside.specs.Causes.{Rose};
 ghost use Rattle.worker_stream.specs.Fronts.{told};
 ghost use Rattle.worker_stream.specs.Sent.{Sends, spelled_letters};
-ghost use Rattle.worker_stream.specs.Serving.{AreLeft, Serves, streams};
+ghost use Rattle.worker_stream.specs.Serving.{Serves, streams};
 ghost use Rattle.worker_stream.specs.Steps.{Steps, TakesNext, unread, unsent};
 ghost use Rattle.worker_stream.specs.Walks.{IsLow, Stands, names_from};
 ghost use Rattle.worker_stream.specs.Worker.{is_due, worker};
@@ -19,11 +19,11 @@ ghost use Rattle.worker_stream.specs.Worker.{is_due, worker};
 use crate::fault::ServeFault;
 use crate::reading::{ReadFault, read_message};
 use crate::sending::{SendFault, put_messages};
-use crate::spelling::tells_can_run;
 use circulant_plan::Spot;
 use dep_message::HEADER;
 use double_buffer::Slots;
 use outside::{Sink, Source};
+use state_laws::tells_can_run;
 use std::alloc::Global;
 use symple_face::{Action, Part, Site};
 use vert_base::Name;
@@ -196,7 +196,7 @@ pub fn serve<S: Site, I: Source, O: Sink>(
     input: &mut I,
     out: &mut O,
 ) -> Result<S, ServeFault>
-    ensures { (bytes : List ℕ) × AreLeft (I.left input.old) bytes
+    ensures { (bytes : List ℕ) × IfSome (I.left input.old) (λ left. left ≡ bytes)
         × Serves S.state (worker S.work (plain_of part) part.split.value bytes)
         (streams I.left I.faults O.held O.faults O.spare input.old out.old)
         (streams I.left I.faults O.held O.faults O.spare input.new out.new) result }

@@ -2,18 +2,17 @@
 ghost use Rattle.std.specs.Prelude.{◌≡◌, ◌++◌, ◌<◌, ◌≤◌, ◌^◌, IfOk, OnOk, length};
 ghost use Rattle.std.specs.List.{All, flat_map};
 ghost use Rattle.program_reader.specs.Accepted.{Says};
-ghost use Rattle.symple_face.specs.Lawful.{AreCounts, CanRun};
 ghost use Rattle.symple_face.specs.PartViews.{plain_of};
 ghost use Rattle.vert_base.specs.HeaderBytes.{four_bytes};
 ghost use Rattle.worker_stream.specs.Back.{IsWritable};
 ghost use Rattle.worker_stream.specs.PartFiles.{behind_count, degree_bytes, edge_bytes, eight_bytes, head_bytes, spelled_part};
 
 use crate::sections::MAGIC;
-use instrument::Split;
+use state_laws::degrees_are_counts;
 use std::alloc::{AllocError, Global};
 use symple_face::{Degree, Part};
 use vert_base::{Edge, Want};
-use word_kinds::{edges_have_weights, literals_are_words};
+use word_kinds::edges_have_weights;
 
 #[tactic(auto, unfolding(vert_base::specs::HeaderBytes::four_bytes))]
 fn push_four(out: &mut Vec<u8>, number: u32) -> Result<(), AllocError>
@@ -127,40 +126,6 @@ fn push_part(out: &mut Vec<u8>, part: &Part, program: &[u8]) -> Result<(), Alloc
     push_counted_degrees(out, &part.degrees)
 }
 
-// A number that is passed fits its bits.
-fn fits(count: u32)
-    ensures { count < 2 ^ 32 }
-{}
-
-fn counts_fit(degree: &Degree)
-    ensures { AreCounts degree.now }
-{
-    fits(degree.ins);
-    fits(degree.outs);
-}
-
-// Each count of edges fits its 32 bits. It reads each one, and does no more.
-fn degrees_have_counts(degrees: &[Degree])
-    ensures { All AreCounts degrees.now }
-{
-    for degree in degrees {
-        counts_fit(degree);
-    }
-}
-
-/// Reading a part tells that its machine can run.
-pub(crate) fn tells_can_run(part: &Part)
-    ensures { CanRun (plain_of part.now) part.now.split.value }
-{
-    let split: &Split = &part.split;
-    literals_are_words(&split.program);
-    edges_have_weights(&part.scan);
-    edges_have_weights(&part.push);
-    degrees_have_counts(&part.degrees);
-    let _ends = part.cuts.ends();
-    let _machine = part.at.number();
-}
-
 // How many bytes the file has.
 fn file_len(part: &Part, program: &[u8]) -> usize
     requires { length program.now < 2 ^ 32 }
@@ -181,7 +146,7 @@ pub fn write_part(alloc: Global, part: &Part, program: &[u8]) -> Result<Vec<u8>,
     let _draws = part.draws;
     edges_have_weights(&part.scan);
     edges_have_weights(&part.push);
-    degrees_have_counts(&part.degrees);
+    degrees_are_counts(&part.degrees);
     let mut out = Vec::with_capacity(alloc, file_len(part, program))?;
     push_part(&mut out, part, program)?;
     Ok(out)

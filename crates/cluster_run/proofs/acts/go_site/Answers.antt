@@ -9,7 +9,8 @@ use Rattle.cluster_run.proofs.acts.go_site.Goals as goal
 
 pub returns-clause-sites : goal.returns-clause-sites
 returns-clause-sites g c =
-    let here = state_at g.S.Site.state c.args.sites.now.items c.args.machine c.index_mut-site.result.now c.requires.within
+    let here = state_at g.S.Site.state c.args.sites.now.items c.args.machine c.index_mut-site.result.now
+    c.requires.within
     c.index_mut-site.ensures.value in
     on_ok_weaker c.send_all.result
     (λ empty s at.
@@ -20,7 +21,8 @@ returns-clause-sites g c =
 
 pub returns-clause-flight : goal.returns-clause-flight
 returns-clause-flight g c =
-    let here = state_at g.S.Site.state c.args.sites.now.items c.args.machine c.index_mut-site.result.now c.requires.within
+    let here = state_at g.S.Site.state c.args.sites.now.items c.args.machine c.index_mut-site.result.now
+    c.requires.within
     c.index_mut-site.ensures.value in
     on_ok_weaker c.send_all.result
     (λ is s at.

@@ -12,7 +12,8 @@ take-requires g c =
     let is = subst (λ i. c.index_mut-site.result.now ≡ get_or c.args.sites.now.items i c.index_mut-site.result.now)
     c.from-receiver.ensures c.index_mut-site.ensures.value in
     c.requires.takeable _
-    (state_at g.S.Site.state c.args.sites.now.items c.args.message.name.to c.index_mut-site.result.now c.requires.within is)
+    (state_at g.S.Site.state c.args.sites.now.items c.args.message.name.to c.index_mut-site.result.now
+    c.requires.within is)
 
 pub returns-clause-sites : goal.returns-clause-sites
 returns-clause-sites g c = λ s at.
@@ -21,7 +22,8 @@ returns-clause-sites g c = λ s at.
     let here = state_at g.S.Site.state c.args.sites.now.items c.args.message.name.to c.index_mut-site.result.now
     c.requires.within is in
     ap (λ i. map g.S.Site.state (slice_set c.args.sites.now.items i c.take.new.self)) c.from-receiver.ensures
-    ∙ replaced g.S.Site.state c.args.sites.now.items c.args.message.name.to c.index_mut-site.result.now c.take.new.self s
+    ∙ replaced g.S.Site.state c.args.sites.now.items c.args.message.name.to c.index_mut-site.result.now
+    c.take.new.self s
     (g.S.Site.work.take s (letter_of c.args.message)) here at
     (λ same. c.take.ensures ∙ ap (λ q. g.S.Site.work.take q (letter_of c.args.message)) same)
 

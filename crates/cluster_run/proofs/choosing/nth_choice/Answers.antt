@@ -1,4 +1,4 @@
-use Rattle.std.proofs.Common.{◌≡◌, ◌∙◌, ℕ, List, ◌++◌, map, sym, subst, Some, None, slice_get, ap}
+use Rattle.std.proofs.Common.{◌∙◌, ℕ, List, ◌++◌, map, Some, None, slice_get, ap}
 use Rattle.vert_base.specs.declared.message.Event.TheVariants.{Go, Take}
 use Rattle.cluster_run.proofs.ChoiceLists.{nth_go, nth_take, set_ready}
 use Rattle.cluster_run.specs.Ready.{set_from}

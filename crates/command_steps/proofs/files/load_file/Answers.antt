@@ -21,7 +21,8 @@ returns-in-Err-TooLong-clause-bytes g c =
     let old = shelf_state g.H.Shelf.files g.H.Shelf.loads g.H.Shelf.stores c.args.shelf.now in
     let new = shelf_state g.H.Shelf.files g.H.Shelf.loads g.H.Shelf.stores c.load.new.self in
     let is = c.in-Err-TooLong.is ∙ ap Err c.in-Err-TooLong.field-0-is in
-    NotThere (is_long old new c.load.ensures.same_files c.load.ensures.same_stores c.args.name.now c.args.limit (fault_of c.args.too_long) c.load.result c.load.ensures.counted is (c.load.ensures.too_long is))
+    NotThere (is_long old new c.load.ensures.same_files c.load.ensures.same_stores c.args.name.now c.args.limit
+    (fault_of c.args.too_long) c.load.result c.load.ensures.counted is (c.load.ensures.too_long is))
 
 pub returns-in-Err-Want-clause-bytes : goal.returns-in-Err-Want-clause-bytes
 returns-in-Err-Want-clause-bytes g c =
@@ -34,7 +35,8 @@ pub returns-in-Err-Failed-clause-bytes : goal.returns-in-Err-Failed-clause-bytes
 returns-in-Err-Failed-clause-bytes g c =
     let old = shelf_state g.H.Shelf.files g.H.Shelf.loads g.H.Shelf.stores c.args.shelf.now in
     let new = shelf_state g.H.Shelf.files g.H.Shelf.loads g.H.Shelf.stores c.load.new.self in
-    NotThere (has_failed old new c.load.ensures.same_files c.load.ensures.same_stores c.args.name.now c.args.limit (fault_of c.args.too_long) _ c.in_ok-unread.ensures.ok
+    NotThere (has_failed old new c.load.ensures.same_files c.load.ensures.same_stores c.args.name.now c.args.limit
+    (fault_of c.args.too_long) _ c.in_ok-unread.ensures.ok
     (c.load.ensures.failed (c.in-Err-Failed.is ∙ ap Err c.in-Err-Failed.field-0-is)))
 
 pub returns-in-Err-Missing-clause-bytes : goal.returns-in-Err-Missing-clause-bytes
@@ -42,4 +44,6 @@ returns-in-Err-Missing-clause-bytes g c =
     let old = shelf_state g.H.Shelf.files g.H.Shelf.loads g.H.Shelf.stores c.args.shelf.now in
     let new = shelf_state g.H.Shelf.files g.H.Shelf.loads g.H.Shelf.stores c.load.new.self in
     let is = c.in-Err-Missing.is ∙ ap Err c.in-Err-Missing.field-0-is in
-    NotThere (is_missing old new c.load.ensures.same_files c.load.ensures.same_stores c.args.name.now c.args.limit (fault_of c.args.too_long) _ c.in_ok-unread.ensures.ok (c.load.ensures.missing is) (c.load.ensures.untold_missing is))
+    NotThere (is_missing old new c.load.ensures.same_files c.load.ensures.same_stores c.args.name.now c.args.limit
+    (fault_of c.args.too_long) _ c.in_ok-unread.ensures.ok (c.load.ensures.missing is) (c.load.ensures.untold_missing
+    is))

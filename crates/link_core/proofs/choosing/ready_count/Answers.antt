@@ -11,14 +11,16 @@ loop-machine-preserved g c =
     (let test = c.loop-machine-test.true in let n = c.machines-machine-end.ensures.count in omega arith) in
     elim c.if-possible.branch [
       | then-possible w ↦
-          let more = ap length (ready_yes sites c.loop-machine.machine lt (sym c.possible.ensures.is ∙ w.if-possible.true))
+          let more = ap length (ready_yes sites c.loop-machine.machine lt (sym c.possible.ensures.is
+          ∙ w.if-possible.true))
           in
           let is = w.count-is in
           let old = c.loop-machine.invariant.rest in
           let few = c.loop-machine.invariant.few in
           record { few = omega arith; rest = omega arith }
       | else-possible w ↦
-          let same = ap length (ready_not sites c.loop-machine.machine lt (sym c.possible.ensures.is ∙ w.if-possible.false))
+          let same = ap length (ready_not sites c.loop-machine.machine lt (sym c.possible.ensures.is
+          ∙ w.if-possible.false))
           in
           let is = w.count-is in
           let old = c.loop-machine.invariant.rest in

@@ -42,9 +42,11 @@ returns g c =
     let old = sink_state g.O.Sink.held g.O.Sink.faults g.O.Sink.spare c.args.out.now in
     let mid = sink_state g.O.Sink.held g.O.Sink.faults g.O.Sink.spare c.follow_events.new.out in
     let new = sink_state g.O.Sink.held g.O.Sink.faults g.O.Sink.spare c.put_end.new.out in
-    let to = subst (λ (list : List LinkEvent). FollowsTo t l (listed_links 1 list) old c.follow_events.new.links.links []
+    let to = subst (λ (list : List LinkEvent). FollowsTo t l (listed_links 1 list) old c.follow_events.new.links.links
+    []
     mid) c.deref.ensures.value c.in_ok-follow_events.ensures.ok in
-    let ends = subst (λ (w : World). EndsListed (by_worlds g.S.Site.work lines) w mid new (fault_after c.put_end.result))
+    let ends = subst (λ (w : World). EndsListed (by_worlds g.S.Site.work lines) w mid new
+    (fault_after c.put_end.result))
     c.cluster.ensures.world (c.put_end.ensures lines) in
     linked_follows g.S.Site.work play c.args.schedule.now.events.items l links.first links.anew old new
     (fault_after c.put_end.result) (λ shelf input. to shelf input _ _ (ends shelf input))

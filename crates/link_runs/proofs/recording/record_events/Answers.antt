@@ -20,7 +20,8 @@ returns-in_err-recorder-clause-err g c =
     let l = c.args.links.now.links in
     let p = err_from_is_err_and c.from_residual.result c.from_residual.ensures.1 in
     rw (p.1, p.2) (λ name shelf input.
-    record_wants (by_links work c.args.lines.now) (links_text m) (IsDrawnFar work m) name [] l (generator_of c.args.seed)
+    record_wants (by_links work c.args.lines.now) (links_text m) (IsDrawnFar work m) name [] l
+    (generator_of c.args.seed)
     (far work m g.S.Site.sound c.drawn_links_are_possible.ensures.some c.drawn_links_are_possible.ensures.possible
     c.links_are_in_order.ensures.reach [] l (generator_of c.args.seed) (c.tells_reached.ensures c.requires.on))
     (outside shelf (sink_state g.O.Sink.held g.O.Sink.faults g.O.Sink.spare c.args.out.now) input))
@@ -43,7 +44,8 @@ pub events-smaller : goal.events-smaller
 events-smaller g c =
     let has = c.events.invariant.1 in
     let now = c.in_ok-add.ensures.ok c.args.machines has.added has.has in
-    let longer = record_longer c.events.recorder c.add.new.recorder c.args.machines has.added c.in-Some.event has.has now in
+    let longer = record_longer c.events.recorder c.add.new.recorder c.args.machines has.added c.in-Some.event has.has
+    now in
     let fits = now.fits in
     omega (arith, longer, fits)
 
@@ -122,7 +124,8 @@ returns-in_err-play_link_event-clause-err g c =
     (record_stops t (links_text m) (IsDrawnFar work m) name has.added l h _ e
     (drawn_more work m has.added l h e more (sym c.in-Some.ensures.is))
     (far work m g.S.Site.sound some possible reach (has.added ++ e ∷ []) _ _ next)
-    (record_fits c.add.new.recorder m (has.added ++ e ∷ []) now) _ _ _ c.in_err-play_link_event.ensures.err shelf input))
+    (record_fits c.add.new.recorder m (has.added ++ e ∷ []) now) _ _ _ c.in_err-play_link_event.ensures.err shelf
+    input))
 
 pub returns-clause-on : goal.returns-clause-on
 returns-clause-on g c = c.events.invariant.0

@@ -32,7 +32,8 @@ returns-in_err-store_file-clause-order g c =
     let links = c.in_ok-links.ensures in
     let done = c.in_ok-recorder.ensures.ok in
     let p = err_from_is_err_and c.from_residual-in_err-store_file.result c.from_residual-in_err-store_file.ensures.1 in
-    rw (p.1, p.2) (λ input. lossy_runs work play c.args.seed c.args.schedule.now c.in_ok-links.links.links c.requires.few
+    rw (p.1, p.2) (λ input. lossy_runs work play c.args.seed c.args.schedule.now c.in_ok-links.links.links
+    c.requires.few
     links.first links.anew _ _ _
     (unkept (by_links work c.args.job.now.lines) (links_text m) (IsDrawnFar work m) c.args.schedule.now
     (RecordsLinks c.in_ok-recorder.recorder m) c.in_ok-links.links.links c.record_events.new.links.links
@@ -47,7 +48,8 @@ returns-in_err-put_table-clause-order g c =
     let links = c.in_ok-links.ensures in
     let done = c.in_ok-recorder.ensures.ok in
     let p = err_from_is_err_and c.from_residual-in_err-put_table.result c.from_residual-in_err-put_table.ensures.1 in
-    rw (p.1, p.2) (λ input. lossy_runs work play c.args.seed c.args.schedule.now c.in_ok-links.links.links c.requires.few
+    rw (p.1, p.2) (λ input. lossy_runs work play c.args.seed c.args.schedule.now c.in_ok-links.links.links
+    c.requires.few
     links.first links.anew _ _ _
     (kept_unput (by_links work c.args.job.now.lines) (links_text m) (IsDrawnFar work m) c.args.schedule.now
     (RecordsLinks c.in_ok-recorder.recorder m) c.in_ok-links.links.links c.record_events.new.links.links
@@ -65,7 +67,8 @@ returns-clause-order g c =
     let play = play_of (job_view c.args.job.now) m c.args.read.0.program (graph_of_edges c.args.read.1) in
     let links = c.in_ok-links.ensures in
     let done = c.in_ok-recorder.ensures.ok in
-    λ input. lossy_runs work play c.args.seed c.args.schedule.now c.in_ok-links.links.links c.requires.few links.first links.anew _ _ _
+    λ input. lossy_runs work play c.args.seed c.args.schedule.now c.in_ok-links.links.links c.requires.few links.first
+    links.anew _ _ _
     (kept_put (by_links work c.args.job.now.lines) (links_text m) (IsDrawnFar work m) c.args.schedule.now
     (RecordsLinks c.in_ok-recorder.recorder m) c.in_ok-links.links.links c.record_events.new.links.links
     (generator_of c.args.seed) done.0 _ _ done.1 (tt, inl c.in_ok-recorder.ensures.finished) c.text.result.now

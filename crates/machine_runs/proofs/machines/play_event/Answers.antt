@@ -1,4 +1,4 @@
-use Rattle.std.proofs.Common.{◌≡◌, List, [], ℕ, ap, ◌∙◌}
+use Rattle.std.proofs.Common.{◌≡◌, [], ap, ◌∙◌}
 use Rattle.std.specs.Prelude.{if◌then◌else◌}
 use Rattle.std.proofs.lemmas.Result.{err_from_is_err_and}
 use Rattle.array_text.proofs.WritesLaws.{writes_same}
@@ -39,7 +39,8 @@ returns-in_err-write_round_if-clause-err g c =
     let world : c.event.new.self.world ≡ step work w e = ap (λ (d : Driven). d.world) c.in-Ok.ensures.ok.1 in
     let text : (if c.ends_round-tells.result then told_lines lines (told_in lines.reads work c.event.new.self.world
     (first_report work c.event.new.self.world)) else []) ≡ round_lines work lines w e =
-    ap (λ (v : World). if c.ends_round-tells.result then told_lines lines (told_in lines.reads work v (first_report work v))
+    ap (λ (v : World). if c.ends_round-tells.result then told_lines lines (told_in lines.reads work v
+    (first_report work v))
     else []) world
     ∙ ap (λ b. if b then told_lines lines (told_in lines.reads work (step work w e) (first_report work (step work w e)))
     else []) c.ends_round-tells.ensures
@@ -47,7 +48,8 @@ returns-in_err-write_round_if-clause-err g c =
     let p = err_from_is_err_and c.from_residual-in_err-write_round_if.result
     c.from_residual-in_err-write_round_if.ensures.1 in
     rw (p.1, p.2) (λ next shelf input.
-    plays_goes (log_line lines w e) _ _ c.in_ok-write_log.ensures (Puts (round_lines work lines w e) next) shelf input _ _
+    plays_goes (log_line lines w e) _ _ c.in_ok-write_log.ensures (Puts (round_lines work lines w e) next) shelf input
+    _ _
     (put_stops g.O.Sink.held g.O.Sink.faults g.O.Sink.spare c.write_log.new.out c.write_round_if.new.out
     (round_lines work lines w e) _ (writes_same text c.in_err-write_round_if.ensures) next shelf input))
 
@@ -63,7 +65,8 @@ returns-clause-ok g c =
     let world : c.event.new.self.world ≡ step work w e = ap (λ (d : Driven). d.world) c.in-Ok.ensures.ok.1 in
     let text : (if c.ends_round-tells.result then told_lines lines (told_in lines.reads work c.event.new.self.world
     (first_report work c.event.new.self.world)) else []) ≡ round_lines work lines w e =
-    ap (λ (v : World). if c.ends_round-tells.result then told_lines lines (told_in lines.reads work v (first_report work v))
+    ap (λ (v : World). if c.ends_round-tells.result then told_lines lines (told_in lines.reads work v
+    (first_report work v))
     else []) world
     ∙ ap (λ b. if b then told_lines lines (told_in lines.reads work (step work w e) (first_report work (step work w e)))
     else []) c.ends_round-tells.ensures

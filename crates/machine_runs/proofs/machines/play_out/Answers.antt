@@ -21,7 +21,8 @@ events-preserved g c = (
   λ after outcome goes.
       c.events.invariant.1 after outcome
       (event_goes g.S.Site.work c.args.lines.now c.events.cluster.world c.in-Some.event
-      (not_finished c.events.cluster.world c.in-Some.event c.in-Some.ensures.none) (sym c.in-Some.ensures.is) _ _ after outcome _
+      (not_finished c.events.cluster.world c.in-Some.event c.in-Some.ensures.none) (sym c.in-Some.ensures.is) _ _
+      after outcome _
       c.in_ok-play_event.ensures.world c.in_ok-play_event.ensures.ok goes),
 )
 
@@ -31,7 +32,8 @@ returns-in_err-play_event-clause-err g c =
     let p = err_from_is_err_and c.from_residual.result c.from_residual.ensures.1 in
     rw (p.1, p.2) (c.events.invariant.1 _ _
     (event_stops g.S.Site.work c.args.lines.now w c.in-Some.event
-    (not_finished w c.in-Some.event c.in-Some.ensures.none) (sym c.in-Some.ensures.is) _ _ _ c.in_err-play_event.ensures.err
+    (not_finished w c.in-Some.event c.in-Some.ensures.none) (sym c.in-Some.ensures.is) _ _ _
+    c.in_err-play_event.ensures.err
     (c.choices_are_in_order.ensures.plain w (c.tells_reached.ensures c.events.invariant.0))))
 
 pub returns-clause-on : goal.returns-clause-on

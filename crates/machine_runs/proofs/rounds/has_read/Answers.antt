@@ -12,8 +12,13 @@ returns-then-not-is_empty g c =
     let lt : step < length w.sites = omega (arith, c.machines-machines.ensures.count, c.steps-test.true) in
     let turn : c.order.result ≡ order_of chunk step (length w.sites) =
     c.order.ensures ∙ ap (order_of chunk step) c.machines-machines.ensures.count in
-    let is = read_there g.S.Site.work w chunk v step c.order.result _ c.reads.result.now turn c.site.ensures c.reads.ensures in
-    read_some g.S.Site.work w chunk v step c.reads.result.now lt is (search (arith, c.is_empty.ensures, c.if-not-is_empty.true))
+    let is = read_there g.S.Site.work w chunk v step c.order.result _ c.reads.result.now turn c.site.ensures
+    c.reads.ensures in
+    read_some g.S.Site.work w chunk v step c.reads.result.now lt is (search (
+      arith,
+      c.is_empty.ensures,
+      c.if-not-is_empty.true,
+    ))
 
 pub steps-preserved : goal.steps-preserved
 steps-preserved g c =
@@ -24,8 +29,13 @@ steps-preserved g c =
     let lt : step < length w.sites = omega (arith, c.machines-machines.ensures.count, c.steps-test.true) in
     let turn : c.order.result ≡ order_of chunk step (length w.sites) =
     c.order.ensures ∙ ap (order_of chunk step) c.machines-machines.ensures.count in
-    let is = read_there g.S.Site.work w chunk v step c.order.result _ c.reads.result.now turn c.site.ensures c.reads.ensures in
-    read_none_more g.S.Site.work w chunk v step c.reads.result.now lt is (search (arith, c.is_empty.ensures, c.if-not-is_empty.false))
+    let is = read_there g.S.Site.work w chunk v step c.order.result _ c.reads.result.now turn c.site.ensures
+    c.reads.ensures in
+    read_none_more g.S.Site.work w chunk v step c.reads.result.now lt is (search (
+      arith,
+      c.is_empty.ensures,
+      c.if-not-is_empty.false,
+    ))
     c.steps.invariant
 
 pub returns : goal.returns

@@ -27,7 +27,8 @@ owner-chunk-requires g c =
     ap (λ (part : PlainPart). part.ends) c.part.ensures.part ∙ run.ends_are 0 first c.site.ensures in (
       omega arith,
       subst (λ (es : List ℕ). c.args.v.0 < vertices_of es) (sym same)
-          (subst (λ (n : ℕ). c.args.v.0 < n) (vertex_count reached.one_run.ends reached.split w run first c.site.ensures)
+          (subst (λ (n : ℕ). c.args.v.0 < n) (vertex_count reached.one_run.ends reached.split w run first
+          c.site.ensures)
           c.requires.there),
     )
 
@@ -72,7 +73,8 @@ returns-then-not-has_read g c =
     let line : read_line c.args.round v (reads_by_steps work w chunk v) ≡ read_line c.args.round v (reads_in work w v) =
     ap (read_line c.args.round v) (reads_are work w ends v chunk
     (ends_in_is ends reached.split w run first c.site.ensures) mine) in
-    writes_same (line_of_none c.args.round v (reads_by_steps work w chunk v) (sym c.if-not-has_read.true ∙ c.has_read.ensures) ∙ line)
+    writes_same (line_of_none c.args.round v (reads_by_steps work w chunk v) (sym c.if-not-has_read.true
+    ∙ c.has_read.ensures) ∙ line)
     (writes_nothing g.O.Sink.held g.O.Sink.faults g.O.Sink.spare c.args.out.now)
 
 pub returns-in_err-write_read_head : goal.returns-in_err-write_read_head
@@ -94,7 +96,8 @@ returns-in_err-write_read_head g c =
     let line : read_line c.args.round v (reads_by_steps work w chunk v) ≡ read_line c.args.round v (reads_in work w v) =
     ap (read_line c.args.round v) (reads_are work w ends v chunk
     (ends_in_is ends reached.split w run first c.site.ensures) mine) in
-    writes_same (line_of_some c.args.round v (reads_by_steps work w chunk v) (sym c.if-not-has_read.false ∙ c.has_read.ensures) ∙ line)
+    writes_same (line_of_some c.args.round v (reads_by_steps work w chunk v) (sym c.if-not-has_read.false
+    ∙ c.has_read.ensures) ∙ line)
     (writes_failed (sources_text (reads_by_steps work w chunk v) ++ codes "\n") c.from_residual.result
     c.from_residual.ensures.0 c.in_err-write_read_head.ensures)
 
@@ -117,7 +120,8 @@ returns-in_err-write_sources g c =
     let line : read_line c.args.round v (reads_by_steps work w chunk v) ≡ read_line c.args.round v (reads_in work w v) =
     ap (read_line c.args.round v) (reads_are work w ends v chunk
     (ends_in_is ends reached.split w run first c.site.ensures) mine) in
-    writes_same (line_of_some c.args.round v (reads_by_steps work w chunk v) (sym c.if-not-has_read.false ∙ c.has_read.ensures) ∙ line)
+    writes_same (line_of_some c.args.round v (reads_by_steps work w chunk v) (sym c.if-not-has_read.false
+    ∙ c.has_read.ensures) ∙ line)
     (writes_then _ c.in_ok-write_read_head.ensures
     (writes_failed (codes "\n") c.from_residual-in_err-write_sources.result
     c.from_residual-in_err-write_sources.ensures.0 c.in_err-write_sources.ensures))
@@ -141,5 +145,6 @@ returns g c =
     let line : read_line c.args.round v (reads_by_steps work w chunk v) ≡ read_line c.args.round v (reads_in work w v) =
     ap (read_line c.args.round v) (reads_are work w ends v chunk
     (ends_in_is ends reached.split w run first c.site.ensures) mine) in
-    writes_same (line_of_some c.args.round v (reads_by_steps work w chunk v) (sym c.if-not-has_read.false ∙ c.has_read.ensures) ∙ line)
+    writes_same (line_of_some c.args.round v (reads_by_steps work w chunk v) (sym c.if-not-has_read.false
+    ∙ c.has_read.ensures) ∙ line)
     (writes_then _ c.in_ok-write_read_head.ensures (writes_then _ c.in_ok-write_sources.ensures c.put_all.ensures))

@@ -19,7 +19,8 @@ returns g c =
     let reached = c.tells_reached.ensures c.requires.on in
     let run = of_run g.S.Site.work g.S.Site.sound g.met.S.Site.lawful w reached in
     let same : c.part.result.now.cuts ≡ reached.one_run.ends =
-    ap (λ (part : PlainPart). part.ends) c.part.ensures.part ∙ run.ends_are 0 (g.S.Site.state c.site.result.now) c.site.ensures in
+    ap (λ (part : PlainPart). part.ends) c.part.ensures.part ∙ run.ends_are 0 (g.S.Site.state c.site.result.now)
+    c.site.ensures in
     c.end.ensures.value
     ∙ ap (λ (k : ℕ). slice_index c.part.result.now.cuts (k - 1)) c.count.ensures.value
     ∙ ap vertices_of same

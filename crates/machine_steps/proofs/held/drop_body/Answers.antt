@@ -4,8 +4,10 @@ use Rattle.vert_base.proofs.LetterLaws.{taken_none}
 use Rattle.double_buffer.specs.Held.{AreOfRound, Held, with_letter}
 use Rattle.double_buffer.proofs.BufferLaws.{of_round_without}
 use Rattle.double_buffer.specs.Taking.{CanTake}
-use Rattle.machine_steps.proofs.HeldLaws.{bare, dropped, none_found, not_held}
+use Rattle.machine_steps.proofs.HeldLaws.{dropped, not_held}
 use Rattle.machine_steps.proofs.held.drop_body.Goals as goal
+use Rattle.state_laws.specs.Letters.{bare}
+use Rattle.state_laws.proofs.Options.{none_found}
 
 pub mark-requires : goal.mark-requires
 mark-requires c =

@@ -59,12 +59,14 @@ returns-clause-order g c =
     let P : List ℕ → List Part → Type 0 = λ t ps.
     Leaves NoTask (follows (parted c.args.prefix.now t (map plain_of ps))) (outside mid out input)
     (outside new out input) (fault_after c.store_parts.result) in
-    both_go (IsPartRun work) old mid c.args.program.now c.args.form.now c.args.graph.now read.typed (graph_of_edges read.edges)
+    both_go (IsPartRun work) old mid c.args.program.now c.args.form.now c.args.graph.now read.typed (graph_of_edges
+    read.edges)
     has.0 next out input _ _
     (Ran (parted c.args.prefix.now has.0.has_program.text parts)
     (record { parts = parts; of_graph = c.in_ok-parts.ensures.of_graph; course_is = refl })
     (unplayed (IsPartRun work) (follows (parted c.args.prefix.now has.0.has_program.text parts)) (outside mid out input)
-    (outside new out input) (fault_after c.store_parts.result) (subst (λ (ps : List Part). P has.0.has_program.text ps) c.deref.ensures.value
+    (outside new out input) (fault_after c.store_parts.result) (subst (λ (ps : List Part). P has.0.has_program.text
+    ps) c.deref.ensures.value
     (subst (λ (t : List ℕ). P t c.deref.result.now) text (c.store_parts.ensures.order out input)))))
 
 pub store_parts-requires : goal.store_parts-requires

@@ -28,7 +28,8 @@ returns-in_err-store_part-clause-order g c =
 
 pub returns-clause-order : goal.returns-clause-order
 returns-clause-order g c =
-    parts_done c.args.prefix.now c.args.program.now c.args.parts.now c.parts.part-index (map plain_of c.args.parts.now) _
+    parts_done c.args.prefix.now c.args.program.now c.args.parts.now c.parts.part-index
+    (map plain_of c.args.parts.now) _
     _ c.parts-test.false c.parts.invariant.1
 
 pub store_part-requires : goal.store_part-requires

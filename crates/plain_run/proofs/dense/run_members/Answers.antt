@@ -3,7 +3,7 @@ use Rattle.std.proofs.lemmas.List.{get_or_default}
 use Rattle.vert_tree.specs.Places.{body_placed}
 use Rattle.vert_eval.specs.Rounds.{loop, member_act}
 use Rattle.plain_run.specs.Views.{scene_of}
-use Rattle.plain_run.proofs.RunLaws.{turn_ends, SameEnd-trans, SameFrame-trans}
+use Rattle.plain_run.proofs.RunLaws.{turn_ends, SameEnd-trans, SameCounts-trans}
 use Rattle.plain_run.proofs.TurnLaws.{some_edge, broken_reads, turn_reads}
 use Rattle.plain_run.proofs.dense.run_members.Goals as goal
 
@@ -43,6 +43,6 @@ loop-member-preserved c =
       read = ap (λ k. k + 1) l.invariant.read;
       reads = turn_reads scene body members l.member-index m l.env lt at c.visit.new.env
           (loop scene body members c.args.env.now).reads h.env (sym c.in-Going.is ∙ h.flow) l.invariant.reads;
-      kept = SameFrame-trans _ _ _ l.invariant.kept h.kept;
+      kept = SameCounts-trans _ _ _ l.invariant.kept h.kept;
       partials = h.partials ∙ l.invariant.partials;
     }

@@ -1,7 +1,7 @@
 use Rattle.std.proofs.Common.{◌≡◌, ◌++◌, length, map, take, drop}
 use Rattle.vert_base.specs.Neighbours.{source}
 use Rattle.vert_eval.specs.Rounds.{loop}
-use Rattle.plain_run.specs.Frames.{SameEnd, SameFrame}
+use Rattle.plain_run.specs.Frames.{SameEnd, SameCounts}
 use Rattle.plain_run.specs.Views.{scene_of}
 use Rattle.plain_run.proofs.dense.run_members.Given as goal
 
@@ -14,6 +14,6 @@ invariant-loop-member l =
       read : l.read ≡ l.member-index;
       reads : map source (take l.member-index l.members) ++ (act (drop l.member-index l.members) l.env).reads
           ≡ (act l.members l.initial.env).reads;
-      kept : SameFrame l.initial.env l.env;
+      kept : SameCounts l.initial.env l.env;
       partials : length l.emits.slots.items ≡ length l.initial.emits.slots.items;
     }

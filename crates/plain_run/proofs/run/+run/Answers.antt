@@ -2,7 +2,7 @@ use Rattle.std.proofs.Common.{rules, sym, ◌∙◌, arith}
 use Rattle.std.proofs.lemmas.List.Folds.{list_all-map}
 use Rattle.vert_tree.specs.declared.statement.Stmt.TheFolds.{the_lemmas}
 use Rattle.vert_eval.specs.Runs.{act_of}
-use Rattle.plain_run.proofs.RunLaws.{turn_ends, SameEnd-trans, SameFrame-trans}
+use Rattle.plain_run.proofs.RunLaws.{turn_ends, SameEnd-trans, SameCounts-trans}
 use Rattle.plain_run.proofs.run.+run.Goals as goal
 
 pub run_body-loop-stmt-preserved : goal.run_body-loop-stmt-preserved
@@ -14,7 +14,7 @@ run_body-loop-stmt-preserved t c =
     h.emits h.kept.key in
     record {
       ends = SameEnd-trans _ _ _ _ _ _ _ _ _ ends l.invariant.ends;
-      kept = SameFrame-trans _ _ _ l.invariant.kept h.kept;
+      kept = SameCounts-trans _ _ _ l.invariant.kept h.kept;
       partials = h.partials ∙ l.invariant.partials;
     }
 

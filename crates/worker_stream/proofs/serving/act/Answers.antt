@@ -20,7 +20,8 @@ put_messages-requires g c =
     ap (map letter_of) c.deref.ensures.value ∙ (c.in-Ok.ensures.sent
     ∙ ap (λ ms. map letter_of ms ++ g.S.Site.work.sent s) c.new-sent.ensures.items) in
     all_short c.deref.result.now (g.S.Site.work.sent s) sent
-    (each_short s (g.S.Site.work.sent s) (λ x shape has. forms_short s.split s.part x shape c.requires.stands.can_run has)
+    (each_short s (g.S.Site.work.sent s) (λ x shape has. forms_short s.split s.part x shape c.requires.stands.can_run
+    has)
     (g.met.S.Site.lawful.sent_fit s c.requires.stands.is_sound c.requires.ready))
 
 pub returns-clause-state : goal.returns-clause-state

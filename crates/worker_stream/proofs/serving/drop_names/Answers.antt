@@ -7,7 +7,8 @@ use Rattle.worker_stream.proofs.serving.drop_names.Goals as goal
 pub returns-then-begins : goal.returns-then-begins
 returns-then-begins g c =
     c.clear.ensures
-    ∙ sym (ap (λ b. if b then no_names c.args.names.now else c.args.names.now) (sym c.begins.ensures ∙ c.if-begins.true))
+    ∙ sym (ap (λ b. if b then no_names c.args.names.now else c.args.names.now) (sym c.begins.ensures
+    ∙ c.if-begins.true))
 
 pub returns : goal.returns
 returns g c =

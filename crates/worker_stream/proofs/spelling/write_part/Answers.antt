@@ -21,6 +21,6 @@ returns-clause-fits c =
       draws = omega arith;
       scan = subst (λ (q : List Edge). HaveWeights q) c.deref.ensures.value c.edges_have_weights.ensures;
       push = subst (λ (q : List Edge). HaveWeights q) c.deref-2.ensures.value c.edges_have_weights-2.ensures;
-      degrees = subst (λ (q : List Degree). All AreCounts q) c.deref-3.ensures.value c.degrees_have_counts.ensures;
+      degrees = subst (λ (q : List Degree). All AreCounts q) c.deref-3.ensures.value c.degrees_are_counts.ensures;
       accepted = (view_program part.split.value.program.program, c.requires.tree, c.requires.accepted);
     }

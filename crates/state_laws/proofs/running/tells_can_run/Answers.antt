@@ -4,7 +4,7 @@ use Rattle.chunk_split.specs.Chunks.{AreEnds}
 use Rattle.symple_face.specs.Lawful.{AreCounts}
 use Rattle.instrument.specs.declared.split.Split.{Split}
 use Rattle.word_kinds.specs.Fits.{HaveWeights, literals_fit}
-use Rattle.machine_core.proofs.making.tells_can_run.Goals as goal
+use Rattle.state_laws.proofs.running.tells_can_run.Goals as goal
 
 pub returns : goal.returns
 returns c = record {

@@ -1,4 +1,0 @@
-use Rattle.machine_core.proofs.making.counts_fit.Goals as goal
-
-pub returns : goal.returns
-returns c = record { ins = c.ins_of-ins.ensures.fits; outs = c.outs_of-outs.ensures.fits }
