@@ -1,5 +1,5 @@
 -- What serving an input leaves of the outside, up to the lines that are kept.
-use Rattle.std.proofs.Common.{◌≡◌, ◌≢◌, ℕ, List, Option, Some, None, Result, Ok, Err, refl, sym, ap, subst, ◌∙◌}
+use Rattle.std.proofs.Common.{◌≡◌, ◌≢◌, ℕ, List, Option, Some, None, Result, Ok, Err, refl, sym, ap, subst, ◌∙◌, true}
 use Rattle.std.specs.Prelude.{IfSome, drop, option_map}
 use Rattle.outside.specs.Bytes.{gained}
 use Rattle.command_steps.specs.declared.failure.Failure.{Failure}
@@ -23,6 +23,7 @@ use Rattle.symple_face.specs.PartViews.{plain_of}
 use Rattle.symple_face.specs.State.{State}
 use Rattle.symple_face.specs.Work.{Work}
 use Rattle.vert_base.specs.declared.limits.TheConstants.{GRAPH_BYTES}
+use Rattle.word_kinds.specs.Fits.{literals_fit}
 use Rattle.worker_stream.specs.Answers.{ReadsPart}
 use Rattle.worker_stream.specs.declared.fault.PartFault.{PartFault}
 use Rattle.worker_stream.specs.declared.fault.PartFault.TheVariants.{Magic, Length, Number, Text, Want}
@@ -190,12 +191,13 @@ judged_here old new name bytes has read same (Err why) none =
 
 -- what judging bytes answers
 pub judged_by : (bytes : List ℕ) (part : Part) → ReadsPart bytes (Ok part) →
-    IsPartFile bytes (plain_of part) part.split.value
-judged_by bytes part (begins, (sections, cut, (sound, is, says))) = record {
+    literals_fit part.split.value.program.program ≡ true → IsPartFile bytes (plain_of part) part.split.value
+judged_by bytes part (begins, (sections, cut, (sound, is, says))) fit = record {
   begins = begins;
   sections = sections;
   cut = cut;
   sound = sound;
   part_is = is;
   says = says;
+  fits = record { typed = part.split.value.program.typed; fits = fit };
 }

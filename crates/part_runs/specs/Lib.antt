@@ -1,3 +1,4 @@
+pub mod CoreServing
 pub mod Parting
 pub mod PartWalks
 pub mod Serving

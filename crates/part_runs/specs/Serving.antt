@@ -8,6 +8,7 @@ use Rattle.program_reader.specs.Accepted.{Says}
 use Rattle.symple_face.specs.Parts.{PlainPart, chunk_vertices}
 use Rattle.symple_face.specs.State.{State, machine}
 use Rattle.symple_face.specs.Work.{Work}
+use Rattle.word_kinds.specs.Fits.{IsFitting}
 use Rattle.worker_stream.specs.declared.fault.PartFault.{PartFault}
 use Rattle.worker_stream.specs.declared.fault.PartFault.TheVariants.{Magic, Length, Number, Text, Want}
 use Rattle.worker_stream.specs.Answers.{Begins, ReadsPart}
@@ -17,7 +18,7 @@ use Rattle.worker_stream.specs.Worker.{End, Finishes, Lacks, Refuses, worker}
 
 -- ---- the part file
 
--- the bytes are the file of this part, and their text says the program of this split
+-- the bytes are the file of this part, and their text says the program of this split, whose literals fit 64 bits
 pub record IsPartFile (bytes : List ℕ) (part : PlainPart) (split : Split) : Type 0 where
   pub begins : Begins bytes
   pub sections : Sections
@@ -25,6 +26,7 @@ pub record IsPartFile (bytes : List ℕ) (part : PlainPart) (split : Split) : Ty
   pub sound : IsSound (file_of sections)
   pub part_is : part ≡ part_in (file_of sections)
   pub says : Says sections.program split.program.program
+  pub fits : IsFitting split.program.program
 
 -- K1 to K4
 abbrev pub part_fault : PartFault → Fault

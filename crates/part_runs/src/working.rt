@@ -1,5 +1,5 @@
 // `worker`: one machine that serves the messages of an input.
-ghost use Rattle.std.specs.Prelude.{◌≡◌, ◌≤◌, IfSome, List, ℕ};
+ghost use Rattle.std.specs.Prelude.{◌≡◌, ◌≤◌, IfSome, List, ℕ, true};
 ghost use Rattle.command_steps.specs.Commands.{worker_order};
 ghost use Rattle.command_steps.specs.Faults.{fault_of};
 ghost use Rattle.command_steps.specs.Leaves.{Leaves};
@@ -10,14 +10,17 @@ ghost use Rattle.part_runs.specs.PartWalks.{GivesPart, IsPartRun, JudgesPart, Se
 ghost use Rattle.part_runs.specs.Serving.{part_fault, serving};
 ghost use Rattle.symple_face.specs.PartViews.{plain_of};
 ghost use Rattle.worker_stream.specs.Serving.{streams};
+ghost use Rattle.word_kinds.specs.Fits.{literals_fit};
 ghost use Rattle.worker_stream.specs.Worker.{worker};
 
 use crate::rows::store_rows;
 use command_steps::{Failure, load_file};
+use instrument::Split;
 use outside::{Shelf, Sink, Source};
 use std::alloc::Global;
 use symple_face::{Part, Site};
 use vert_base::limits::GRAPH_BYTES;
+use word_kinds::literals_are_words;
 use worker_stream::{PartFault, ServeFault, read_part, serve};
 
 /// Lets the machine of a part file serve the messages of an input, and stores the lines of its vertices.
@@ -56,9 +59,20 @@ fn judged(alloc: Global, bytes: &[u8]) -> Result<Part, Failure>
     ensures { JudgesPart bytes.now result }
 {
     match read_part(alloc, bytes) {
-        Ok(part) => Ok(part),
+        Ok(part) => {
+            tell_literals(&part);
+            Ok(part)
+        }
         Err(fault) => Err(unread(fault)),
     }
+}
+
+/// Reads the literals of a part's program, which tells that they fit 64 bits.
+fn tell_literals(part: &Part)
+    ensures { literals_fit part.now.split.value.program.program ≡ true }
+{
+    let split: &Split = &part.split;
+    literals_are_words(&split.program);
 }
 
 /// Why a part file is refused.

@@ -275,6 +275,9 @@ module _ (part : PlainPart) (program : List ℕ) (fits : IsWritable part program
       same_part (part_in written) part refl refl refl refl refl refl refl (sym fits.whole.refresh_to)
       (sym fits.whole.refresh_of) (sym fits.whole.push_to) (sym fits.whole.push_of)
 
+  part_back : part_in (file_of made) ≡ part
+  part_back = ap part_in file_again ∙ part_again
+
   sound_again : IsSound (file_of made)
   sound_again =
       subst (λ (f : PartFile). IsSound f) (sym file_again)
@@ -288,7 +291,7 @@ module _ (part : PlainPart) (program : List ℕ) (fits : IsWritable part program
   -- ---- and what is read is the part
   sections_read : (s : Sections) (r : Result Part PartFault) → s ≡ made → ReadsSections s r → IsReadBack part program r
   sections_read s (Ok read) is given = (
-    given.1 ∙ (ap (λ q. part_in (file_of q)) is ∙ (ap part_in file_again ∙ part_again)),
+    given.1 ∙ (ap (λ q. part_in (file_of q)) is ∙ part_back),
     subst (λ (q : List ℕ). Says q read.split.value.program.program) (ap (λ q. q.program) is) given.2,
   )
   sections_read s (Err Magic) is given = given
@@ -302,6 +305,13 @@ module _ (part : PlainPart) (program : List ℕ) (fits : IsWritable part program
 
   one_cut : (s : Sections) → sections_of (spelled_part part program) ≡ Some s → s ≡ made
   one_cut s cut = same_Some s made (sym cut ∙ cut_again)
+
+  -- whatever the sections of the file are, they say the part and the text
+  pub sections_again : (s : Sections) → sections_of (spelled_part part program) ≡ Some s →
+      (part_in (file_of s) ≡ part) × (s.program ≡ program)
+  sections_again s cut =
+      let same = one_cut s cut in
+      (ap (λ q. part_in (file_of q)) same ∙ part_back, ap (λ q. q.program) same)
 
   pub read_back : (bytes : List ℕ) (r : Result Part PartFault) → bytes ≡ spelled_part part program →
       ReadsPart bytes r → IsReadBack part program r
