@@ -6,7 +6,7 @@ use Rattle.command_steps.specs.Comes.{ByFile, Comes, Fits}
 use Rattle.command_steps.specs.Courses.{TakesNothing, course_end}
 use Rattle.command_steps.specs.Leaves.{Leaves}
 use Rattle.command_steps.specs.Notes.{BadPart, Fault, LongSchedule, NoLoad}
-use Rattle.command_steps.specs.Orders.{Course, Drawn, Ends, Fails, Followed, Imaged, IsOver, Keeps, Order, Parted, Plain, Prints, Puts, Renewed, Resumed, Runs, Served, Shown, Takes, Task, Tries, follows}
+use Rattle.command_steps.specs.Orders.{Course, Drawn, DrawnLossy, Ends, Fails, Followed, Imaged, IsOver, Keeps, Order, Parted, Plain, Prints, Puts, Renewed, Resumed, Runs, Served, Shown, Takes, Task, Tries, follows}
 use Rattle.command_steps.specs.Outputs.{free_text, plan_text}
 use Rattle.command_steps.specs.Quiet.{IsNoneOf, IsQuiet, KeepsOthers, Spares}
 use Rattle.command_steps.specs.States.{Outside}
@@ -108,7 +108,11 @@ module _ (courses : Task → Course → Type 0) (are : AreCourses courses) where
       graph_spares name (graph_of job.form bytes)
       (λ graph. Runs (Drawn (play_of job machines program graph) seed schedule) follows)
       (λ graph course is. are.spares (Drawn (play_of job machines program graph) seed schedule) course is name none)
-  line_spares (words.RecordOf job schedule machines seed true) name none = tt
+  line_spares (words.RecordOf job schedule machines seed true) name none = λ text program says bytes.
+      graph_spares name (graph_of job.form bytes)
+      (λ graph. Runs (DrawnLossy (play_of job machines program graph) seed schedule) follows)
+      (λ graph course is.
+      are.spares (DrawnLossy (play_of job machines program graph) seed schedule) course is name none)
   line_spares (words.ReplayOf job schedule) name none = λ text program says bytes.
       graph_spares name (graph_of job.form bytes)
       (λ graph. followed_order (λ count. play_of job count program graph) schedule)
@@ -155,7 +159,7 @@ module _ (courses : Task → Course → Type 0) (are : AreCourses courses) where
   line_quiet (words.PlanOf name form machines) none = λ bytes.
       graph_quiet (graph_of form bytes) (λ graph. Puts (plan_text machines graph) Ends) (λ graph. tt)
   line_quiet (words.RecordOf job schedule machines seed false) none = absurd (cc)
-  line_quiet (words.RecordOf job schedule machines seed true) none = tt
+  line_quiet (words.RecordOf job schedule machines seed true) none = absurd (cc)
   line_quiet (words.ReplayOf job schedule) none = λ text program says bytes.
       graph_quiet (graph_of job.form bytes)
       (λ graph. followed_order (λ count. play_of job count program graph) schedule)
@@ -283,7 +287,10 @@ module _ (courses : Task → Course → Type 0) (are : AreCourses courses) where
         both_must job.program job.form job.graph (λ text program bytes graph.
         Runs (Drawn (play_of job machines program graph) seed schedule) follows)
         (λ text program bytes graph. task_must (Drawn (play_of job machines program graph) seed schedule)) may
-    line_must (words.RecordOf job schedule machines seed true) may = may
+    line_must (words.RecordOf job schedule machines seed true) may =
+        both_must job.program job.form job.graph (λ text program bytes graph.
+        Runs (DrawnLossy (play_of job machines program graph) seed schedule) follows)
+        (λ text program bytes graph. task_must (DrawnLossy (play_of job machines program graph) seed schedule)) may
     line_must (words.ReplayOf job schedule) may =
         both_must job.program job.form job.graph (λ text program bytes graph.
         followed_order (λ count. play_of job count program graph) schedule)

@@ -152,7 +152,7 @@ module _ (courses : Task → Course → Type 0) where
   asked_wants (words.FreeOf program) w = WantsAtLoad (no_memory w)
   asked_wants (words.PlanOf graph form machines) w = WantsAtLoad (no_memory w)
   asked_wants (words.RecordOf job schedule machines seed false) w = WantsAtLoad (no_memory w)
-  asked_wants (words.RecordOf job schedule machines seed true) w = WantsAtRefusal (no_memory w)
+  asked_wants (words.RecordOf job schedule machines seed true) w = WantsAtLoad (no_memory w)
   asked_wants (words.ReplayOf job schedule) w = WantsAtLoad (no_memory w)
   asked_wants (words.ResumeOf job image machines) w = WantsAtLoad (no_memory w)
   asked_wants (words.DemoOf seed machines) w = WantsAtRun (no_memory w)

@@ -155,7 +155,7 @@ free_order name = with_program name (λ text program. Puts (free_text program) E
 abbrev pub plan_order : List ℕ → GraphForm → ℕ → Order
 plan_order name form machines = with_graph form name (λ bytes graph. Puts (plan_text machines graph) Ends)
 
--- the order of a line; what is not built yet is refused as if it weren't there
+-- the order of a line
 abbrev pub asked : words.PlainLine → Order
 asked (words.RunOf job machines None) = run_order job machines
 asked (words.RunOf job machines (Some image)) = image_order job machines image
@@ -163,7 +163,7 @@ asked (words.ShowOf program) = show_order program
 asked (words.FreeOf program) = free_order program
 asked (words.PlanOf graph form machines) = plan_order graph form machines
 asked (words.RecordOf job schedule machines seed false) = record_order job schedule machines seed
-asked (words.RecordOf job schedule machines seed true) = Refuses NoCommand
+asked (words.RecordOf job schedule machines seed true) = lossy_order job schedule machines seed
 asked (words.ReplayOf job schedule) = replay_order job schedule
 asked (words.ResumeOf job image machines) = resume_order job image machines
 asked (words.DemoOf seed machines) = demo_order seed machines

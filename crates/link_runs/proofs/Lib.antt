@@ -17,9 +17,10 @@
 -- wanting before the first event. OneLaws: what a seed draws goes one way (`one_drawn`), and a text
 -- of form 3 tells one run or has one fault (`tells_one`, `one_bad_line`). OverPlain: where no line
 -- of an event is asked for, what is put is what the plain part puts (`recorded_over_plain`,
--- `followed_over_plain`). ResultLaws hands facts of results on.
+-- `followed_over_plain`). SourceLinkLaws: of cores it is what the source's run tells.
 pub mod FarLaws
 pub mod LinkedLaws
 pub mod OneLaws
 pub mod OverPlain
+pub mod SourceLinkLaws
 pub mod WantLaws

@@ -1,10 +1,11 @@
 -- A seed draws one course, and a text of form 3 tells one run or has one fault.
-use Rattle.std.proofs.Common.{◌≡◌, ◌≢◌, inl, inr, ℕ, ◌+◌, ◌*◌, ◌<◌, ◌≤◌, ◌^◌, Bool, true, false, List, [], ◌∷◌, ◌++◌, drop, length, nat_lt, refl, ap, sym, subst, ◌∙◌, arith, append_assoc, append-nil, length-append}
+use Rattle.std.proofs.Common.{◌≡◌, ◌≢◌, ◌⊎◌, inl, inr, ℕ, ◌+◌, ◌*◌, ◌<◌, ◌≤◌, ◌^◌, Bool, true, false, List, [], ◌∷◌, ◌++◌, drop, Option, Some, length, nat_lt, refl, ap, sym, subst, ◌∙◌, arith, append_assoc, append-nil, length-append}
 use Rattle.std.specs.Prelude.{codes, decimal, flat_map, if◌then◌else◌}
 use Rattle.std.specs.List.{AllByRecursion}
 use Rattle.std.proofs.lemmas.Bool.{false≢true, ltb-false}
 use Rattle.std.proofs.lemmas.Fmt.{decimal_injective, length-decimal-le}
 use Rattle.std.proofs.lemmas.Option.{same_Some}
+use Rattle.circulant_plan.specs.Skeleton.{is_finished}
 use Rattle.command_steps.specs.Notes.{LongSchedule}
 use Rattle.command_steps.specs.Orders.{Course, Fails}
 use Rattle.delivery_log.proofs.LineLaws.{same_line}
@@ -16,12 +17,17 @@ use Rattle.link_core.proofs.Lines.{event_plain, header_plain}
 use Rattle.link_core.specs.declared.event.LinkEvent.{LinkEvent}
 use Rattle.link_core.specs.declared.event.LinkEvent.TheVariants.{Go, Take, Lose, Again, Ack, Drop}
 use Rattle.link_core.specs.LinkSays.{HasBadLinkLine, HasNoLinkHeader, SaysLinks}
-use Rattle.link_core.specs.Links.{Linked, link_step}
+use Rattle.link_core.specs.LinkChoosers.{link_drawn}
+use Rattle.link_core.specs.Links.{Linked, link_after}
 use Rattle.link_core.specs.LinkTexts.{IsLinkEvent, event_front, event_line, header_line, links_text}
 use Rattle.link_runs.specs.LinkedPlays.{IsDrawnFar}
 use Rattle.link_runs.specs.LinkTellings.{by_links}
-use Rattle.machine_runs.specs.Tellings.{recorded_as, told_event}
+use Rattle.link_runs.specs.SourceLinks.{IsFarOrder, Ordered, by_source_links, next_drawn, ordered_after}
+use Rattle.machine_runs.specs.Tellings.{Telling, recorded_as, told_event}
 use Rattle.rand_pcg.specs.Lcg.{Lcg}
+use Rattle.schedule_laws.specs.Events.{ring_in}
+use Rattle.symple_face.specs.Cluster.{finished}
+use Rattle.symple_face.specs.Source.{Source}
 use Rattle.symple_face.specs.Work.{Work}
 use Rattle.symple_words.specs.declared.line.Lines.{Lines}
 use Rattle.vert_base.specs.declared.limits.TheConstants.{SCHEDULE_BYTES}
@@ -30,20 +36,30 @@ use Rattle.vert_base.specs.declared.message.Name.{Name}
 use Rattle.vert_base.specs.NameTexts.{IsName, name_text}
 
 -- ---- what a seed draws
-module _ (work : Work) (lines : Lines) (name : List ℕ) (machines : ℕ) where
-  abbrev course_of : List LinkEvent → Linked → List LinkEvent → Course
-  course_of added l es = recorded_as (by_links work lines) (links_text machines) name added l es
+-- Of a run that is told: whether it is over, the next event that a word draws, and lists of events that are drawn far.
+module _ {X : Type 0} (t : Telling X LinkEvent) (over : X → Bool) (next : Lcg → X → Option LinkEvent)
+    (name : List ℕ) (machines : ℕ) where
+  -- an event is drawn where the run isn't over, and what is left behind it is drawn far as well; with none left the run
+  -- is over, or the text too long
+  pub record IsDrawing (IsFar : List LinkEvent → X → Lcg → List LinkEvent → Type 0) : Type 0 where
+    pub on : (added : List LinkEvent) (x : X) (g : Lcg) (e : LinkEvent) (es : List LinkEvent) →
+        IsFar added x g (e ∷ es) → (over x ≡ false) × (next g x ≡ Some e)
+    pub behind : (added : List LinkEvent) (x : X) (g : Lcg) (e : LinkEvent) (es : List LinkEvent) →
+        IsFar added x g (e ∷ es) → IsFar (added ++ e ∷ []) (t.behind x e) (behind_word g) es
+    pub ends : (added : List LinkEvent) (x : X) (g : Lcg) → IsFar added x g [] →
+        (over x ≡ true) ⊎ (SCHEDULE_BYTES < length (links_text machines (added ++ [])))
 
-  one_behind : (added : List LinkEvent) (l : Linked) (e : LinkEvent) (es fs : List LinkEvent) (long : Bool) →
+  abbrev course_of : List LinkEvent → X → List LinkEvent → Course
+  course_of added x es = recorded_as t (links_text machines) name added x es
+
+  one_behind : (added : List LinkEvent) (x : X) (e : LinkEvent) (es fs : List LinkEvent) (long : Bool) →
       nat_lt SCHEDULE_BYTES (length (links_text machines (added ++ e ∷ []))) ≡ long →
       (length (links_text machines (added ++ e ∷ [])) ≤ SCHEDULE_BYTES →
-      course_of (added ++ e ∷ []) (link_step work l e) es ≡ course_of (added ++ e ∷ []) (link_step work l e) fs) →
-      (if long then Fails LongSchedule
-      else told_event (by_links work lines) l e (course_of (added ++ e ∷ []) (link_step work l e) es))
-      ≡ (if long then Fails LongSchedule
-      else told_event (by_links work lines) l e (course_of (added ++ e ∷ []) (link_step work l e) fs))
-  one_behind added l e es fs true is same = refl
-  one_behind added l e es fs false is same = ap (told_event (by_links work lines) l e) (same (ltb-false _ _ is))
+      course_of (added ++ e ∷ []) (t.behind x e) es ≡ course_of (added ++ e ∷ []) (t.behind x e) fs) →
+      (if long then Fails LongSchedule else told_event t x e (course_of (added ++ e ∷ []) (t.behind x e) es))
+      ≡ (if long then Fails LongSchedule else told_event t x e (course_of (added ++ e ∷ []) (t.behind x e) fs))
+  one_behind added x e es fs true is same = refl
+  one_behind added x e es fs false is same = ap (told_event t x e) (same (ltb-false _ _ is))
 
   not_long : (added : List LinkEvent) → length (links_text machines added) ≤ SCHEDULE_BYTES →
       SCHEDULE_BYTES < length (links_text machines (added ++ [])) → ⊥
@@ -51,38 +67,64 @@ module _ (work : Work) (lines : Lines) (name : List ℕ) (machines : ℕ) where
       let same = ap (λ (xs : List LinkEvent). length (links_text machines xs)) (append-nil added) in
       omega (arith, fits, long, same)
 
-  -- what is left behind an event, of a list that is drawn far
-  drawn_behind : (added : List LinkEvent) (l : Linked) (g : Lcg) (e : LinkEvent) (es : List LinkEvent) →
-      IsDrawnFar work machines added l g (e ∷ es) →
-      IsDrawnFar work machines (added ++ e ∷ []) (link_step work l e) (behind_word g) es
-  drawn_behind added l g e es (drawn, inl ends) = (drawn.2, inl ends)
-  drawn_behind added l g e es (drawn, inr long) = (
-    drawn.2,
-    inr (subst (λ (xs : List LinkEvent).
-        SCHEDULE_BYTES < length (links_text machines xs)) (sym (append_assoc added (e ∷ []) es)) long),
-  )
+  no_more : (added : List LinkEvent) (x : X) → length (links_text machines added) ≤ SCHEDULE_BYTES → over x ≡ false →
+      (over x ≡ true) ⊎ (SCHEDULE_BYTES < length (links_text machines (added ++ []))) → ⊥
+  no_more added x fits on (inl ends) = false≢true (sym on ∙ ends)
+  no_more added x fits on (inr long) = not_long added fits long
 
-  no_more : (added : List LinkEvent) (l : Linked) (g : Lcg) (f : LinkEvent) (fs : List LinkEvent) →
-      length (links_text machines added) ≤ SCHEDULE_BYTES → IsDrawnFar work machines added l g [] →
-      IsDrawnFar work machines added l g (f ∷ fs) → ⊥
-  no_more added l g f fs fits (none, inl ends) more = false≢true (sym more.0.0 ∙ ends)
-  no_more added l g f fs fits (none, inr long) more = not_long added fits long
+  module _ (IsFar : List LinkEvent → X → Lcg → List LinkEvent → Type 0) (laws : IsDrawing IsFar) where
+    -- two lists that are drawn far are recorded alike
+    pub one_far : (added : List LinkEvent) (x : X) (g : Lcg) (es fs : List LinkEvent) →
+        length (links_text machines added) ≤ SCHEDULE_BYTES → IsFar added x g es → IsFar added x g fs →
+        course_of added x es ≡ course_of added x fs
+    one_far added x g [] [] fits a b = refl
+    one_far added x g [] (f ∷ fs) fits a b =
+        absurd (no_more added x fits (laws.on added x g f fs b).0 (laws.ends added x g a))
+    one_far added x g (e ∷ es) [] fits a b =
+        absurd (no_more added x fits (laws.on added x g e es a).0 (laws.ends added x g b))
+    one_far added x g (e ∷ es) (f ∷ fs) fits a b =
+        let same : e ≡ f = same_Some e f (sym (laws.on added x g e es a).1 ∙ (laws.on added x g f fs b).1) in
+        let also = subst (λ (d : LinkEvent). IsFar added x g (d ∷ fs)) (sym same) b in
+        one_behind added x e es fs (nat_lt SCHEDULE_BYTES (length (links_text machines (added ++ e ∷ [])))) refl
+        (λ short. one_far (added ++ e ∷ []) (t.behind x e) (behind_word g) es fs short
+        (laws.behind added x g e es a) (laws.behind added x g e fs also))
+        ∙ ap (λ (d : LinkEvent). course_of added x (d ∷ fs)) same
 
-  -- two lists that are drawn far are recorded alike
-  pub one_drawn : (added : List LinkEvent) (l : Linked) (g : Lcg) (es fs : List LinkEvent) →
-      length (links_text machines added) ≤ SCHEDULE_BYTES → IsDrawnFar work machines added l g es →
-      IsDrawnFar work machines added l g fs → course_of added l es ≡ course_of added l fs
-  one_drawn added l g [] [] fits a b = refl
-  one_drawn added l g [] (f ∷ fs) fits a b = absurd (no_more added l g f fs fits a b)
-  one_drawn added l g (e ∷ es) [] fits a b = absurd (no_more added l g e es fits b a)
-  one_drawn added l g (e ∷ es) (f ∷ fs) fits a b =
-      let same : e ≡ f = same_Some e f (sym a.0.1 ∙ b.0.1) in
-      let also = subst (λ (x : LinkEvent). IsDrawnFar work machines added l g (x ∷ fs)) (sym same) b in
-      let rest = λ (short : length (links_text machines (added ++ e ∷ [])) ≤ SCHEDULE_BYTES).
-      one_drawn (added ++ e ∷ []) (link_step work l e) (behind_word g) es fs short
-      (drawn_behind added l g e es a) (drawn_behind added l g e fs also) in
-      one_behind added l e es fs (nat_lt SCHEDULE_BYTES (length (links_text machines (added ++ e ∷ [])))) refl rest
-      ∙ ap (λ (x : LinkEvent). course_of added l (x ∷ fs)) same
+long_behind : (machines : ℕ) (Ends : Type 0) (added : List LinkEvent) (e : LinkEvent) (es : List LinkEvent) →
+    Ends ⊎ (SCHEDULE_BYTES < length (links_text machines (added ++ e ∷ es))) →
+    Ends ⊎ (SCHEDULE_BYTES < length (links_text machines ((added ++ e ∷ []) ++ es)))
+long_behind machines Ends added e es (inl ends) = inl ends
+long_behind machines Ends added e es (inr long) = inr (subst (λ (xs : List LinkEvent).
+    SCHEDULE_BYTES < length (links_text machines xs)) (sym (append_assoc added (e ∷ []) es)) long)
+
+-- of machines
+pub one_drawn : (work : Work) (lines : Lines) (name : List ℕ) (machines : ℕ) (added : List LinkEvent) (l : Linked)
+    (g : Lcg) (es fs : List LinkEvent) → length (links_text machines added) ≤ SCHEDULE_BYTES →
+    IsDrawnFar work machines added l g es → IsDrawnFar work machines added l g fs →
+    recorded_as (by_links work lines) (links_text machines) name added l es
+    ≡ recorded_as (by_links work lines) (links_text machines) name added l fs
+one_drawn work lines name machines =
+    one_far (by_links work lines) (λ l. finished l.world) link_drawn name machines (IsDrawnFar work machines) (record {
+      on = λ added l g e es is. (is.0.0, is.0.1);
+      behind = λ added l g e es is.
+          (is.0.2, long_behind machines (finished (link_after work l (e ∷ es)).world ≡ true) added e es is.1);
+      ends = λ added l g is. is.1;
+    })
+
+-- of the source's run
+pub one_in_order : (lines : Lines) (src : Source) (name : List ℕ) (machines : ℕ) (added : List LinkEvent)
+    (s : Ordered) (g : Lcg) (es fs : List LinkEvent) → length (links_text machines added) ≤ SCHEDULE_BYTES →
+    IsFarOrder src machines added s g es → IsFarOrder src machines added s g fs →
+    recorded_as (by_source_links lines src) (links_text machines) name added s es
+    ≡ recorded_as (by_source_links lines src) (links_text machines) name added s fs
+one_in_order lines src name machines =
+    one_far (by_source_links lines src) (λ s. is_finished s.order) (next_drawn (ring_in src)) name machines
+    (IsFarOrder src machines) (record {
+      on = λ added s g e es is. (is.0.0, is.0.1);
+      behind = λ added s g e es is.
+          (is.0.2, long_behind machines (is_finished (ordered_after src s (e ∷ es)).order ≡ true) added e es is.1);
+      ends = λ added s g is. is.1;
+    })
 
 -- ---- the line of an event settles it, and what stands behind
 -- the number of an event's kind, as the first letters of its line tell it

@@ -1,3 +1,4 @@
 pub mod LinkedEvents
 pub mod LinkedPlays
 pub mod LinkTellings
+pub mod SourceLinks

@@ -19,6 +19,7 @@ use Rattle.delivery_log.specs.Choosers.{DrawnRunsAreComplete, IsDrawnRun, PlainR
 use Rattle.delivery_log.specs.ScheduleTexts.{event_lines, round_after, schedule_text}
 use Rattle.edge_reader.specs.EdgeList.{Graph}
 use Rattle.instrument.specs.declared.split.Split.{Split}
+use Rattle.link_core.specs.LinkChoosers.{DrawnLinksArePossible}
 use Rattle.schedule_laws.specs.Laws.{whole_run}
 use Rattle.schedule_laws.specs.OutputText.{output_text}
 use Rattle.schedule_laws.specs.Layout.{lines_of, round_lines, table_of, text_of}
@@ -39,21 +40,21 @@ use Rattle.symple_face.specs.Source.{job_of}
 use Rattle.symple_face.specs.State.{State, action_of}
 use Rattle.symple_face.specs.Work.{PlainStart, Work}
 use Rattle.command_steps.specs.Courses.{course_end, course_text}
-use Rattle.command_steps.specs.Orders.{Course, Drawn, DrawnLossy, Fails, Followed, Imaged, Origin, Parted, Plain, Play, Renewed, Resumed, Served, Shown, Task}
-use Rattle.symple_run.specs.Followed.{IsFaulty, IsFollowed, IsFollowedPlay, Tells}
+use Rattle.command_steps.specs.Orders.{Course, Fails, Origin, Play}
+use Rattle.symple_run.specs.Followed.{IsFollowedPlay}
 use Rattle.symple_run.specs.Recorded.{IsDrawnPlay}
-use Rattle.symple_run.specs.SourceSchedules.{IsSourceFollowed, IsSourceRecord, IsSourceReplay, PutsSource}
+use Rattle.symple_run.specs.SourceSchedules.{IsSourceFollowed, IsSourceRecord, PutsSource}
 use Rattle.symple_run.specs.SourceTexts.{HasParts, first_order, source_on}
 use Rattle.machine_runs.proofs.SourceFollows.{drawn_told, followed_told, plain_told, recorded_told}
 use Rattle.machine_runs.specs.SourceTellings.{IsPlainOrder}
 use Rattle.machine_runs.specs.Tellings.{by_worlds, followed, lack_of, recorded, told_end, told_event, unless_lacking, unless_refused, why_of}
 use Rattle.symple_face.specs.Restarts.{IsRestartLawful, IsStart}
 use Rattle.symple_run.specs.SourceTexts as sources
-use Rattle.symple_run.specs.Played.{IsFirstWorld, IsPlainPlay, IsPlayed, course_from, log_line}
+use Rattle.symple_run.specs.Played.{IsFirstWorld, IsPlainPlay, course_from, log_line}
 use Rattle.symple_run.specs.KeptImages.{IsImagedPlay, key_for}
 use Rattle.symple_run.specs.Resumes.{IsResumedPlay, begun_world, later_of}
 use Rattle.symple_run.specs.SourceImages.{begun_text}
-use Rattle.symple_run.specs.SourceRuns.{IsBegunLog, IsLoggedFrom, IsPrinted, IsSourceImaged, IsSourcePlay, IsSourceResumed, IsSourceRun}
+use Rattle.symple_run.specs.SourceRuns.{IsBegunLog, IsLoggedFrom, IsPrinted, IsSourceImaged, IsSourcePlay, IsSourceResumed}
 use Rattle.symple_run.proofs.ImagedRuns.{imaged_source, later_logged, later_text, parts_start, printed_from, resumed_printed}
 use Rattle.symple_run.proofs.ImagesTold.{images_told}
 use Rattle.symple_words.specs.declared.line.Lines.{Lines}
@@ -80,10 +81,11 @@ text_from work lines w (e ∷ es) =
 pub record ChosenWell (work : Work) (sound : State → Type 0) : Type 0 where
   pub plain : PlainRunsAreComplete work sound
   pub drawn : DrawnRunsAreComplete work sound
+  pub linked : DrawnLinksArePossible work sound
   pub reach : StepsReach work sound
   pub goes : UnfinishedGoesOn work sound
 
-none_lacks : (o : Option Event) → option_map lacks o ≡ None → o ≡ None
+pub none_lacks : (o : Option Event) → option_map lacks o ≡ None → o ≡ None
 none_lacks None none = refl
 none_lacks (Some e) none = cc
 
@@ -177,7 +179,7 @@ module _ (sound : State → Type 0) (lines : Lines) (program : Program) (graph :
         first.program_is
 
 -- the parts of a first world
-abbrev parts_on : (play : Play) (v : World) → IsFirstWorld core_work play.program play.graph play.machines play.draws v →
+abbrev pub parts_on : (play : Play) (v : World) → IsFirstWorld core_work play.program play.graph play.machines play.draws v →
     HasParts play
 parts_on play v first = record {
   split = first.split;
@@ -205,7 +207,7 @@ module _ (sound : State → Type 0) (complete : PlainRunsAreComplete core_work s
   text_is : course_text course ≡ text_of core_work play.lines is.first is.events
   text_is = ap course_text is.course_is ∙ text_from core_work play.lines is.first is.events
 
-  plain_source : IsSourcePlay play course
+  pub plain_source : IsSourcePlay play course
   plain_source = record {
     printed = plain_printed core_work play course is;
     text = λ quiet. text_is ∙ run_told sound play.lines play.program play.graph play.machines play.draws is.first
@@ -279,7 +281,7 @@ module _ (work : Work) (lines : Lines) where
 module _ (sound : State → Type 0) (play : Play) (first : World)
     (is_first : IsFirstWorld core_work play.program play.graph play.machines play.draws first) (es : List Event)
     (course : Course) where
-  puts_source : (course_end course ≡ None → is_complete core_work first es ≡ true) →
+  pub puts_source : (course_end course ≡ None → is_complete core_work first es ≡ true) →
       (course_end course ≡ None → course_text course ≡ text_of core_work play.lines first es) →
       PutsSource play course
   puts_source complete told = λ ends quiet.
@@ -288,7 +290,7 @@ module _ (sound : State → Type 0) (play : Play) (first : World)
       quiet
 
 module _ (sound : State → Type 0) (laws : ChosenWell core_work sound) where
-  drawn_source : (play : Play) (seed : ℕ) (name : List ℕ) (course : Course) →
+  pub drawn_source : (play : Play) (seed : ℕ) (name : List ℕ) (course : Course) →
       IsDrawnPlay core_work play seed name course → IsSourceRecord play seed name course
   drawn_source play seed name course is =
       let complete = laws.drawn is.first (generator_of seed) is.events
@@ -312,14 +314,14 @@ module _ (sound : State → Type 0) (laws : ChosenWell core_work sound) where
       }
 
   -- the world behind possible events is reached
-  reached_behind : (w : World) (es : List Event) → IsReached core_work sound w → all_possible core_work w es ≡ true →
+  pub reached_behind : (w : World) (es : List Event) → IsReached core_work sound w → all_possible core_work w es ≡ true →
       IsReached core_work sound (after core_work w es)
   reached_behind w [] r can = r
   reached_behind w (e ∷ es) r can =
       let c = and_parts (possible w e) (all_possible core_work (step core_work w e) es) can in
       reached_behind (step core_work w e) es (laws.reach w e r c.0) c.1
 
-  following_source : (play : Play) (form : Form) (events : List Event) (course : Course) →
+  pub following_source : (play : Play) (form : Form) (events : List Event) (course : Course) →
       IsFollowedPlay core_work play form events course → IsSourceFollowed play form events course
   following_source play form events course is =
       let ended = λ (ends : course_end course ≡ None).
@@ -340,12 +342,6 @@ module _ (sound : State → Type 0) (laws : ChosenWell core_work sound) where
             (λ ends. ap course_text is.course_is ∙ (ended ends).text);
       }
 
-  followed_source : (play : ℕ → Play) (text : List ℕ) (course : Course) → IsFollowed core_work play text course →
-      IsSourceReplay play text course
-  followed_source play text course (Tells machines events says is) =
-      Tells machines events says (following_source (play machines) says.form events course is)
-  followed_source play text course (IsFaulty why real gives is) = IsFaulty why real gives is
-
 -- what cores show is what the source's run tells
 module _ (sound : State → Type 0) (complete : PlainRunsAreComplete core_work sound) (seed machines : ℕ)
     (course : Course) (is : IsShow core_work seed machines course) where
@@ -353,7 +349,7 @@ module _ (sound : State → Type 0) (complete : PlainRunsAreComplete core_work s
   shown_ended = complete is.first is.events
       (reached sound no_lines is.program (drawn_graph seed) machines 0 is.first is.is_first) is.plain
 
-  shown_source : IsSourceShow seed machines course
+  pub shown_source : IsSourceShow seed machines course
   shown_source = record {
     program = is.program;
     says = is.says;
@@ -375,7 +371,7 @@ module _ (sound : State → Type 0) (complete : PlainRunsAreComplete core_work s
   imaged_ended = complete is.first is.events
       (reached sound play.lines play.program play.graph play.machines play.draws is.first is.is_first) is.plain
 
-  imaged_told : IsSourceImaged play origin image course
+  pub imaged_told : IsSourceImaged play origin image course
   imaged_told =
       imaged_source play origin image course is
       (run_told sound play.lines play.program play.graph play.machines play.draws is.first is.is_first is.events
@@ -433,7 +429,7 @@ module _ (sound : State → Type 0) (complete : PlainRunsAreComplete core_work s
             is.fits is.parts is.of_graph same start (starts start refl) es plain),
       )
 
-  resumed_told : IsSourceResumed play origin even odd course
+  pub resumed_told : IsSourceResumed play origin even odd course
   resumed_told =
       let found = later_of is.first is.second in
       let told = begun_told found (λ start here. parts_start play.machines play.draws play.graph is.parts is.of_graph
@@ -453,31 +449,3 @@ module _ (sound : State → Type 0) (complete : PlainRunsAreComplete core_work s
         text = here.0;
         logged = here.1;
       }
-
--- each task that cores do goes as the source's run tells
-core_task : (sound : State → Type 0) → ChosenWell core_work sound → IsRestartLawful core_work sound → StartIsReady →
-    (task : Task) (course : Course) → IsPlayed core_work task course → IsSourceRun task course
-core_task sound laws restarts ready (Plain play) course is = plain_source sound laws.plain play course is
-core_task sound laws restarts ready (Imaged play origin image) course is =
-    imaged_told sound laws.plain play origin image course is
-core_task sound laws restarts ready (Resumed play origin even odd) course is =
-    resumed_told sound laws.plain restarts ready play origin even odd course is
-core_task sound laws restarts ready (Drawn play seed schedule) course is =
-    drawn_source sound laws play seed schedule course is
-core_task sound laws restarts ready (DrawnLossy play seed schedule) course is = absurd is
-core_task sound laws restarts ready (Followed play schedule) course is =
-    followed_source sound laws play schedule course is
-core_task sound laws restarts ready (Shown seed machines) course is =
-    shown_source sound laws.plain seed machines course is
-core_task sound laws restarts ready (Renewed schedule target) course is = is
-core_task sound laws restarts ready (Parted play program prefix) course is = is
-core_task sound laws restarts ready (Served part rows) course is = is
-
--- whatever cores do, the source's run tells
-pub core_runs : (work : Work) (sound : State → Type 0) → work ≡ core_work → ChosenWell work sound →
-    IsRestartLawful work sound → StartIsReady → (task : Task) (course : Course) → IsPlayed work task course →
-    IsSourceRun task course
-core_runs work sound core laws restarts ready task course is =
-    core_task sound (subst (λ (v : Work). ChosenWell v sound) core laws)
-    (subst (λ (v : Work). IsRestartLawful v sound) core restarts) ready task course
-    (subst (λ (v : Work). IsPlayed v task course) core is)

@@ -10,12 +10,11 @@ use Rattle.command_steps.specs.Orders.{Course, Fails, IsOver, Keeps, Task, follo
 use Rattle.command_steps.specs.Quiet.{IsQuiet, Spares}
 use Rattle.command_steps.proofs.ComesLaws.{Must}
 use Rattle.command_steps.proofs.OrderLaws.{ends_alike}
-use Rattle.delivery_log.specs.declared.form.Form.{Form}
 use Rattle.delivery_log.specs.declared.form.Form.TheVariants.{Roundless}
 use Rattle.delivery_log.specs.ScheduleTexts.{schedule_text}
 use Rattle.outside.specs.Files.{File}
 use Rattle.symple_run.specs.Followed.{renewed}
-use Rattle.machine_runs.specs.Tellings.{Listed, Telling, followed, followed_as, listed, recorded, recorded_as, told_end, told_event, unless_lacking, unless_refused}
+use Rattle.machine_runs.specs.Tellings.{Listed, Telling, followed_as, recorded, recorded_as, told_end, told_event, unless_lacking, unless_refused}
 use Rattle.vert_base.specs.declared.limits.TheConstants.{SCHEDULE_BYTES}
 use Rattle.vert_base.specs.declared.message.Event.{Event}
 
@@ -101,7 +100,7 @@ module _ {X E : Type 0} (t : Telling X E) where
       refused_holds (λ c. IsQuiet courses (follows c)) (λ fault. tt) (t.refusal x l.event) _ _
       (followed_as_quiet courses (t.behind x l.event) ls)
 
--- ---- texts of forms 1 and 2
+-- ---- texts of form 2
 module _ {X : Type 0} (t : Telling X Event) (name : List ℕ) (machines : ℕ) where
   pub recorded_calm : (added : List Event) (x : X) (es : List Event) →
       TakesNothing (recorded t name machines added x es)
@@ -111,18 +110,6 @@ module _ {X : Type 0} (t : Telling X Event) (name : List ℕ) (machines : ℕ) w
       (x : X) (es : List Event) → Spares courses other (follows (recorded t name machines added x es))
   recorded_spares courses other apart added x es =
       recorded_as_spares t (schedule_text Roundless machines) name courses other apart added x es
-
-module _ {X : Type 0} (t : Telling X Event) (form : Form) where
-  pub followed_calm : (held lines : ℕ) (x : X) (es : List Event) → TakesNothing (followed t form held lines x es)
-  followed_calm held lines x es = followed_as_calm t x (listed form held lines es)
-
-  pub followed_spares : (courses : Task → Course → Type 0) (other : List ℕ) (held lines : ℕ) (x : X)
-      (es : List Event) → Spares courses other (follows (followed t form held lines x es))
-  followed_spares courses other held lines x es = followed_as_spares t courses other x (listed form held lines es)
-
-  pub followed_quiet : (courses : Task → Course → Type 0) (held lines : ℕ) (x : X) (es : List Event) →
-      IsQuiet courses (follows (followed t form held lines x es))
-  followed_quiet courses held lines x es = followed_as_quiet t courses x (listed form held lines es)
 
 module _ (target : List ℕ) (machines : ℕ) (events : List Event) where
   pub renewed_calm : TakesNothing (renewed target machines events)

@@ -1,32 +1,33 @@
 -- What following a schedule leaves of the outside, event by event.
-use Rattle.std.proofs.Common.{◌≡◌, ℕ, ◌+◌, ◌<◌, ◌≤◌, ◌^◌, List, [], ◌∷◌, ◌++◌, length, Option, Some, None, Result, Ok, Err, refl, sym, ap, subst, ◌∙◌, arith, append-nil}
+use Rattle.std.proofs.Common.{◌≡◌, ◌≢◌, ℕ, ◌+◌, ◌<◌, ◌≤◌, ◌^◌, List, [], ◌∷◌, ◌++◌, length, Option, Some, None, refl, sym, ap, subst, ◌∙◌, arith, append-nil}
 use Rattle.std.specs.Prelude.{option_map}
 use Rattle.std.proofs.lemmas.List.{length-append}
 use Rattle.cluster_run.specs.declared.fault.EventFault.{EventFault}
-use Rattle.cluster_run.specs.declared.fault.Missing.{Missing}
-use Rattle.cluster_run.specs.Faults.{fault_of, lacking}
-use Rattle.command_steps.specs.Leaves.{Gained, Leaves, NotPut, Ran, Refused, WantsAtPut, WantsAtRefusal, WantsAtRun}
-use Rattle.command_steps.specs.Notes.{BadEvent, Fault, NoMemory, NoWrite}
-use Rattle.command_steps.specs.Orders.{Course, Fails, Followed, NoTask, Play, Runs, follows}
-use Rattle.command_steps.specs.Walks.{HandsOn}
+use Rattle.cluster_run.specs.Faults.{fault_of}
+use Rattle.command_steps.specs.Leaves.{Leaves, Ran, Refused, WantsAtPut, WantsAtRefusal, WantsAtRun}
+use Rattle.command_steps.specs.Notes.{BadEvent, BadHeader, Fault, NoMemory}
+use Rattle.command_steps.specs.Orders.{Course, Followed, NoTask, Play, Runs, Task, follows}
 use Rattle.command_steps.specs.States.{Held, Kept, Left, Outside, outside}
 use Rattle.command_steps.proofs.LeavesLaws.{unplayed}
 use Rattle.delivery_log.specs.declared.form.Form.{Form}
-use Rattle.delivery_log.specs.Says.{Says}
+use Rattle.delivery_log.specs.declared.fault.ScheduleFault.TheVariants.{Header}
+use Rattle.delivery_log.specs.Says.{HasNoHeader, Says}
 use Rattle.delivery_log.specs.ScheduleTexts.{event_lines, events_lines, round_after, schedule_lines, text_of}
-use Rattle.delivery_log.proofs.PairLaws.{small_machines}
+use Rattle.delivery_log.proofs.PairLaws.{has_one_fault, small_machines}
 use Rattle.delivery_log.proofs.ReadLaws.{lines_small}
-use Rattle.outside.specs.declared.sink.SinkFault.{SinkFault}
-use Rattle.schedule_laws.specs.Layout.{table_of}
+use Rattle.link_core.specs.declared.event.LinkEvent.{LinkEvent}
+use Rattle.link_core.specs.LinkSays.{SaysLinks}
+use Rattle.link_runs.specs.LinkedPlays.{Goes, IsLinkedPlay}
 use Rattle.symple_face.specs.Cluster.{World, step}
 use Rattle.symple_face.specs.Work.{Work}
-use Rattle.symple_run.specs.FileWalks.{BadText, NotRead, WantsToRead}
-use Rattle.symple_run.specs.Followed.{IsFaulty, Tells}
-use Rattle.symple_run.specs.FollowWalks.{EndsListed, FollowsTo, FollowsUp, Place, PlaysListed, StopsListed, course_at}
+use Rattle.symple_run.specs.FileWalks.{BadLinkText, BadText, NoLinksRead, NotRead, WantsToRead, WantsToReadLinks}
+use Rattle.symple_run.specs.Followed.{ByEvents, ByLinkText, ByLinks, IsFaulty, IsFollowedPlay, LinksAreFaulty, Tells, TellsLinks, text_fault}
+use Rattle.symple_run.specs.FollowWalks.{FollowsTo, FollowsUp, Place, PlaysListed, StopsListed, course_at}
+use Rattle.symple_run.proofs.TextTasks.{no_fault}
 use Rattle.machine_runs.specs.PlainPlays.{IsFirstWorld}
 use Rattle.symple_run.specs.Played.{IsPlayed}
 use Rattle.machine_runs.specs.PlayedEvents.{PutsLines, StopsInLines}
-use Rattle.machine_runs.specs.Tellings.{by_worlds, followed, lack_of, told_end, told_event, unless_lacking, unless_refused, why_of}
+use Rattle.machine_runs.specs.Tellings.{by_worlds, followed, told_event, unless_refused, why_of}
 use Rattle.symple_words.specs.declared.line.Lines.{Lines}
 use Rattle.symple_words.specs.Ranges.{AreMachines}
 use Rattle.vert_base.specs.declared.message.Event.{Event}
@@ -66,33 +67,6 @@ module _ (work : Work) (lines : Lines) (w : World) (e : Event) (line : ℕ) wher
   -- memory was wanting before it
   pub listed_wants : (old : Held) → StopsListed work lines w e line old old NoMemory
   listed_wants old = λ rest shelf input. wants_either (fault_of w e) rest (outside shelf old input)
-
--- ---- the end
-module _ (work : Work) (w : World) where
-  abbrev end_by : Lines → Option Missing → Course
-  end_by lines o = unless_lacking (option_map lack_of o) (told_end (by_worlds work lines) w)
-
-  -- nothing is missing, and the table was put, or could not be
-  pub ends_well : lacking w ≡ None → (old new : Held) → HandsOn (table_of work w) old new (Ok tt) → (lines : Lines) →
-      EndsListed work lines w old new None
-  ends_well none old new put lines = λ shelf input.
-      subst (λ (o : Option Missing). Leaves NoTask (follows (end_by lines o)) (outside shelf old input)
-      (outside shelf new input) None) (sym none)
-      (Gained new.spare put.spared
-      (record { same = ap (λ (h : Held). outside shelf h input) put.same; fine = refl }))
-
-  pub ends_unput : lacking w ≡ None → (old new : Held) (fault : SinkFault) →
-      HandsOn (table_of work w) old new (Err fault) → (lines : Lines) → EndsListed work lines w old new (Some NoWrite)
-  ends_unput none old new fault put lines = λ shelf input.
-      subst (λ (o : Option Missing). Leaves NoTask (follows (end_by lines o)) (outside shelf old input)
-      (outside shelf new input) (Some NoWrite)) (sym none) (NotPut put refl refl)
-
-  -- something is missing
-  pub ends_early : (what : Missing) → lacking w ≡ Some what → (old : Held) (lines : Lines) →
-      EndsListed work lines w old old (Some (lack_of what))
-  ends_early what is old lines = λ shelf input.
-      subst (λ (o : Option Missing). Leaves NoTask (follows (end_by lines o)) (outside shelf old input)
-      (outside shelf old input) (Some (lack_of what))) (sym is) (Refused (record { same = refl; fault_is = refl }))
 
 -- ---- event by event
 -- the lines of an event and of those behind it
@@ -150,28 +124,82 @@ lines_few text machines events says =
     let fits = says.fits in
     omega (arith, small, whole, same, fits)
 
-module _ (work : Work) (play : ℕ → Play) (text : List ℕ) where
-  -- its events are followed from the first world on
-  pub run_follows :
-      (machines : ℕ) (events : List Event) (says : Says text machines events) (form : Form) → form ≡ says.form →
-      (first : World) → IsFirstWorld work (play machines).program (play machines).graph (play machines).machines
-      (play machines).draws first → (old new : Held) (outcome : Option Fault) →
-      FollowsUp work (play machines).lines form (record { held = 0; lines = 1; world = first; left = events }) old new
-      outcome → (shelf : Kept) (input : Left) →
-      Leaves (IsPlayed work) (Runs (Followed play text) follows) (outside shelf old input) (outside shelf new input)
-      outcome
-  run_follows machines events says form is_form first is_first old new outcome goes shelf input =
-      let course = followed (by_worlds work (play machines).lines) says.form 0 1 first events in
-      let leaves : Leaves NoTask (follows course) (outside shelf old input) (outside shelf new input) outcome =
-      subst (λ (f : Form). Leaves NoTask (follows (followed (by_worlds work (play machines).lines) f 0 1 first events))
-      (outside shelf old input) (outside shelf new input) outcome) is_form (goes shelf input) in
-      Ran course
-      (Tells machines events says (record { first = first; is_first = is_first; course_is = refl }))
-      (unplayed (IsPlayed work) (follows course) (outside shelf old input) (outside shelf new input) outcome leaves)
+-- its events are followed from the first world on
+pub run_follows : (work : Work) (play : Play) (form : Form) (events : List Event) (first : World) →
+    IsFirstWorld work play.program play.graph play.machines play.draws first → (old new : Held)
+    (outcome : Option Fault) →
+    FollowsUp work play.lines form (record { held = 0; lines = 1; world = first; left = events }) old new outcome →
+    (shelf : Kept) (input : Left) →
+    Goes (IsFollowedPlay work play form events) (outside shelf old input) (outside shelf new input) outcome
+run_follows work play form events first is_first old new outcome up shelf input =
+    Ran (followed (by_worlds work play.lines) form 0 1 first events)
+    (record { first = first; is_first = is_first; course_is = refl }) (up shelf input)
 
-  -- it says none
-  pub run_faulty : (fault : Fault) → NotRead text fault → (w : Outside) →
+-- ---- a task that goes one of some ways
+-- what is left of a course is left of a task that may go so
+pub task_goes : (work : Work) (task : Task) (is_course : Course → Type 0) →
+    ((course : Course) → is_course course → IsPlayed work task course) → (old new : Outside) (outcome : Option Fault) →
+    Goes is_course old new outcome → Leaves (IsPlayed work) (Runs task follows) old new outcome
+task_goes work task is_course may old new outcome (Ran course is leaves) =
+    Ran course (may course is) (unplayed (IsPlayed work) (follows course) old new outcome leaves)
+task_goes work task is_course may old new outcome (WantsAtRun wants) = WantsAtRun wants
+
+-- and so of a course that goes one of others
+pub goes_so : (is_course others : Course → Type 0) → ((course : Course) → is_course course → others course) →
+    (old new : Outside) (outcome : Option Fault) → Goes is_course old new outcome → Goes others old new outcome
+goes_so is_course others may old new outcome (Ran course is leaves) = Ran course (may course is) leaves
+goes_so is_course others may old new outcome (WantsAtRun wants) = WantsAtRun wants
+
+-- ---- a text of some form
+module _ (work : Work) (play : ℕ → Play) (text : List ℕ) where
+  abbrev Told : ℕ → Form → List Event → Course → Type 0
+  Told machines form events = IsFollowedPlay work (play machines) form events
+
+  -- it says machines and events in form 1 or 2
+  pub text_follows : (machines : ℕ) (events : List Event) (says : Says text machines events) (form : Form) →
+      form ≡ says.form → (old new : Outside) (outcome : Option Fault) →
+      Goes (Told machines form events) old new outcome →
+      Leaves (IsPlayed work) (Runs (Followed play text) follows) old new outcome
+  text_follows machines events says form is_form old new outcome goes =
+      task_goes work (Followed play text) (Told machines form events)
+      (λ course is. ByEvents (λ none. no_fault text machines events says Header (λ e. cc) none)
+      (Tells machines events says (subst (λ (f : Form). Told machines f events course) is_form is))) old new outcome goes
+
+  -- it has no first line of them
+  pub text_linked : HasNoHeader text → (old new : Outside) (outcome : Option Fault) →
+      Goes (ByLinkText text (λ machines events. IsLinkedPlay work (play machines) events)) old new outcome →
+      Leaves (IsPlayed work) (Runs (Followed play text) follows) old new outcome
+  text_linked none old new outcome goes =
+      task_goes work (Followed play text) (ByLinkText text (λ machines events. IsLinkedPlay work (play machines) events))
+      (λ course is. ByLinks none is) old new outcome goes
+
+  -- it has another fault in form 1 or 2
+  pub text_faulty : (fault : Fault) → fault ≢ BadHeader → NotRead text fault → (w : Outside) →
       Leaves (IsPlayed work) (Runs (Followed play text) follows) w w (Some fault)
-  run_faulty fault (BadText why real gives is) w = Ran _ (IsFaulty why real gives refl)
+  text_faulty fault other (BadText why real gives is) w =
+      Ran _ (ByEvents (λ none. other (is ∙ ap text_fault (has_one_fault text why Header real (λ e. cc) gives none)))
+      (IsFaulty why real gives refl))
       (Refused (record { same = refl; fault_is = ap Some is }))
-  run_faulty fault (WantsToRead is) w = WantsAtRun (record { same = refl; memory = ap Some is })
+  text_faulty fault other (WantsToRead is) w = WantsAtRun (record { same = refl; memory = ap Some is })
+
+-- ---- a text of form 3
+pub are_link_machines : (text : List ℕ) (machines : ℕ) (events : List LinkEvent) → SaysLinks text machines events →
+    AreMachines machines
+are_link_machines text machines events says = (says.is.some, says.is.few)
+
+module _ (work : Work) (play : ℕ → Play) (text : List ℕ) where
+  abbrev Linked : ℕ → List LinkEvent → Course → Type 0
+  Linked machines events = IsLinkedPlay work (play machines) events
+
+  pub links_follow : (machines : ℕ) (events : List LinkEvent) → SaysLinks text machines events →
+      (old new : Outside) (outcome : Option Fault) → Goes (Linked machines events) old new outcome →
+      Goes (ByLinkText text Linked) old new outcome
+  links_follow machines events says old new outcome goes =
+      goes_so (Linked machines events) (ByLinkText text Linked) (λ course is. TellsLinks machines events says is) old new
+      outcome goes
+
+  pub links_faulty : (fault : Fault) → NoLinksRead text fault → (w : Outside) →
+      Goes (ByLinkText text Linked) w w (Some fault)
+  links_faulty fault (BadLinkText why real gives is) w = Ran _ (LinksAreFaulty why real gives refl)
+      (Refused (record { same = refl; fault_is = ap Some is }))
+  links_faulty fault (WantsToReadLinks is) w = WantsAtRun (record { same = refl; memory = ap Some is })

@@ -26,14 +26,19 @@
 -- the answer of `free` from what the order leaves; ResultLaws hands facts of results on.
 pub mod ContinuedLaws
 pub mod CoreRuns
+pub mod CoreTasks
 pub mod CourseShapes
 pub mod FollowLaws
+pub mod FormTasks
 pub mod HeadLaws
 pub mod ImageLaws
 pub mod ImagedRuns
 pub mod ImagesTold
 pub mod InterruptedLaws
 pub mod LeftImages
+pub mod LinkReplayLaws
+pub mod LinkedCores
+pub mod LinkedTasks
 pub mod PartTasks
 pub mod RecordLaws
 pub mod RenewLaws

@@ -10,6 +10,7 @@ use Rattle.cluster_run.specs.Faults.{lacking, lacks}
 use Rattle.command_steps.specs.Courses.{course_end, course_text}
 use Rattle.command_steps.specs.Notes.{LongSchedule}
 use Rattle.command_steps.specs.Orders.{Course, Fails, Play}
+use Rattle.delivery_log.specs.declared.fault.ScheduleFault.TheVariants.{Header}
 use Rattle.delivery_log.specs.declared.form.Form.{Form}
 use Rattle.delivery_log.specs.declared.form.Form.TheVariants.{Roundless}
 use Rattle.delivery_log.specs.Choosers.{generator_of}
@@ -21,7 +22,7 @@ use Rattle.schedule_laws.specs.Layout.{round_lines}
 use Rattle.symple_face.specs.Cluster.{World, after, all_possible, finished, possible, step}
 use Rattle.symple_face.specs.State.{State}
 use Rattle.symple_face.specs.Work.{Work}
-use Rattle.symple_run.specs.Followed.{IsFaulty, IsFollowed, Tells}
+use Rattle.symple_run.specs.Followed.{ByEvents, ByLinks, ByText, IsFaulty, IsFollowed, IsFollowedPlay, Tells}
 use Rattle.machine_runs.specs.PlainPlays.{IsFirstWorld, log_line}
 use Rattle.symple_run.specs.Recorded.{IsDrawnPlay}
 use Rattle.symple_run.specs.Replays.{GainsTheSame, ReplaysGainTheSame, kept_bytes}
@@ -119,10 +120,12 @@ module _ (work : Work) (sound : State → Type 0) (laws : ChosenWell work sound)
     spelled = all.bytes_are;
   }
 
-  by_text : IsFollowed work (λ machines. record play { machines = machines }) bytes other → GainsTheSame course other
+  by_events : ByText bytes
+      (λ machines form events. IsFollowedPlay work (record play { machines = machines }) form events) other →
+      GainsTheSame course other
   unfolding says
-  by_text (IsFaulty why real gives because) = absurd (no_fault bytes play.machines is.events says why real gives)
-  by_text (Tells machines events told way) =
+  by_events (IsFaulty why real gives because) = absurd (no_fault bytes play.machines is.events says why real gives)
+  by_events (Tells machines events told way) =
       let pair = stands_for_one bytes machines play.machines events is.events told says in
       let form = one_form bytes machines play.machines events is.events told says in
       let same : other ≡ followed (by_worlds work play.lines) Roundless 0 1 is.first is.events =
@@ -137,6 +140,10 @@ module _ (work : Work) (sound : State → Type 0) (laws : ChosenWell work sound)
         text = ap course_text same ∙ all.same ∙ ap course_text (sym is.course_is);
         ends = ap course_end same ∙ all.ends;
       }
+
+  by_text : IsFollowed work (λ machines. record play { machines = machines }) bytes other → GainsTheSame course other
+  by_text (ByEvents some way) = by_events way
+  by_text (ByLinks none way) = absurd (no_fault bytes play.machines is.events says Header (λ e. cc) none)
 
 pub replays_gain_the_same : (work : Work) (sound : State → Type 0) → ChosenWell work sound → ReplaysGainTheSame work
 replays_gain_the_same work sound laws play seed name bytes course other few is each kept =

@@ -1,25 +1,21 @@
--- What is known of recorded and of followed runs as the source's run tells them.
+-- What is known of recorded runs as the source's run tells them.
 use Rattle.std.proofs.Common.{◌≡◌, ◌≢◌, ℕ, List, [], ◌∷◌, length, Option, Some, refl, sym, ap, subst, ◌∙◌}
 use Rattle.std.proofs.lemmas.Bool.{false≢true}
 use Rattle.std.proofs.lemmas.Option.{same_Some}
 use Rattle.circulant_plan.specs.Skeleton.{Skeleton, first_skeleton}
 use Rattle.command_steps.specs.Courses.{TakesNothing}
-use Rattle.command_steps.specs.Notes.{Fault}
-use Rattle.command_steps.specs.Orders.{Course, Fails, Play, Task, follows}
-use Rattle.command_steps.specs.Quiet.{IsQuiet, Spares}
+use Rattle.command_steps.specs.Orders.{Course, Play, Task, follows}
+use Rattle.command_steps.specs.Quiet.{Spares}
 use Rattle.delivery_log.specs.Choosers.{behind_word, generator_of}
-use Rattle.delivery_log.specs.declared.form.Form.{Form}
 use Rattle.machine_runs.specs.SourceTellings.{IsDrawnOrder, by_source}
-use Rattle.machine_runs.specs.Tellings.{followed, recorded}
+use Rattle.machine_runs.specs.Tellings.{recorded}
 use Rattle.machine_runs.proofs.FirstLaws.{parts_same, splits_are_one}
 use Rattle.rand_pcg.specs.Lcg.{Lcg}
 use Rattle.symple_face.specs.Parts.{PlainPart}
 use Rattle.symple_face.specs.Source.{Source, fresh_source, job_of}
-use Rattle.symple_words.specs.declared.line.Lines.{Lines}
-use Rattle.symple_run.specs.SourceSchedules.{IsSourceFollowed, IsSourceRecord, IsSourceReplay}
+use Rattle.symple_run.specs.SourceSchedules.{IsSourceRecord}
 use Rattle.symple_run.specs.SourceTexts.{HasParts, first_order, source_on}
-use Rattle.symple_run.proofs.CourseShapes.{followed_calm, followed_quiet, followed_spares, recorded_calm, recorded_spares}
-use Rattle.symple_run.proofs.TextTasks.{text_holds, text_settles}
+use Rattle.symple_run.proofs.CourseShapes.{recorded_calm, recorded_spares}
 use Rattle.vert_base.specs.declared.message.Event.{Event}
 use Rattle.schedule_laws.specs.OutputText.{next_by}
 
@@ -37,7 +33,7 @@ drawn_one src k g (e ∷ es) (f ∷ fs) a b =
 
 -- the parts of a graph make one run of the source
 module _ (play : Play) (on other : HasParts play) where
-  source_same : source_on play on ≡ source_on play other
+  pub source_same : source_on play on ≡ source_on play other
   source_same =
       let split = splits_are_one on.split other.split (on.program_is ∙ sym other.program_is) in
       let ends = on.of_graph.ends_are ∙ sym other.of_graph.ends_are in
@@ -45,7 +41,7 @@ module _ (play : Play) (on other : HasParts play) where
       let edges = on.of_graph.edges_are ∙ sym other.of_graph.edges_are in
       (λ i. fresh_source (job_of (split i) (ends i) (draws i) (edges i)) (split i))
 
-  order_same : first_order play on ≡ first_order play other
+  pub order_same : first_order play on ≡ first_order play other
   order_same = ap (λ (parts : List PlainPart). first_skeleton (length parts))
       (parts_same play.machines play.draws play.graph on.parts other.parts on.of_graph other.of_graph)
 
@@ -74,38 +70,3 @@ module _ (play : Play) (seed : ℕ) (name : List ℕ) where
       subst (λ c. Spares courses other (follows c)) (sym is.course_is)
       (recorded_spares (by_source play.lines (source_on play is.on)) name play.machines courses other apart []
       (first_order play is.on) is.events)
-
--- ---- followed runs
-module _ (play : ℕ → Play) (text : List ℕ) where
-  pub replay_same : (course other : Course) → IsSourceReplay play text course → IsSourceReplay play text other →
-      course ≡ other
-  replay_same course other is also =
-      text_settles text _ (λ machines form events a b one two.
-      let p = play machines in
-      let src = source_same p one.on two.on in
-      let k = order_same p one.on two.on in
-      one.course_is ∙ (λ i. followed (by_source p.lines (src i)) form 0 1 (k i) events) ∙ sym two.course_is)
-      course other is also
-
-  holds : (P : Course → Type 0) → ((fault : Fault) → P (Fails fault)) →
-      ((lines : Lines) (src : Source) (k : Skeleton) (form : Form) (events : List Event) →
-      P (followed (by_source lines src) form 0 1 k events)) →
-      (course : Course) → IsSourceReplay play text course → P course
-  holds P fails each course is =
-      text_holds text _ P fails (λ machines form events c one. subst P (sym one.course_is)
-      (each (play machines).lines (source_on (play machines) one.on) (first_order (play machines) one.on) form events))
-      course is
-
-  pub replay_calm : (course : Course) → IsSourceReplay play text course → TakesNothing course
-  replay_calm course is = holds TakesNothing (λ fault. tt)
-      (λ lines src k form events. followed_calm (by_source lines src) form 0 1 k events) course is
-
-  pub replay_spares : (courses : Task → Course → Type 0) (other : List ℕ) (course : Course) →
-      IsSourceReplay play text course → Spares courses other (follows course)
-  replay_spares courses other course is = holds (λ c. Spares courses other (follows c)) (λ fault. tt)
-      (λ lines src k form events. followed_spares (by_source lines src) form courses other 0 1 k events) course is
-
-  pub replay_quiet : (courses : Task → Course → Type 0) (course : Course) → IsSourceReplay play text course →
-      IsQuiet courses (follows course)
-  replay_quiet courses course is = holds (λ c. IsQuiet courses (follows c)) (λ fault. tt)
-      (λ lines src k form events. followed_quiet (by_source lines src) form courses 0 1 k events) course is

@@ -14,8 +14,9 @@ use Rattle.symple_face.specs.Work.{Work}
 use Rattle.part_runs.proofs.CourseLaws.{parted_calm, parted_quiet, parted_same, parted_spares, serving_spares}
 use Rattle.symple_run.specs.SourceSchedules.{IsSourceReplay}
 use Rattle.symple_run.proofs.CourseShapes.{same_alike}
-use Rattle.symple_run.proofs.SourceTasks.{record_calm, record_same, record_spares, replay_calm, replay_quiet, replay_same, replay_spares}
-use Rattle.symple_run.proofs.TextTasks.{drawn_calm, drawn_same, drawn_spares, follow_calm, follow_quiet, follow_spares, followed_same, renew_calm, renew_spares, renewed_same}
+use Rattle.symple_run.proofs.LinkedTasks.{follow_calm, follow_quiet, follow_spares, followed_same, lossy_calm, lossy_same, lossy_spares, replay_calm, replay_quiet, replay_same, replay_spares, source_lossy_calm, source_lossy_same, source_lossy_spares}
+use Rattle.symple_run.proofs.SourceTasks.{record_calm, record_same, record_spares}
+use Rattle.symple_run.proofs.TextTasks.{drawn_calm, drawn_same, drawn_spares, renew_calm, renew_spares, renewed_same}
 use Rattle.symple_run.specs.Played.{IsPlayed}
 use Rattle.symple_run.specs.SourceRuns.{IsPrinted, IsSourcePlay, IsSourceRun}
 use Rattle.symple_run.specs.KeptImages.{StoresImages}
@@ -118,7 +119,9 @@ module _ (work : Work) where
   played_must (Drawn play seed schedule) files input outcome (course, is, comes) = λ other same.
       same_alike (IsPlayed work) course other
       (drawn_same work play seed schedule course other is same) (drawn_calm work play seed schedule course is) files input outcome comes
-  played_must (DrawnLossy play seed schedule) files input outcome (course, is, comes) = absurd is
+  played_must (DrawnLossy play seed schedule) files input outcome (course, is, comes) = λ other same.
+      same_alike (IsPlayed work) course other
+      (lossy_same work play seed schedule course other is same) (lossy_calm work play seed schedule course is) files input outcome comes
   played_must (Followed play schedule) files input outcome (course, is, comes) = λ other same.
       same_alike (IsPlayed work) course other
       (followed_same work play schedule course other is same) (follow_calm work play schedule course is) files input outcome comes
@@ -141,7 +144,8 @@ module _ (work : Work) where
   played_spares (Resumed play origin even odd) course is = λ name none. printed_spares (IsPlayed work) name course (resumed_printed work play origin even odd course is)
   played_spares (Drawn play seed schedule) course is = λ name none.
       drawn_spares work (IsPlayed work) play seed schedule name none.0 course is
-  played_spares (DrawnLossy play seed schedule) course is = absurd is
+  played_spares (DrawnLossy play seed schedule) course is = λ name none.
+      lossy_spares work play seed schedule (IsPlayed work) name none.0 course is
   played_spares (Followed play schedule) course is = λ name none.
       follow_spares work play schedule (IsPlayed work) name course is
   played_spares (Shown seed machines) course is = λ name none.
@@ -159,7 +163,7 @@ module _ (work : Work) where
   played_quiet (Imaged play origin image) course is = λ none. cc
   played_quiet (Resumed play origin even odd) course is = λ none. printed_quiet (IsPlayed work) course (resumed_printed work play origin even odd course is)
   played_quiet (Drawn play seed schedule) course is = λ none. absurd (no_names schedule none)
-  played_quiet (DrawnLossy play seed schedule) course is = absurd is
+  played_quiet (DrawnLossy play seed schedule) course is = λ none. absurd (no_names schedule none)
   played_quiet (Followed play schedule) course is = λ none. follow_quiet work play schedule (IsPlayed work) course is
   played_quiet (Shown seed machines) course is = λ none.
       printed_quiet (IsPlayed work) course (show_printed work seed machines course is)
@@ -183,7 +187,10 @@ told_must (Drawn play seed schedule) files input outcome (course, is, comes) = �
     same_alike IsSourceRun course other
     (record_same play seed schedule course other is same) (record_calm play seed schedule course is)
     files input outcome comes
-told_must (DrawnLossy play seed schedule) files input outcome (course, is, comes) = absurd is
+told_must (DrawnLossy play seed schedule) files input outcome (course, is, comes) = λ other same.
+    same_alike IsSourceRun course other
+    (source_lossy_same play seed schedule course other is same) (source_lossy_calm play seed schedule course is)
+    files input outcome comes
 told_must (Followed play schedule) files input outcome (course, is, comes) = λ other same.
     same_alike IsSourceRun course other
     (replay_same play schedule course other is same) (replay_calm play schedule course is) files input outcome comes
@@ -206,7 +213,8 @@ told_spares (Imaged play origin image) course is = λ name none. stores_spares i
 told_spares (Resumed play origin even odd) course is = λ name none. printed_spares IsSourceRun name course is.printed
 told_spares (Drawn play seed schedule) course is = λ name none.
     record_spares play seed schedule IsSourceRun name none.0 course is
-told_spares (DrawnLossy play seed schedule) course is = absurd is
+told_spares (DrawnLossy play seed schedule) course is = λ name none.
+    source_lossy_spares play seed schedule IsSourceRun name none.0 course is
 told_spares (Followed play schedule) course is = λ name none.
     replay_spares play schedule IsSourceRun name course is
 told_spares (Shown seed machines) course is = λ name none.
@@ -224,7 +232,7 @@ told_quiet (Plain play) course is = λ none. printed_quiet IsSourceRun course (s
 told_quiet (Imaged play origin image) course is = λ none. cc
 told_quiet (Resumed play origin even odd) course is = λ none. printed_quiet IsSourceRun course is.printed
 told_quiet (Drawn play seed schedule) course is = λ none. absurd (no_names schedule none)
-told_quiet (DrawnLossy play seed schedule) course is = absurd is
+told_quiet (DrawnLossy play seed schedule) course is = λ none. absurd (no_names schedule none)
 told_quiet (Followed play schedule) course is = λ none.
     replay_quiet play schedule IsSourceRun course is
 told_quiet (Shown seed machines) course is = λ none.

@@ -3,7 +3,7 @@ use Rattle.std.proofs.Common.{◌≡◌, ◌≢◌, ℕ, List, [], ◌∷◌, �
 use Rattle.command_steps.specs.Courses.{TakesNothing}
 use Rattle.command_steps.specs.Notes.{Fault}
 use Rattle.command_steps.specs.Orders.{Course, Fails, Play, Task, follows}
-use Rattle.command_steps.specs.Quiet.{IsQuiet, Spares}
+use Rattle.command_steps.specs.Quiet.{Spares}
 use Rattle.delivery_log.specs.declared.fault.ScheduleFault.{ScheduleFault}
 use Rattle.delivery_log.specs.declared.fault.ScheduleFault.TheVariants.{Header, Line, TooLong, Want}
 use Rattle.delivery_log.specs.declared.form.Form.{Form}
@@ -14,10 +14,10 @@ use Rattle.delivery_log.proofs.DrawnLaws.{drawn_is_one}
 use Rattle.delivery_log.proofs.PairLaws.{has_one_fault, one_header, reads_back, stands_for_one}
 use Rattle.symple_face.specs.Cluster.{World}
 use Rattle.symple_face.specs.Work.{Work}
-use Rattle.symple_run.specs.Followed.{ByText, IsFaulty, IsFollowed, IsFollowedPlay, IsRenewed, Tells, renewed, text_fault}
+use Rattle.symple_run.specs.Followed.{ByText, IsFaulty, IsRenewed, Tells, renewed, text_fault}
 use Rattle.symple_run.specs.Recorded.{IsDrawnPlay}
-use Rattle.machine_runs.specs.Tellings.{by_worlds, followed, recorded}
-use Rattle.symple_run.proofs.CourseShapes.{followed_calm, followed_quiet, followed_spares, recorded_calm, recorded_spares, renewed_calm, renewed_spares}
+use Rattle.machine_runs.specs.Tellings.{by_worlds, recorded}
+use Rattle.symple_run.proofs.CourseShapes.{recorded_calm, recorded_spares, renewed_calm, renewed_spares}
 use Rattle.machine_runs.proofs.FirstLaws.{first_same}
 use Rattle.vert_base.specs.declared.message.Event.{Event}
 
@@ -106,38 +106,3 @@ module _ (work : Work) where
   drawn_spares courses play seed name other apart course is =
       subst (λ c. Spares courses other (follows c)) (sym is.course_is)
       (recorded_spares (by_worlds work play.lines) name play.machines courses other apart [] is.first is.events)
-
-  module _ (play : ℕ → Play) (text : List ℕ) where
-    pub followed_same : (course other : Course) → IsFollowed work play text course → IsFollowed work play text other →
-        course ≡ other
-    followed_same course other is also =
-        text_settles text _ (λ machines form events a b one two.
-        let p = play machines in
-        one.course_is
-        ∙ ap (λ (w : World). followed (by_worlds work p.lines) form 0 1 w events)
-        (first_same work p.program p.graph p.machines p.draws one.first two.first one.is_first two.is_first)
-        ∙ sym two.course_is) course other is also
-
-    holds : (P : Course → Type 0) → ((fault : Fault) → P (Fails fault)) →
-        ((machines : ℕ) (form : Form) (events : List Event) (w : World) →
-        P (followed (by_worlds work (play machines).lines) form 0 1 w events)) →
-        (course : Course) → IsFollowed work play text course → P course
-    holds P fails each course is =
-        text_holds text _ P fails (λ machines form events c one.
-        subst P (sym one.course_is) (each machines form events one.first)) course is
-
-    pub follow_calm : (course : Course) → IsFollowed work play text course → TakesNothing course
-    follow_calm course is = holds TakesNothing (λ fault. tt)
-        (λ machines form events w. followed_calm (by_worlds work (play machines).lines) form 0 1 w events) course is
-
-    pub follow_spares : (courses : Task → Course → Type 0) (other : List ℕ) (course : Course) →
-        IsFollowed work play text course → Spares courses other (follows course)
-    follow_spares courses other course is = holds (λ c. Spares courses other (follows c)) (λ fault. tt)
-        (λ machines form events w.
-        followed_spares (by_worlds work (play machines).lines) form courses other 0 1 w events) course is
-
-    pub follow_quiet : (courses : Task → Course → Type 0) (course : Course) → IsFollowed work play text course →
-        IsQuiet courses (follows course)
-    follow_quiet courses course is = holds (λ c. IsQuiet courses (follows c)) (λ fault. tt)
-        (λ machines form events w. followed_quiet (by_worlds work (play machines).lines) form courses 0 1 w events)
-        course is

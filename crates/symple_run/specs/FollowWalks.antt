@@ -8,7 +8,7 @@ use Rattle.command_steps.specs.States.{Held, Kept, Left, Outside, outside}
 use Rattle.delivery_log.specs.declared.form.Form.{Form}
 use Rattle.symple_face.specs.Cluster.{World}
 use Rattle.symple_face.specs.Work.{Work}
-use Rattle.machine_runs.specs.Tellings.{by_worlds, followed, told_end, told_event, unless_lacking, unless_refused, why_of}
+use Rattle.machine_runs.specs.Tellings.{by_worlds, followed, told_event, unless_refused, why_of}
 use Rattle.symple_words.specs.declared.line.Lines.{Lines}
 use Rattle.vert_base.specs.declared.message.Event.{Event}
 
@@ -53,10 +53,3 @@ abbrev pub FollowsUp : Work → Lines → Form → Place → Held → Held → O
 FollowsUp work lines form at old new outcome =
     (shelf : Kept) (input : Left) →
     Leaves NoTask (follows (course_at work lines form at)) (outside shelf old input) (outside shelf new input) outcome
-
--- the end of a followed run: what it lacks, or the table
-abbrev pub EndsListed : Work → Lines → World → Held → Held → Option Fault → Type 0
-EndsListed work lines w old new outcome =
-    (shelf : Kept) (input : Left) →
-    Leaves NoTask (follows (unless_lacking ((by_worlds work lines).lacks w) (told_end (by_worlds work lines) w)))
-    (outside shelf old input) (outside shelf new input) outcome

@@ -6,8 +6,13 @@ use Rattle.delivery_log.specs.declared.fault.ScheduleFault.{ScheduleFault}
 use Rattle.delivery_log.specs.declared.fault.ScheduleFault.TheVariants.{Header, Line, TooLong, Want}
 use Rattle.delivery_log.specs.declared.form.Form.{Form}
 use Rattle.delivery_log.specs.declared.form.Form.TheVariants.{Roundless}
-use Rattle.delivery_log.specs.Says.{Gives, Says}
+use Rattle.delivery_log.specs.Says.{Gives, HasNoHeader, Says}
 use Rattle.delivery_log.specs.ScheduleTexts.{schedule_text}
+use Rattle.link_core.specs.declared.event.LinkEvent.{LinkEvent}
+use Rattle.link_core.specs.declared.fault.LinkTextFault.{LinkTextFault}
+use Rattle.link_core.specs.declared.fault.LinkTextFault.TheVariants as link
+use Rattle.link_core.specs.LinkSays.{GivesLinks, SaysLinks}
+use Rattle.link_runs.specs.LinkedPlays.{IsLinkedPlay}
 use Rattle.symple_face.specs.Cluster.{World}
 use Rattle.symple_face.specs.Work.{Work}
 use Rattle.machine_runs.specs.PlainPlays.{IsFirstWorld}
@@ -29,6 +34,26 @@ pub data ByText (text : List ℕ) (told : ℕ → Form → List Event → Course
   IsFaulty : (why : ScheduleFault) → why ≢ Want → Gives text (Err why) → course ≡ Fails (text_fault why) →
       ByText text told course
 
+-- the same of a text of form 3
+abbrev pub link_text_fault : LinkTextFault → Fault
+link_text_fault link.TooLong = LongSchedule
+link_text_fault link.Header = BadHeader
+link_text_fault (link.Line number) = BadEventLine number
+link_text_fault link.Want = NoMemory
+
+-- A text of form 3 is judged first: it tells machines and events over links, or it has a fault.
+pub data ByLinkText (text : List ℕ) (told : ℕ → List LinkEvent → Course → Type 0) (course : Course) : Type 0 where
+  TellsLinks : (machines : ℕ) (events : List LinkEvent) → SaysLinks text machines events →
+      told machines events course → ByLinkText text told course
+  LinksAreFaulty : (why : LinkTextFault) → why ≢ link.Want → GivesLinks text (Err why) →
+      course ≡ Fails (link_text_fault why) → ByLinkText text told course
+
+-- The first line says the form: a text with none of forms 1 and 2 is judged as one of form 3.
+pub data ByEachForm (text : List ℕ) (told : ℕ → Form → List Event → Course → Type 0)
+    (linked : ℕ → List LinkEvent → Course → Type 0) (course : Course) : Type 0 where
+  ByEvents : ¬ (HasNoHeader text) → ByText text told course → ByEachForm text told linked course
+  ByLinks : HasNoHeader text → ByLinkText text linked course → ByEachForm text told linked course
+
 -- The events are played one by one, behind the first line, as far as they can happen.
 pub record IsFollowedPlay (work : Work) (play : Play) (form : Form) (events : List Event) (course : Course) : Type 0
   where
@@ -38,7 +63,8 @@ pub record IsFollowedPlay (work : Work) (play : Play) (form : Form) (events : Li
 
 abbrev pub IsFollowed : Work → (ℕ → Play) → List ℕ → Course → Type 0
 IsFollowed work play text course =
-    ByText text (λ machines form events. IsFollowedPlay work (play machines) form events) course
+    ByEachForm text (λ machines form events. IsFollowedPlay work (play machines) form events)
+    (λ machines events. IsLinkedPlay work (play machines) events) course
 
 -- the text of form 2 of the same machines and events is kept, if it stays within its limit
 abbrev pub renewed : List ℕ → ℕ → List Event → Course

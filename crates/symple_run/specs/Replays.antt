@@ -4,6 +4,8 @@ use Rattle.std.specs.List.{AllByRecursion}
 use Rattle.command_steps.specs.Courses.{course_end, course_text}
 use Rattle.command_steps.specs.Orders.{Course, Fails, IsOver, Keeps, Play, Prints, Takes}
 use Rattle.delivery_log.specs.ScheduleTexts.{IsEvent}
+use Rattle.link_core.specs.LinkTexts.{IsLinkEvent}
+use Rattle.link_runs.specs.LinkedPlays.{IsLossyPlay}
 use Rattle.symple_face.specs.Work.{Work}
 use Rattle.symple_run.specs.Followed.{IsFollowed}
 use Rattle.symple_run.specs.Recorded.{IsDrawnPlay}
@@ -27,5 +29,13 @@ abbrev pub ReplaysGainTheSame : Work → Type 0
 ReplaysGainTheSame work =
     (play : Play) (seed : ℕ) (name bytes : List ℕ) (course other : Course) → AreMachines play.machines →
     (is : IsDrawnPlay work play seed name course) → AllByRecursion IsEvent is.events →
+    kept_bytes course ≡ Some bytes → IsFollowed work (λ machines. record play { machines = machines }) bytes other →
+    GainsTheSame course other
+
+-- and so is what a recorded run over links kept
+abbrev pub LinkReplaysGainTheSame : Work → Type 0
+LinkReplaysGainTheSame work =
+    (play : Play) (seed : ℕ) (name bytes : List ℕ) (course other : Course) →
+    (is : IsLossyPlay work play seed name course) → AllByRecursion IsLinkEvent is.events →
     kept_bytes course ≡ Some bytes → IsFollowed work (λ machines. record play { machines = machines }) bytes other →
     GainsTheSame course other

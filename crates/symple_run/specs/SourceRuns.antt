@@ -9,7 +9,7 @@ use Rattle.command_steps.specs.Orders.{Course, Drawn, DrawnLossy, Fails, Followe
 use Rattle.part_runs.specs.Parting.{IsParted}
 use Rattle.part_runs.specs.Serving.{IsServing}
 use Rattle.symple_run.specs.Followed.{IsRenewed}
-use Rattle.symple_run.specs.SourceSchedules.{IsSourceRecord, IsSourceReplay}
+use Rattle.symple_run.specs.SourceSchedules.{IsSourceLossy, IsSourceRecord, IsSourceReplay}
 use Rattle.symple_run.specs.Shows.{IsSourceShow}
 use Rattle.symple_run.specs.SourceTexts.{HasParts, first_order, job_of, later_order, play_text, source_from, source_on}
 use Rattle.symple_run.specs.KeptImages.{StoresImages, key_for}
@@ -78,7 +78,7 @@ IsSourceRun (Plain play) course = IsSourcePlay play course
 IsSourceRun (Imaged play origin image) course = IsSourceImaged play origin image course
 IsSourceRun (Resumed play origin even odd) course = IsSourceResumed play origin even odd course
 IsSourceRun (Drawn play seed schedule) course = IsSourceRecord play seed schedule course
-IsSourceRun (DrawnLossy play seed schedule) course = ⊥
+IsSourceRun (DrawnLossy play seed schedule) course = IsSourceLossy play seed schedule course
 IsSourceRun (Followed play schedule) course = IsSourceReplay play schedule course
 IsSourceRun (Shown seed machines) course = IsSourceShow seed machines course
 IsSourceRun (Renewed schedule target) course = IsRenewed schedule target course

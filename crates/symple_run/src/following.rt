@@ -1,28 +1,28 @@
 // `replay`: the events of a schedule are played one by one, as far as they can happen.
 ghost use Rattle.std.specs.Prelude.{◌≡◌, ◌≤◌, ◌<◌, ◌+◌, ◌^◌, [], ◌∷◌, IfErr, OnOk, None, Some, false, length};
-ghost use Rattle.cluster_run.specs.Faults.{fault_of as event_fault};
-ghost use Rattle.cluster_run.specs.declared.fault.EventFault.TheVariants.{Want};
 ghost use Rattle.command_steps.specs.Commands.{play_of, replay_order};
 ghost use Rattle.command_steps.specs.Faults.{fault_of};
 ghost use Rattle.command_steps.specs.Orders.{Followed};
-ghost use Rattle.command_steps.specs.States.{sink_state};
+ghost use Rattle.command_steps.specs.States.{Kept, Left, outside, sink_state};
 ghost use Rattle.command_steps.specs.Walks.{Performs, fault_after};
 ghost use Rattle.delivery_log.specs.ScheduleTexts.{events_lines};
 ghost use Rattle.edge_reader.specs.Gives.{graph_of_edges};
+ghost use Rattle.link_runs.specs.LinkedPlays.{Goes, IsLinkedPlay};
 ghost use Rattle.symple_face.specs.Cluster.{step};
-ghost use Rattle.symple_run.specs.FollowWalks.{EndsListed, FollowsTo, FollowsUp, PlaysListed, StopsListed};
+ghost use Rattle.symple_run.specs.Followed.{ByLinkText, IsFollowedPlay};
+ghost use Rattle.symple_run.specs.FollowWalks.{FollowsTo, FollowsUp, PlaysListed, StopsListed};
 ghost use Rattle.symple_run.specs.Played.{IsPlayed};
 ghost use Rattle.symple_run.specs.RunWalks.{DoesTask};
-ghost use Rattle.machine_runs.specs.Tellings.{why_of};
-ghost use Rattle.symple_words.specs.Ranges.{IsGraphForm};
+ghost use Rattle.symple_words.specs.Ranges.{AreMachines, IsGraphForm};
 ghost use Rattle.symple_words.specs.Views.{job_view};
 
-use crate::schedules::{judged, load_schedule};
-use cluster_run::{Cluster, EventFault, Missing};
-use command_steps::{Failure, Impossible, load_both};
-use delivery_log::{Form, form_of, lines_of, round_after};
+use crate::schedules::{judged_links, load_schedule, told_events};
+use cluster_run::{Cluster, EventFault};
+use command_steps::{Failure, load_both};
+use delivery_log::{Form, Schedule, form_of, lines_of, round_after};
 use edge_reader::Edges;
-use machine_runs::{play_event, put_table, started};
+use link_runs::follow_links;
+use machine_runs::{play_event, put_end, started, why_of};
 use outside::{Shelf, Sink};
 use std::alloc::Global;
 use symple_face::Site;
@@ -64,11 +64,55 @@ fn follow<S: Site, O: Sink>(
         (sink_state O.held O.faults O.spare out.old)
         (sink_state O.held O.faults O.spare out.new) result }
 {
-    let schedule = judged(alloc, text)?;
-    let form = form_of(text);
+    match told_events(alloc, text) {
+        Ok(Some(schedule)) => {
+            follow_schedule::<S, O>(alloc, job, form_of(text), &schedule, typed, edges, out)
+        }
+        Ok(None) => follow_over_links::<S, O>(alloc, job, text, typed, edges, out),
+        Err(failure) => Err(failure),
+    }
+}
+
+/// Plays the events of a text of form 1 or 2.
+fn follow_schedule<S: Site, O: Sink>(
+    alloc: Global,
+    job: &Job,
+    form: Form,
+    schedule: &Schedule,
+    typed: Typed,
+    edges: Edges,
+    out: &mut O,
+) -> Result<(), Failure>
+    requires few { AreMachines schedule.now.machines }
+    requires short { 1 + length (events_lines form 0 schedule.now.events.items) < 2 ^ 32 }
+    ensures { (shelf : Kept) (input : Left) → Goes (IsFollowedPlay S.work
+        (play_of (job_view job.now) schedule.now.machines typed.program (graph_of_edges edges))
+        form schedule.now.events.items)
+        (outside shelf (sink_state O.held O.faults O.spare out.old) input)
+        (outside shelf (sink_state O.held O.faults O.spare out.new) input) (fault_after result) }
+{
     let mut cluster = started::<S>(alloc, typed, edges, schedule.machines, job.draws)?;
     follow_events(&mut cluster, form, &schedule.events, &job.lines, out)?;
     put_end(&cluster, out)
+}
+
+/// Judges a text as one of form 3, and then plays its events over links.
+fn follow_over_links<S: Site, O: Sink>(
+    alloc: Global,
+    job: &Job,
+    text: &[u8],
+    typed: Typed,
+    edges: Edges,
+    out: &mut O,
+) -> Result<(), Failure>
+    ensures { (shelf : Kept) (input : Left) → Goes (ByLinkText text.now (λ machines events.
+        IsLinkedPlay S.work (play_of (job_view job.now) machines typed.program
+        (graph_of_edges edges)) events))
+        (outside shelf (sink_state O.held O.faults O.spare out.old) input)
+        (outside shelf (sink_state O.held O.faults O.spare out.new) input) (fault_after result) }
+{
+    let schedule = judged_links(alloc, text)?;
+    follow_links::<S, O>(alloc, job, &schedule, typed, edges, out)
 }
 
 /// Plays events that a text of a form tells behind its first line.
@@ -131,39 +175,5 @@ fn follow_event<S: Site, O: Sink>(
             line,
             why: why_of(event, fault),
         }),
-    }
-}
-
-/// Why an event can't happen.
-fn why_of(event: &Event, fault: EventFault) -> Impossible
-    ensures { result ≡ why_of event.now fault }
-{
-    match (event, fault) {
-        (Event::Go(machine), EventFault::NoMachine) => Impossible::NoMachine(*machine),
-        (Event::Go(machine), EventFault::Waits(name)) => Impossible::Waits {
-            machine: *machine,
-            name,
-        },
-        (Event::Go(machine), EventFault::MachineOver) => Impossible::MachineOver(*machine),
-        (Event::Go(_), _) => Impossible::RunOver,
-        (Event::Take(_), EventFault::RunOver) => Impossible::RunOver,
-        (Event::Take(name), _) => Impossible::NotUnderWay(*name),
-    }
-}
-
-/// Puts the table, if nothing is missing until the end.
-fn put_end<S: Site, O: Sink>(cluster: &Cluster<S, MACHINES>, out: &mut O) -> Result<(), Failure>
-    requires on { cluster.now.ended ≡ false }
-    ensures { (lines : _) → EndsListed S.work lines cluster.now.world
-        (sink_state O.held O.faults O.spare out.old)
-        (sink_state O.held O.faults O.spare out.new) (fault_after result) }
-{
-    match cluster.missing() {
-        Some(Missing::Taken(name)) => Err(Failure::NotTaken(name)),
-        Some(Missing::Gone(machine)) => Err(Failure::NotGone(machine)),
-        None => {
-            put_table(cluster, out)?;
-            Ok(())
-        }
     }
 }

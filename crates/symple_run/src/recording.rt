@@ -1,6 +1,6 @@
-// `record` and `renew`: the events of a run, or of a schedule, are kept as text of form 2.
+// `record` and `renew`: the events of a run, or of a schedule, are kept as text of form 2, those over links of form 3.
 ghost use Rattle.std.specs.Prelude.{◌≡◌, ◌≤◌, ◌<◌, ◌⊎◌, ◌++◌, [], ◌∷◌, ℕ, List, IfErr, OnOk, false, length, true};
-ghost use Rattle.command_steps.specs.Commands.{play_of, record_order, renew_order};
+ghost use Rattle.command_steps.specs.Commands.{lossy_order, play_of, record_order, renew_order};
 ghost use Rattle.command_steps.specs.Faults.{fault_of};
 ghost use Rattle.command_steps.specs.Leaves.{Leaves};
 ghost use Rattle.command_steps.specs.Notes.{LongSchedule, NoMemory};
@@ -27,6 +27,7 @@ use cluster_run::Cluster;
 use command_steps::{Failure, load_both, store_file};
 use delivery_log::{Chooser, RecordFault, Recorder, chosen_runs_are_complete};
 use edge_reader::Edges;
+use link_runs::record_lossy;
 use machine_runs::{play_event, put_table, started};
 use outside::{Shelf, Sink};
 use std::alloc::Global;
@@ -55,6 +56,27 @@ pub(crate) fn record<S: Site, H: Shelf, O: Sink>(
 {
     let read = load_both(alloc, shelf, &job.program, &job.form, &job.graph)?;
     play_drawn::<S, H, O>(alloc, job, schedule, machines, seed, read, shelf, out)
+}
+
+/// The same over links that lose and repeat.
+pub(crate) fn record_over_links<S: Site, H: Shelf, O: Sink>(
+    alloc: Global,
+    job: &Job,
+    schedule: &str,
+    machines: u8,
+    seed: u64,
+    shelf: &mut H,
+    out: &mut O,
+) -> Result<(), Failure>
+    requires form { IsGraphForm job.now.form }
+    requires few { AreMachines machines }
+    ensures order { Performs H.files H.loads H.stores O.held O.faults O.spare
+        (IsPlayed S.work) (lossy_order (job_view job.now) schedule.now machines seed)
+        shelf.old shelf.new out.old out.new result }
+    ensures later { H.loads shelf.old ≤ H.loads shelf.new }
+{
+    let read = load_both(alloc, shelf, &job.program, &job.form, &job.graph)?;
+    record_lossy::<S, H, O>(alloc, job, schedule, machines, seed, read, shelf, out)
 }
 
 /// Plays the events that a seed draws on machines of the graph, keeps their text, and puts the table.

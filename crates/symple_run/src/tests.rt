@@ -1,6 +1,7 @@
 ghost use Rattle.std.specs.Prelude.{◌<◌};
 
 mod demos;
+mod links;
 mod real;
 mod rows;
 mod shows;
@@ -352,4 +353,57 @@ fn logs_of_events(rt: HostRuntime) -> Result<(), Fail> {
         }
     }
     Ok(())
+}
+
+/// A shelf with a program whose limit is 0, its graph, and a schedule.
+fn scheduled(rt: &impl Abort, alloc: Global, schedule: &str) -> Result<MemShelf, Fail> {
+    let text = program(alloc, "first0")?;
+    let mut shelf = shelf(rt, alloc, &text, DIAMOND.as_bytes(), Vec::new(alloc))?;
+    assert_eq!(rt; shelf.store("s", schedule.as_bytes()), Ok(()));
+    Ok(shelf)
+}
+
+/// What `record --lossy` stored is of form 3, and is replayed to the same bytes.
+fn check_lossy(rt: &impl Abort, alloc: Global, line: &str, table: &str) -> Result<(), Fail> {
+    let mut shelf = scheduled(rt, alloc, "")?;
+    check(rt, alloc, line, &mut shelf, ("Done", table))?;
+    let stored = shelf.load(alloc, "s", 100_000);
+    assert!(rt; matches!(&stored, Ok(text) if text.starts_with(b"schedule 3 machines ")));
+    check(rt, alloc, "replay p g s", &mut shelf, ("Done", table))
+}
+
+/// A take over links has its message's bytes exactly where it accepts, and what befalls the links alone has its
+/// schedule line.
+fn check_linked_log(rt: &impl Abort, alloc: Global) -> Result<(), Fail> {
+    let mut shelf = scheduled(rt, alloc, links::LOGGED)?;
+    let line = "replay p g s --log";
+    let outcome = performed(alloc, line, &mut shelf, Vec::new(alloc), Vec::new(alloc))?;
+    assert_eq!(rt; outcome.status, Status::Done);
+    let printed = std::str::from_utf8(outcome.printed.bytes()).unwrap_or("");
+    let events = links::LOGGED.lines().skip(1);
+    for (event, told) in events.zip(printed.lines()) {
+        assert!(rt; told.starts_with(event), "{event}");
+    }
+    assert!(rt; printed.contains("again tally 0 1 0\ntake tally 0 1 0 "));
+    assert!(rt; printed.contains("\ntake tally 0 1 0\nack tally 0 1 0\ndrop tally 0 1 0\ngo 0\n"));
+    assert!(rt; printed.contains("again verdict 1 0 1\ntake verdict 1 0 1 "));
+    assert!(rt; printed.ends_with(links::TABLE));
+    Ok(())
+}
+
+#[test]
+fn links_that_lose(rt: HostRuntime) -> Result<(), Fail> {
+    let alloc = rt.alloc();
+    for row in links::ROWS.split('$') {
+        if let Some((schedule, others)) = row.split_once('=') {
+            let (status, text) = others.split_once('\n').unwrap_or((others, ""));
+            let mut shelf = scheduled(&rt, alloc, schedule)?;
+            check(&rt, alloc, "replay p g s", &mut shelf, (status, text))?;
+        }
+    }
+    check_linked_log(&rt, alloc)?;
+    let lossy = "record p g s --machines 2 --seed 7 --lossy";
+    check_lossy(&rt, alloc, lossy, links::TABLE)?;
+    let many = "record p g s --machines 16 --seed 3 --lossy";
+    check_lossy(&rt, alloc, many, links::TABLE)
 }

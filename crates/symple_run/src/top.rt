@@ -7,11 +7,12 @@ ghost use Rattle.command_steps.specs.Quiet.{KeepsOthers};
 ghost use Rattle.command_steps.specs.States.{input_state, outside, shelf_state, sink_state};
 ghost use Rattle.command_steps.specs.Walks.{Performs, fault_after};
 ghost use Rattle.edge_reader.specs.Gives.{graph_of_edges};
+ghost use Rattle.link_core.specs.LinkOrder.{MessagesAreDeliveredOnce, SomeLinkMoves};
 ghost use Rattle.symple_run.specs.Continued.{EveryStopGoesOn};
 ghost use Rattle.symple_run.specs.Headline.{Answers, IsComplete, TellsFreedom};
 ghost use Rattle.symple_run.specs.Interrupted.{TellsImages};
 ghost use Rattle.symple_run.specs.Played.{IsPlayed};
-ghost use Rattle.symple_run.specs.Replays.{ReplaysGainTheSame};
+ghost use Rattle.symple_run.specs.Replays.{LinkReplaysGainTheSame, ReplaysGainTheSame};
 ghost use Rattle.symple_run.specs.RunWalks.{DoesTask};
 ghost use Rattle.symple_run.specs.SourceRuns.{IsSourceRun};
 ghost use Rattle.symple_words.specs.Lines.{RecordOf, RunOf};
@@ -21,7 +22,7 @@ ghost use Rattle.worker_stream.specs.Prompt.{PlainRunsArePrompt, PromptRunsAreSe
 
 use crate::following::replay;
 use crate::images::{load_keyed, play_imaged};
-use crate::recording::{record, renew};
+use crate::recording::{record, record_over_links, renew};
 use crate::resumes::{find_start, later_of, play_resumed, stopped_runs_go_on};
 use crate::shown::show;
 use check_point::images_read_back;
@@ -32,6 +33,7 @@ use command_steps::{
 use delivery_log::chosen_runs_are_complete;
 use edge_reader::Edges;
 use instrument::split_of;
+use link_core::{drawn_links_are_possible, links_are_in_order};
 use machine_runs::{play_out, put_table, started};
 use order_free::order_free_programs;
 use outside::{Shelf, Sink, Source};
@@ -153,7 +155,7 @@ fn run_line<S: Restart, H: Shelf, O: Sink>(
     }
 }
 
-/// Runs a line of `record`. One with `--lossy` is not built yet.
+/// Runs a line of `record`, with `--lossy` or without.
 fn record_line<S: Site, H: Shelf, O: Sink>(
     alloc: Global,
     job: &Job,
@@ -172,7 +174,7 @@ fn record_line<S: Site, H: Shelf, O: Sink>(
     ensures later { H.loads shelf.old ≤ H.loads shelf.new }
 {
     if lossy {
-        return Err(Failure::Command);
+        return record_over_links::<S, H, O>(alloc, job, schedule, machines, seed, shelf, out);
     }
     record::<S, H, O>(alloc, job, schedule, machines, seed, shelf, out)
 }
@@ -311,8 +313,14 @@ pub fn symple<S: Restart, H: Shelf, I: Source, O: Sink, N: Sink>(
         (sink_state O.held O.faults O.spare out.old)
         (sink_state O.held O.faults O.spare out.new) result }
 
-    // What `record` kept is replayed to the same bytes.
+    // What `record` kept is replayed to the same bytes, and so is what `record --lossy` kept.
     ensures replays { ReplaysGainTheSame S.work }
+    ensures links_replay { LinkReplaysGainTheSame S.work }
+
+    // Over links that lose and repeat each message is taken once, with the body that was sent, and as long as the run
+    // isn't finished some event is possible.
+    ensures deliver { MessagesAreDeliveredOnce S.work S.sound }
+    ensures moves { SomeLinkMoves S.work S.sound }
 
     // Under the two names of images stands what was stored last, up to the end or to a store that failed; and where
     // they are cores, that is the images of the source run.
@@ -349,6 +357,8 @@ pub fn symple<S: Restart, H: Shelf, I: Source, O: Sink, N: Sink>(
     images_read_back();
     stopped_runs_go_on();
     chosen_runs_are_complete::<S>();
+    drawn_links_are_possible::<S>();
+    links_are_in_order::<S>();
     worlds_are_in_order::<S>();
     prompt_runs_are_served::<S>();
     choices_are_in_order::<S>();

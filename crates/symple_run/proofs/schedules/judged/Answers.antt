@@ -1,24 +1,13 @@
-use Rattle.std.proofs.Common.{Err, refl, subst}
-use Rattle.delivery_log.specs.declared.fault.ScheduleFault.{ScheduleFault}
-use Rattle.delivery_log.specs.declared.fault.ScheduleFault.TheVariants.{Header, Line, TooLong}
-use Rattle.delivery_log.specs.Says.{Gives}
-use Rattle.symple_run.specs.FileWalks.{BadText}
+use Rattle.std.proofs.Common.{Ok, Option, refl, subst}
+use Rattle.delivery_log.specs.declared.fault.ScheduleFault.TheVariants.{Header}
+use Rattle.delivery_log.specs.declared.form.Schedule.{Schedule}
+use Rattle.symple_run.specs.FileWalks.{BadText, TellsEvents}
 use Rattle.symple_run.proofs.schedules.judged.Goals as goal
 
-pub returns-in-Err-Header : goal.returns-in-Err-Header
-returns-in-Err-Header c =
-    BadText Header (λ e. cc)
-    (subst (λ (why : ScheduleFault). Gives c.args.text.now (Err why)) c.in-Err-Header.field-0-is
-    c.in-Err-Header.ensures) refl
+pub returns-in-Ok-None : goal.returns-in-Ok-None
+returns-in-Ok-None c = BadText Header (λ e. cc)
+    (subst (λ (told : Option Schedule). TellsEvents c.args.text.now (Ok told)) c.in-Ok-None.field-0-is
+    c.in-Ok-None.ensures) refl
 
-pub returns-in-Err-Line : goal.returns-in-Err-Line
-returns-in-Err-Line c =
-    BadText (Line c.in-Err-Line.line) (λ e. cc)
-    (subst (λ (why : ScheduleFault). Gives c.args.text.now (Err why)) c.in-Err-Line.field-0-is
-    c.in-Err-Line.ensures) refl
-
-pub returns-in-Err-TooLong : goal.returns-in-Err-TooLong
-returns-in-Err-TooLong c =
-    BadText TooLong (λ e. cc)
-    (subst (λ (why : ScheduleFault). Gives c.args.text.now (Err why)) c.in-Err-TooLong.field-0-is
-    c.in-Err-TooLong.ensures) refl
+pub returns-in-Err : goal.returns-in-Err
+returns-in-Err c = c.in-Err.ensures.0

@@ -1,7 +1,6 @@
 use Rattle.std.proofs.Common.{Bool, ap, sym}
 use Rattle.command_steps.specs.Commands.{asked}
-use Rattle.command_steps.specs.Notes.{NoCommand}
-use Rattle.command_steps.proofs.WalkLaws.{as_order, refuses}
+use Rattle.command_steps.proofs.WalkLaws.{as_order}
 use Rattle.symple_run.specs.Played.{IsPlayed}
 use Rattle.symple_words.specs.Lines.{RecordOf}
 use Rattle.symple_words.specs.Views.{job_view}
@@ -12,7 +11,7 @@ returns-then-lossy-clause-order g c = λ input.
     as_order (IsPlayed g.S.Site.work) _ _ _ _ _
     (ap (λ (lossy : Bool). asked (RecordOf (job_view c.args.job.now) c.args.schedule.now c.args.machines c.args.seed
     lossy)) (sym c.if-lossy.true))
-    (refuses (IsPlayed g.S.Site.work) NoCommand _)
+    (c.record_over_links.ensures.order input)
 
 pub returns-clause-order : goal.returns-clause-order
 returns-clause-order g c = λ input.

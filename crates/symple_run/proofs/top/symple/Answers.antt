@@ -7,8 +7,9 @@ use Rattle.command_steps.proofs.LeavesLaws.{weaker}
 use Rattle.command_steps.proofs.OrderLaws.{nothing_stored, others_stay}
 use Rattle.symple_run.specs.Played.{IsPlayed}
 use Rattle.symple_run.specs.SourceRuns.{IsSourceRun}
-use Rattle.symple_run.proofs.CoreRuns.{core_runs}
+use Rattle.symple_run.proofs.CoreTasks.{core_runs}
 use Rattle.symple_run.proofs.HeadLaws.{alike_by, completes, free_answer, noted_by}
+use Rattle.symple_run.proofs.LinkReplayLaws.{link_replays_gain_the_same}
 use Rattle.symple_run.proofs.ReplayLaws.{replays_gain_the_same}
 use Rattle.symple_run.proofs.TaskLaws.{played_are, told_are}
 use Rattle.symple_words.specs.Views.{words_of}
@@ -29,6 +30,7 @@ returns-in-Ok-clause-core g c = λ core. record {
       (core_runs g.S.Site.work g.S.Site.sound (g.met.S.Site.core core) (record {
         plain = c.chosen_runs_are_complete.ensures.plain;
         drawn = c.chosen_runs_are_complete.ensures.drawn;
+        linked = c.drawn_links_are_possible.ensures.possible;
         reach = c.worlds_are_in_order.ensures.reach;
         goes = c.choices_are_in_order.ensures.unfinished;
       }) g.met.S.Restart.restart_lawful c.images_read_back.ensures.ready) _ _ _ _
@@ -49,6 +51,7 @@ returns-in-Ok-clause-whole g c = λ core.
     (core_runs g.S.Site.work g.S.Site.sound (g.met.S.Site.core core) (record {
       plain = c.chosen_runs_are_complete.ensures.plain;
       drawn = c.chosen_runs_are_complete.ensures.drawn;
+      linked = c.drawn_links_are_possible.ensures.possible;
       reach = c.worlds_are_in_order.ensures.reach;
       goes = c.choices_are_in_order.ensures.unfinished;
     }) g.met.S.Restart.restart_lawful c.images_read_back.ensures.ready) _ _ _ _
@@ -84,6 +87,7 @@ returns-in-Err-clause-core g c = λ core. record {
       (core_runs g.S.Site.work g.S.Site.sound (g.met.S.Site.core core) (record {
         plain = c.chosen_runs_are_complete.ensures.plain;
         drawn = c.chosen_runs_are_complete.ensures.drawn;
+        linked = c.drawn_links_are_possible.ensures.possible;
         reach = c.worlds_are_in_order.ensures.reach;
         goes = c.choices_are_in_order.ensures.unfinished;
       }) g.met.S.Restart.restart_lawful c.images_read_back.ensures.ready) _ _ _ _
@@ -104,6 +108,7 @@ returns-in-Err-clause-whole g c = λ core.
     (core_runs g.S.Site.work g.S.Site.sound (g.met.S.Site.core core) (record {
       plain = c.chosen_runs_are_complete.ensures.plain;
       drawn = c.chosen_runs_are_complete.ensures.drawn;
+      linked = c.drawn_links_are_possible.ensures.possible;
       reach = c.worlds_are_in_order.ensures.reach;
       goes = c.choices_are_in_order.ensures.unfinished;
     }) g.met.S.Restart.restart_lawful c.images_read_back.ensures.ready) _ _ _ _
@@ -123,6 +128,7 @@ pub returns-in-Ok-clause-replays : goal.returns-in-Ok-clause-replays
 returns-in-Ok-clause-replays g c = replays_gain_the_same g.S.Site.work g.S.Site.sound (record {
   plain = c.chosen_runs_are_complete.ensures.plain;
   drawn = c.chosen_runs_are_complete.ensures.drawn;
+  linked = c.drawn_links_are_possible.ensures.possible;
   reach = c.worlds_are_in_order.ensures.reach;
   goes = c.choices_are_in_order.ensures.unfinished;
 })
@@ -131,6 +137,25 @@ pub returns-in-Err-clause-replays : goal.returns-in-Err-clause-replays
 returns-in-Err-clause-replays g c = replays_gain_the_same g.S.Site.work g.S.Site.sound (record {
   plain = c.chosen_runs_are_complete.ensures.plain;
   drawn = c.chosen_runs_are_complete.ensures.drawn;
+  linked = c.drawn_links_are_possible.ensures.possible;
+  reach = c.worlds_are_in_order.ensures.reach;
+  goes = c.choices_are_in_order.ensures.unfinished;
+})
+
+pub returns-in-Ok-clause-links_replay : goal.returns-in-Ok-clause-links_replay
+returns-in-Ok-clause-links_replay g c = link_replays_gain_the_same g.S.Site.work g.S.Site.sound (record {
+  plain = c.chosen_runs_are_complete.ensures.plain;
+  drawn = c.chosen_runs_are_complete.ensures.drawn;
+  linked = c.drawn_links_are_possible.ensures.possible;
+  reach = c.worlds_are_in_order.ensures.reach;
+  goes = c.choices_are_in_order.ensures.unfinished;
+})
+
+pub returns-in-Err-clause-links_replay : goal.returns-in-Err-clause-links_replay
+returns-in-Err-clause-links_replay g c = link_replays_gain_the_same g.S.Site.work g.S.Site.sound (record {
+  plain = c.chosen_runs_are_complete.ensures.plain;
+  drawn = c.chosen_runs_are_complete.ensures.drawn;
+  linked = c.drawn_links_are_possible.ensures.possible;
   reach = c.worlds_are_in_order.ensures.reach;
   goes = c.choices_are_in_order.ensures.unfinished;
 })
@@ -153,6 +178,7 @@ returns-in-Ok-clause-kept g c = λ core.
     (core_runs g.S.Site.work g.S.Site.sound (g.met.S.Site.core core) (record {
       plain = c.chosen_runs_are_complete.ensures.plain;
       drawn = c.chosen_runs_are_complete.ensures.drawn;
+      linked = c.drawn_links_are_possible.ensures.possible;
       reach = c.worlds_are_in_order.ensures.reach;
       goes = c.choices_are_in_order.ensures.unfinished;
     })
@@ -167,6 +193,7 @@ returns-in-Err-clause-kept g c = λ core.
     (core_runs g.S.Site.work g.S.Site.sound (g.met.S.Site.core core) (record {
       plain = c.chosen_runs_are_complete.ensures.plain;
       drawn = c.chosen_runs_are_complete.ensures.drawn;
+      linked = c.drawn_links_are_possible.ensures.possible;
       reach = c.worlds_are_in_order.ensures.reach;
       goes = c.choices_are_in_order.ensures.unfinished;
     })
