@@ -81,7 +81,7 @@ ready_from : (b : Bool) (o : Option Name) → b ≡ false → o ≡ None →
     cluster.is_ready (if b then action.Over else waiting_for o) ≡ true
 ready_from b o e f = rw e (rw f refl)
 
-missing_step : (x : Name) (b : Bool) (rest : Option Name) → (if b then rest else Some x) ≡ None → (b ≡ true) ×
+pub missing_step : (x : Name) (b : Bool) (rest : Option Name) → (if b then rest else Some x) ≡ None → (b ≡ true) ×
     (rest ≡ None)
 missing_step x true rest e = (refl, e)
 missing_step x false rest e = cc

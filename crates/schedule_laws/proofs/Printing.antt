@@ -45,7 +45,7 @@ use Rattle.state_laws.proofs.Options.{some_of}
 use Rattle.cluster_run.proofs.Results.{some_site}
 
 -- what each of a list passes its element at a place passes
-all_pass : {X : Type 0} → (p : X → Bool) (xs : List X) (m : ℕ) (x : X) → list_all p xs ≡ true →
+pub all_pass : {X : Type 0} → (p : X → Bool) (xs : List X) (m : ℕ) (x : X) → list_all p xs ≡ true →
     slice_get xs m ≡ Some x → p x ≡ true
 all_pass p [] m x all at = cc
 all_pass p (y ∷ ys) zero x all at =
@@ -54,7 +54,7 @@ all_pass p (y ∷ ys) zero x all at =
 all_pass p (y ∷ ys) (suc m) x all at = all_pass p ys m x (and_parts (p y) (list_all p ys) all).1 at
 
 -- at the end the own rows are those before the round that doesn't take place
-over_rows : (round : ℕ) (spot : Spot) → is_over spot ≡ true → rows_round round spot ≡ round
+pub over_rows : (round : ℕ) (spot : Spot) → is_over spot ≡ true → rows_round round spot ≡ round
 over_rows round Tell over = absurd (false≢true over)
 over_rows round (Judge r) over = absurd (false≢true over)
 over_rows round (Begin r) over = absurd (false≢true over)

@@ -62,10 +62,6 @@ round_still Verdict Ruling.Stop s = refl
 round_still Verdict Ruling.Dense s = refl
 round_still Verdict Ruling.Sparse s = refl
 
-pub none_from : {X : Type 0} (o : Option X) → is_some o ≡ false → o ≡ None
-none_from None e = refl
-none_from (Some x) e = absurd (false≢true (sym e))
-
 no_name : (b c : Bool) → b ≡ false → (b && c) ≡ false
 no_name b c e = ap (λ q. q && c) e
 

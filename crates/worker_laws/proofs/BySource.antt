@@ -37,6 +37,8 @@ use Rattle.schedule_laws.specs.Runs.{IsSourceRun}
 use Rattle.schedule_laws.proofs.Follows.{judge_goes, judged_on, known_zero}
 use Rattle.schedule_laws.proofs.Goes.{goes_on}
 use Rattle.worker_laws.proofs.Ahead.{CanLead, acts_by, given, led}
+use Rattle.worker_stream.proofs.StateWalks.{nothing_missing}
+use Rattle.cluster_run.proofs.Worlds.{missing_step}
 
 -- a message with its ideal body
 abbrev pub ideal_letter : Source → Name → Letter
@@ -54,10 +56,6 @@ over_or_not : (b : Bool) (a : Action) → (if b then action.Over else a) ≡ Rea
 over_or_not true a e = absurd (cc)
 over_or_not false a e = (refl, e)
 
-nothing_missing : (o : Option Name) → waiting_for o ≡ Ready → o ≡ None
-nothing_missing None e = refl
-nothing_missing (Some x) e = absurd (cc)
-
 pub ready_parts : (s : State) → action_of s ≡ Ready →
     (is_over s.at.spot ≡ false) × (first_missing (needs s) s.held ≡ None)
 ready_parts s e =
@@ -68,11 +66,6 @@ pub ready_by : (s : State) → is_over s.at.spot ≡ false → first_missing (ne
     action_of s ≡ Ready
 ready_by s going none =
     ap (λ b. if b then action.Over else waiting_for (first_missing (needs s) s.held)) going ∙ ap waiting_for none
-
-missing_step : (x : Name) (b : Bool) (rest : Option Name) → (if b then rest else Some x) ≡ None → (b ≡ true) ×
-    (rest ≡ None)
-missing_step x true rest e = (refl, e)
-missing_step x false rest e = cc
 
 -- where a name is held exactly if it was taken, nothing is missing exactly if all were taken
 pub taken_of : (xs : List Name) (held : List Letter) (taken : List Name) →

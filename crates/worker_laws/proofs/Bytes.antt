@@ -34,7 +34,6 @@ use Rattle.work_laws.specs.Sound.{core_sound}
 use Rattle.work_laws.proofs.Whole.{core_lawful}
 use Rattle.schedule_laws.specs.Events.{IsTrue}
 use Rattle.schedule_laws.specs.Runs.{IsSourceRun}
-use Rattle.schedule_laws.proofs.DenseRounds.{some_of}
 use Rattle.schedule_laws.proofs.Follows.{Follows, few, taker, taker_at}
 use Rattle.schedule_laws.proofs.Printing.{next_by, next_follows}
 use Rattle.schedule_laws.proofs.SourceSees.{suits}
@@ -42,6 +41,7 @@ use Rattle.schedule_laws.proofs.Stands.{few as few_rounds}
 use Rattle.worker_stream.specs.Prompt.{handed, taken_by}
 use Rattle.worker_stream.proofs.StateWalks.{planned}
 use Rattle.worker_laws.proofs.Taking.{letter_body}
+use Rattle.state_laws.proofs.Options.{some_of}
 
 abbrev IsByte : ℕ → Type 0
 IsByte b = b < 256
@@ -138,10 +138,6 @@ handed_bytes : (b : Bool) (l : Letter) (ls : List Letter) → AreBytes l.body �
 handed_bytes true l ls one all = (one, all)
 handed_bytes false l ls one all = all
 
-some_there : {X : Type 0} (o : Option X) → is_some o ≡ true → (x : X) × (o ≡ Some x)
-some_there None e = absurd (cc)
-some_there (Some x) e = (x, refl)
-
 module _ (src : Source) (parts : List PlainPart) (one : IsOneRun parts) (run : IsSourceRun src)
     (same_ends : src.job.graph.ends ≡ one.ends) (m : ℕ) where
   letter_bytes : (w : World) (k : Skeleton) (f : Follows src parts w k) (x : Name) (l : Letter) →
@@ -166,7 +162,7 @@ module _ (src : Source) (parts : List PlainPart) (one : IsOneRun parts) (run : I
       (next_follows src parts one run same_ends w k f (Go j) can.0) can.1
   taken_bytes (Take x ∷ es) w k f all =
       let can = and_parts (possible w (Take x)) (all_possible core_work (step core_work w (Take x)) es) all in
-      let l = some_there (found x w.under_way) can.0 in
+      let l = some_of (found x w.under_way) can.0 in
       let more : List Letter = taken_by core_work m (step core_work w (Take x)) es in
       subst (λ (o : Option Letter). AllByRecursion (λ (q : Letter). AreBytes q.body) (handed m o ++ more)) (sym l.1)
       (handed_bytes (l.0.name.to == m) l.0 more (letter_bytes w k f x l.0 l.1)

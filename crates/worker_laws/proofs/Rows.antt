@@ -36,29 +36,13 @@ use Rattle.schedule_laws.specs.Events.{IsTrue}
 use Rattle.schedule_laws.specs.Runs.{IsSourceRun}
 use Rattle.schedule_laws.proofs.Follows.{Follows, few, is_judge, rounds_stay, took_is, zero_stays}
 use Rattle.schedule_laws.proofs.Printed.{first_prints, late, mode, round_behind, round_is, some_letter, some_site, to_come, within}
-use Rattle.schedule_laws.proofs.Printing.{late as begun_by, next_by, next_follows, stops, zero_site}
+use Rattle.schedule_laws.proofs.Printing.{all_pass, late as begun_by, next_by, next_follows, over_rows, stops, zero_site}
 use Rattle.schedule_laws.proofs.RunLaws.{run_at, run_on, run_over}
 use Rattle.schedule_laws.proofs.Saying.{quiet}
 
 -- what stands after the last round, by the round that comes next
 abbrev last_at : Source → ℕ → source.Standing
 last_at src round = (run_at src round).last
-
-over_rows : (round : ℕ) (spot : Spot) → is_over spot ≡ true → rows_round round spot ≡ round
-over_rows round Tell over = absurd (false≢true over)
-over_rows round (Judge r) over = absurd (false≢true over)
-over_rows round (Begin r) over = absurd (false≢true over)
-over_rows round (Scan r step h) over = absurd (false≢true over)
-over_rows round (Close r dense) over = absurd (false≢true over)
-over_rows round Over over = refl
-
-all_pass : {X : Type 0} → (p : X → Bool) (xs : List X) (m : ℕ) (x : X) → list_all p xs ≡ true →
-    slice_get xs m ≡ Some x → p x ≡ true
-all_pass p [] m x all at = cc
-all_pass p (y ∷ ys) zero x all at =
-    let same : y ≡ x = cc in
-    ap p (sym same) ∙ (and_parts (p y) (list_all p ys) all).0
-all_pass p (y ∷ ys) (suc m) x all at = all_pass p ys m x (and_parts (p y) (list_all p ys) all).1 at
 
 module _ (src : Source) (parts : List PlainPart) (one : IsOneRun parts) (run : IsSourceRun src)
     (same_ends : src.job.graph.ends ≡ one.ends) where

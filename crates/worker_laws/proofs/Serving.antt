@@ -44,19 +44,14 @@ use Rattle.worker_stream.specs.Prompt.{handed, sent_at, sent_by, sent_with, take
 use Rattle.worker_stream.specs.Sent.{spelled_letter, spelled_letters}
 use Rattle.worker_stream.specs.Walks.{way_of}
 use Rattle.worker_stream.specs.Worker.{Finishes, Refuses, Served, behind_text, ends_at, served_from, takes_front}
-use Rattle.worker_stream.proofs.PromptLaws.{letter_due, letter_read}
+use Rattle.worker_stream.proofs.PromptLaws.{all_over, letter_due, letter_read, spelled_more}
 use Rattle.worker_stream.proofs.StateWalks.{go_walks}
 use Rattle.worker_stream.proofs.WorkerLaws.{at_action, at_end, at_message}
 use Rattle.worker_laws.proofs.Ahead.{AreLed, CanLead, given, given_more, given_on, led, led_on}
 use Rattle.worker_laws.proofs.Along.{IsAlong, acts_along, holds, others_along, stands_at}
 use Rattle.worker_laws.proofs.BySource.{can_lead, goes_to, held_of, ideal_letter, needs_are, ready_by, ready_parts, sends}
 use Rattle.worker_laws.proofs.Taking.{given_same, letter_body, letter_new, takes_along, takes_too}
-
--- ---- texts
-spelled_more : (xs ys : List Letter) → spelled_letters (xs ++ ys) ≡ spelled_letters xs ++ spelled_letters ys
-spelled_more [] ys = refl
-spelled_more (x ∷ xs) ys = ap (λ q. spelled_letter x ++ q) (spelled_more xs ys)
-    ∙ sym (append_assoc (spelled_letter x) (spelled_letters xs) (spelled_letters ys))
+use Rattle.state_laws.proofs.Options.{some_of}
 
 -- the text of messages with their ideal bodies
 abbrev ideal_text : Source → List Name → List ℕ
@@ -77,17 +72,6 @@ waits_by false (Some x) e busy = (x, refl)
 
 none_there : {X : Type 0} (x : X) → None ≡ Some x → ⊥
 none_there x e = cc
-
-all_over : (ss : List State) (m : ℕ) (s : State) → list_all (λ (t : State). is_over t.at.spot) ss ≡ true →
-    slice_get ss m ≡ Some s → is_over s.at.spot ≡ true
-all_over [] m s all at = absurd (none_there s at)
-all_over (t ∷ ss) zero s all at =
-    ap (λ (q : State). is_over q.at.spot) (sym (get_one (Some t) t s refl at)) ∙ (and_parts (is_over t.at.spot) _ all).0
-all_over (t ∷ ss) (suc m) s all at = all_over ss m s (and_parts (is_over t.at.spot) _ all).1 at
-
-some_there : {X : Type 0} (o : Option X) → is_some o ≡ true → (x : X) × (o ≡ Some x)
-some_there None e = absurd (cc)
-some_there (Some x) e = (x, refl)
 
 go_taken : (ring : Ring) (a : Ruling) (m : ℕ) (o : Option Standing) (k : Skeleton) →
     (plan.go_at ring a m o k).taken ≡ k.taken
@@ -499,7 +483,7 @@ module _ (src : Source) (parts : List PlainPart) (one : IsOneRun parts) (run : I
   by_take : (x : Name) (es : List Event) → Claim es → Claim (Take x ∷ es)
   by_take x es claim at w k f t there n s along all over bytes =
       let can = and_parts (possible w (Take x)) (all_possible core_work (step core_work w (Take x)) es) all in
-      let l = some_there (found x w.under_way) can.0 in
+      let l = some_of (found x w.under_way) can.0 in
       ⊎_elim
       (λ (to : x.to ≡ m). takes_on x es claim w k f t there l.0 l.1 can.1 over to bytes at n s along)
       (λ (ne : x.to ≢ m). taken_by_others x es claim w k f t there l.0 l.1 can.1 over ne bytes at n s along)

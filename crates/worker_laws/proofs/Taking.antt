@@ -44,8 +44,9 @@ use Rattle.schedule_laws.proofs.Follows.{Follows, count, few, taker, taker_at}
 use Rattle.schedule_laws.proofs.Takes.{takes_on}
 use Rattle.worker_stream.proofs.StateWalks.{take_walks}
 use Rattle.worker_laws.proofs.Ahead.{AreLed, IsBefore, all_before, course, given_on, going_goes, led_far, led_on, round_before, same_mode, still_led}
-use Rattle.worker_laws.proofs.Along.{IsAlong, few_machines, for_it, grown, none_from, round_still, stands_at, stands_still}
+use Rattle.worker_laws.proofs.Along.{IsAlong, few_machines, for_it, grown, round_still, stands_at, stands_still}
 use Rattle.worker_laws.proofs.BySource.{number}
+use Rattle.state_laws.proofs.Options.{none_found}
 
 -- the spot that needs a message
 abbrev pub need_of : Source → Name → Spot
@@ -177,7 +178,7 @@ module _ (src : Source) (run : IsSourceRun src) (m : ℕ) (low : m < machines_of
   takes_too = record {
     here = ap (λ (y : Name). y.to) named ∙ new.to ∙ sym (number src run m low s along.truth);
     going = before.going;
-    new = none_from (found l.name s.held)
+    new = none_found (found l.name s.held)
         (ap (λ y. has_letter y s.held) named ∙ along.agrees before.going x
         ∙ ap (λ b. b && is_for m s.at.round x) new.none);
     round = ap (λ (y : Name). y.round) named ∙ sym round_here;

@@ -133,14 +133,14 @@ ready_by Over e = absurd (false≢true e)
 none_there : {X : Type 0} (x : X) → None ≡ Some x → ⊥
 none_there x e = cc
 
-all_over : (ss : List State) (m : ℕ) (s : State) → list_all (λ (t : State). is_over t.at.spot) ss ≡ true →
+pub all_over : (ss : List State) (m : ℕ) (s : State) → list_all (λ (t : State). is_over t.at.spot) ss ≡ true →
     slice_get ss m ≡ Some s → is_over s.at.spot ≡ true
 all_over [] m s all at = absurd (none_there s at)
 all_over (t ∷ ss) zero s all at =
     ap (λ (q : State). is_over q.at.spot) (sym (get_one (Some t) t s refl at)) ∙ (and_parts (is_over t.at.spot) _ all).0
 all_over (t ∷ ss) (suc m) s all at = all_over ss m s (and_parts (is_over t.at.spot) _ all).1 at
 
-spelled_more : (xs ys : List Letter) → spelled_letters (xs ++ ys) ≡ spelled_letters xs ++ spelled_letters ys
+pub spelled_more : (xs ys : List Letter) → spelled_letters (xs ++ ys) ≡ spelled_letters xs ++ spelled_letters ys
 spelled_more [] ys = refl
 spelled_more (x ∷ xs) ys = ap (λ q. spelled_letter x ++ q) (spelled_more xs ys)
     ∙ sym (append_assoc (spelled_letter x) (spelled_letters xs) (spelled_letters ys))

@@ -39,7 +39,7 @@ over_or_not : (b : Bool) (a : Action) → (if b then Over else a) ≡ Ready → 
 over_or_not true a e = absurd (cc)
 over_or_not false a e = (refl, e)
 
-nothing_missing : (o : Option Name) → waiting_for o ≡ Ready → o ≡ None
+pub nothing_missing : (o : Option Name) → waiting_for o ≡ Ready → o ≡ None
 nothing_missing None e = refl
 nothing_missing (Some x) e = absurd (cc)
 
