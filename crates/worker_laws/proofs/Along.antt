@@ -62,9 +62,6 @@ round_still Verdict Ruling.Stop s = refl
 round_still Verdict Ruling.Dense s = refl
 round_still Verdict Ruling.Sparse s = refl
 
-no_name : (b c : Bool) → b ≡ false → (b && c) ≡ false
-no_name b c e = ap (λ q. q && c) e
-
 -- a name taken here counts
 pub for_it : (m round : ℕ) (x y : Name) (b taken : Bool) → same_name y x ≡ b → x.to ≡ m → x.round ≡ round →
     (b || (taken && is_for m round y)) ≡ ((b || taken) && is_for m round y)

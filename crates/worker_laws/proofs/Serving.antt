@@ -70,9 +70,6 @@ waits_by true o e busy = absurd (false≢true (sym e))
 waits_by false None e busy = absurd (false≢true (sym busy))
 waits_by false (Some x) e busy = (x, refl)
 
-none_there : {X : Type 0} (x : X) → None ≡ Some x → ⊥
-none_there x e = cc
-
 go_taken : (ring : Ring) (a : Ruling) (m : ℕ) (o : Option Standing) (k : Skeleton) →
     (plan.go_at ring a m o k).taken ≡ k.taken
 go_taken ring a m None k = refl
