@@ -50,8 +50,8 @@ module _ (work : Work) (law : alone.CompleteRunsAreServed work) where
         ap (λ (q : Split). row_text q.program.program v (work.row is.last v)) is.split_is
         ∙ ap (row_text p v) (is.rows v lies)
 
-    lies : (v : ℕ) → start_of one.ends m ≤ v → v < start_of one.ends m + (slice_index one.ends m - start_of one.ends m) →
-        lies_in one.ends m v ≡ true
+    lies : (v : ℕ) → start_of one.ends m ≤ v →
+        v < start_of one.ends m + (slice_index one.ends m - start_of one.ends m) → lies_in one.ends m v ≡ true
     lies v from to =
         let rises = chunk_rises 64 one.ends one.chunks m low in
         lies_is (start_of one.ends m) (slice_index one.ends m) v from (omega arith)

@@ -4,8 +4,8 @@
 -- serves the input as its machine does and keeps its lines (ServeLaws, over the law of serving in `worker_stream`).
 --
 -- The chain. The lines of a chunk that are put one by one are those by definition: RowLaws. What is known of the courses
--- of the two tasks, whatever allows them, is CourseLaws. The part file of a machine is read as its part (PartBack), so at
--- a core its course over what the machine took in a run is that of CoreServing, over the laws of `worker_laws`.
+-- of the two tasks, whatever allows them, is CourseLaws. A machine's part file is read as its part: PartBack. So its
+-- course at a core over what the machine took in a run is known: CoreServing, over the laws of `worker_laws`.
 pub mod CoreServing
 pub mod CourseLaws
 pub mod PartBack

@@ -107,14 +107,16 @@ module _ (src : Source) (run : IsSourceRun src) (m : ℕ) (low : m < machines_of
     round_on =
         let far = led_far (ring_in src) (few_machines src run) (rulings_of src) m low taken n from is_from along.led in
         let same = ap place_of along.at in
-        let off = low_offset (ring_in src) (few_machines src run) (rulings_of src) m low s.at (stands_at s along.sound along.truth) in
+        let off = low_offset (ring_in src) (few_machines src run) (rulings_of src) m low s.at
+        (stands_at s along.sound along.truth) in
         omega arith
 
     -- what it needs it holds where it was taken
     pub holds : is_over s.at.spot ≡ false → (x : Name) → Has (needs_of (ring_in src) m s.at.spot) x →
         has_letter x s.held ≡ has_name x taken
     holds going x h =
-        let need = need_here (ring_in src) m (rulings_of src s.at.round) s.at.spot x low (few_machines src run) along.truth.has h in
+        let need = need_here (ring_in src) m (rulings_of src s.at.round) s.at.spot x low (few_machines src run)
+        along.truth.has h in
         let round : x.round ≡ s.at.round =
         need.1 ∙ sym (ap (λ (q : Standing). q.round) (is_standing_at s.at along.sound.round going)) in
         along.agrees going x

@@ -99,7 +99,8 @@ module _ (job : Job) where
       (last_long more (round + 1) (next_standing job round s) (next_long round s))
 
   run_long : length (source_run job).last.rows ≡ n
-  run_long = last_long (job.program.limit + 1 - 1) 1 (standing_after job 0 (first_rows job)) (length-map (all_vertices job.graph) (first_row job))
+  run_long = last_long (job.program.limit + 1 - 1) 1 (standing_after job 0 (first_rows job))
+      (length-map (all_vertices job.graph) (first_row job))
 
 pub tables_are_of_chunks : TablesAreOfChunks
 tables_are_of_chunks split parts one =
