@@ -1,12 +1,11 @@
 -- A run that is gone on with puts the rest of what the whole run puts.
-use Rattle.std.proofs.Common.{◌≡◌, ◌≢◌, ℕ, zero, suc, ◌+◌, ◌-◌, Bool, true, false, nat_lt, List, [], ◌∷◌, ◌++◌, Option, None, Some, map, refl, sym, ap, subst, ◌∙◌, arith}
+use Rattle.std.proofs.Common.{◌≡◌, ℕ, zero, suc, ◌+◌, ◌-◌, Bool, true, false, nat_lt, List, [], ◌∷◌, ◌++◌, Option, None, Some, map, refl, sym, ap, subst, ◌∙◌, arith}
 use Rattle.std.specs.Prelude.{flat_map, if◌then◌else◌}
 use Rattle.std.proofs.lemmas.Grind.{flat_map-append}
 use Rattle.std.proofs.lemmas.List.{append_assoc, map-append}
 use Rattle.array_text.specs.Tables.{table_text}
-use Rattle.check_point.specs.Laws.{told_start}
 use Rattle.command_steps.specs.Courses.{course_text}
-use Rattle.command_steps.specs.Orders.{Course, Origin, Play}
+use Rattle.command_steps.specs.Orders.{Play}
 use Rattle.instrument.specs.declared.split.Split.{Split}
 use Rattle.plain_run.specs.Told.{told_played}
 use Rattle.schedule_laws.specs.Texts.{text_of_run, told_lines}
@@ -14,8 +13,7 @@ use Rattle.symple_face.specs.Work.{PlainStart}
 use Rattle.symple_run.specs.Continued.{EveryStopGoesOn, IsOfRun, IsTheRest, LeavesStart, rounds_text, run_played}
 use Rattle.symple_run.specs.KeptImages.{key_for}
 use Rattle.symple_run.specs.Resumes.{Tells, later_of}
-use Rattle.symple_run.specs.SourceImages.{begun_text, standing_of, start_before}
-use Rattle.symple_run.specs.SourceRuns.{IsSourceResumed}
+use Rattle.symple_run.specs.SourceImages.{begun_text, standing_of}
 use Rattle.symple_run.specs.SourceTexts.{job_of, play_text}
 use Rattle.symple_words.specs.declared.line.Lines.{Lines}
 use Rattle.vert_base.specs.declared.value.Ruling.{Ruling}

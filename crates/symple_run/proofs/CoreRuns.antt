@@ -1,15 +1,14 @@
 -- A run that cores play is told by the source's run.
-use Rattle.std.proofs.Common.{Bool, List, None, Option, Some, [], ap, append-nil, append_assoc, false, length, nat_lt, refl, slice_get, subst, sym, true, ℕ, ◌++◌, ◌+◌, ◌∙◌, ◌∷◌, ◌≡◌}
+use Rattle.std.proofs.Common.{Bool, List, None, Option, Some, [], ap, append-nil, append_assoc, false, length, nat_lt, refl, subst, sym, true, ℕ, ◌++◌, ◌+◌, ◌∙◌, ◌∷◌, ◌≡◌}
 use Rattle.std.specs.Prelude.{if◌then◌else◌, option_map}
 use Rattle.std.proofs.lemmas.Bool.{and_from, and_parts}
 use Rattle.std.specs.List.{All}
 use Rattle.check_point.specs.Laws.{StartIsReady}
 use Rattle.circulant_plan.specs.Skeleton.{first_skeleton}
 use Rattle.cluster_run.specs.declared.fault.EventFault.{EventFault}
-use Rattle.cluster_run.specs.declared.fault.EventFault.TheVariants.{NotUnderWay, RunOver}
 use Rattle.cluster_run.specs.declared.fault.Missing.{Missing}
 use Rattle.cluster_run.specs.Driven.{IsReached, anew}
-use Rattle.cluster_run.specs.Faults.{action_fault, event_fault, fault_of, go_fault, lacking, lacks}
+use Rattle.cluster_run.specs.Faults.{fault_of, lacking, lacks}
 use Rattle.cluster_run.proofs.Chosen.{not_refused}
 use Rattle.cluster_run.specs.Laws.{StepsReach, UnfinishedGoesOn}
 use Rattle.command_steps.specs.Notes.{LongSchedule}
@@ -18,7 +17,6 @@ use Rattle.delivery_log.specs.declared.form.Form.TheVariants.{Roundless}
 use Rattle.delivery_log.specs.Choosers.{DrawnRunsAreComplete, IsDrawnRun, PlainRunsAreComplete, generator_of}
 use Rattle.delivery_log.specs.ScheduleTexts.{event_lines, round_after, schedule_text}
 use Rattle.edge_reader.specs.EdgeList.{Graph}
-use Rattle.instrument.specs.declared.split.Split.{Split}
 use Rattle.link_core.specs.LinkChoosers.{DrawnLinksArePossible}
 use Rattle.schedule_laws.specs.Laws.{whole_run}
 use Rattle.schedule_laws.specs.OutputText.{output_text}
@@ -27,9 +25,7 @@ use Rattle.schedule_laws.specs.Texts.{no_lines, text_of_run}
 use Rattle.schedule_laws.proofs.Parts.{parts_run}
 use Rattle.schedule_laws.proofs.ToldRounds.{every_round_is_told, every_table_is_told}
 use Rattle.schedule_laws.proofs.Whole.{every_log, every_schedule}
-use Rattle.symple_face.specs.declared.action.Action.{Action}
-use Rattle.symple_face.specs.declared.action.Action.TheVariants.{Over, Ready, Waits}
-use Rattle.symple_face.specs.Cluster.{IsPlainRun, World, after, all_possible, can_act, finished, first_world, is_complete, is_ready, missing_of, possible, restarted_world, step}
+use Rattle.symple_face.specs.Cluster.{IsPlainRun, World, after, all_possible, finished, first_world, is_complete, missing_of, possible, restarted_world, step}
 use Rattle.schedule_laws.specs.ToldRounds.{rounds_ended}
 use Rattle.array_text.specs.Tables.{table_text}
 use Rattle.demo_parts.specs.DrawnGraphs.{drawn_graph}
@@ -37,7 +33,7 @@ use Rattle.plain_run.specs.Told.{Told, rounds_told}
 use Rattle.symple_run.specs.Shows.{IsShow, IsSourceShow, shown_course, shown_run}
 use Rattle.symple_face.specs.CoreWork.{core_work}
 use Rattle.symple_face.specs.Source.{job_of}
-use Rattle.symple_face.specs.State.{State, action_of}
+use Rattle.symple_face.specs.State.{State}
 use Rattle.symple_face.specs.Work.{PlainStart, Work}
 use Rattle.command_steps.specs.Courses.{course_end, course_text}
 use Rattle.command_steps.specs.Orders.{Course, Fails, Origin, Play}
@@ -61,7 +57,6 @@ use Rattle.symple_words.specs.declared.line.Lines.{Lines}
 use Rattle.vert_base.specs.declared.graph.Edge.{Edge}
 use Rattle.vert_base.specs.declared.limits.TheConstants.{SCHEDULE_BYTES}
 use Rattle.vert_base.specs.declared.message.Event.{Event}
-use Rattle.vert_base.specs.declared.message.Event.TheVariants.{Go, Take}
 use Rattle.vert_eval.specs.SourceRun.{Job, source_run}
 use Rattle.vert_tree.specs.declared.program.Program.{Program}
 use Rattle.machine_runs.proofs.TextLaws.{text_behind}

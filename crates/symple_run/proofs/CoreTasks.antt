@@ -2,8 +2,6 @@
 use Rattle.std.proofs.Common.{◌≡◌, ℕ, List, subst}
 use Rattle.check_point.specs.Laws.{StartIsReady}
 use Rattle.command_steps.specs.Orders.{Course, Drawn, DrawnLossy, Followed, Imaged, Parted, Plain, Play, Renewed, Resumed, Served, Shown, Task}
-use Rattle.delivery_log.specs.declared.form.Form.{Form}
-use Rattle.link_core.specs.declared.event.LinkEvent.{LinkEvent}
 use Rattle.link_runs.specs.LinkedPlays.{IsLinkedPlay}
 use Rattle.symple_face.specs.CoreWork.{core_work}
 use Rattle.symple_face.specs.Restarts.{IsRestartLawful}
@@ -15,7 +13,6 @@ use Rattle.symple_run.specs.SourceRuns.{IsSourceRun}
 use Rattle.symple_run.specs.SourceSchedules.{IsSourceFollowed, IsSourceLinked, IsSourceReplay}
 use Rattle.symple_run.proofs.CoreRuns.{ChosenWell, drawn_source, following_source, imaged_told, plain_source, resumed_told, shown_source}
 use Rattle.symple_run.proofs.LinkedCores.{linked_source, lossy_source}
-use Rattle.vert_base.specs.declared.message.Event.{Event}
 
 -- ---- a text of any form
 module _ (sound : State → Type 0) (laws : ChosenWell core_work sound) (play : ℕ → Play) (text : List ℕ)

@@ -6,7 +6,7 @@ use Rattle.command_steps.specs.declared.impossible.Impossible.{Impossible}
 use Rattle.command_steps.specs.Courses.{TakesNothing, course_end}
 use Rattle.command_steps.specs.Comes.{Comes}
 use Rattle.command_steps.specs.Notes.{Fault, LongSchedule}
-use Rattle.command_steps.specs.Orders.{Course, Fails, IsOver, Keeps, Task, follows}
+use Rattle.command_steps.specs.Orders.{Course, Fails, Task, follows}
 use Rattle.command_steps.specs.Quiet.{IsQuiet, Spares}
 use Rattle.command_steps.proofs.ComesLaws.{Must}
 use Rattle.command_steps.proofs.OrderLaws.{ends_alike}

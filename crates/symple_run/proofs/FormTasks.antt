@@ -1,22 +1,21 @@
 -- Tasks with the text of a schedule of any form go one way: its first line says its form, and a text of form 3 says one
 -- pair of machines and events, or has one fault.
-use Rattle.std.proofs.Common.{◌≡◌, ◌≢◌, ℕ, ◌≤◌, Bool, List, [], ◌∷◌, ◌++◌, Option, Some, None, Err, length, refl, sym, ap, subst, ◌∙◌, arith, append_assoc, drop}
-use Rattle.std.specs.Prelude.{codes, decimal, flat_map}
+use Rattle.std.proofs.Common.{◌≡◌, ◌≢◌, ℕ, List, [], ◌∷◌, ◌++◌, Err, refl, sym, ap, subst, ◌∙◌, arith, drop}
+use Rattle.std.specs.Prelude.{flat_map}
 use Rattle.command_steps.specs.Notes.{Fault}
 use Rattle.command_steps.specs.Orders.{Course, Fails}
 use Rattle.delivery_log.specs.declared.form.Form.{Form}
 use Rattle.delivery_log.specs.declared.form.Form.TheVariants.{Roundless, Whole}
 use Rattle.delivery_log.specs.Says.{HasNoHeader}
-use Rattle.delivery_log.specs.ScheduleTexts.{header_line as first_line, most_machines}
+use Rattle.delivery_log.specs.ScheduleTexts.{header_line as first_line}
 use Rattle.link_core.specs.declared.event.LinkEvent.{LinkEvent}
 use Rattle.link_core.specs.declared.fault.LinkTextFault.{LinkTextFault}
 use Rattle.link_core.specs.declared.fault.LinkTextFault.TheVariants.{Header, Line, TooLong, Want}
 use Rattle.link_core.specs.LinkSays.{GivesLinks, SaysLinks}
-use Rattle.link_core.specs.LinkTexts.{event_line, header_line, links_text}
+use Rattle.link_core.specs.LinkTexts.{event_line, header_line}
 use Rattle.link_runs.proofs.OneLaws.{bad_header, not_bad, one_bad_line, says_header, tells_one}
-use Rattle.symple_run.specs.Followed.{ByEachForm, ByEvents, ByLinkText, ByLinks, ByText, LinksAreFaulty, TellsLinks, link_text_fault}
+use Rattle.symple_run.specs.Followed.{ByEachForm, ByEvents, ByLinkText, ByLinks, LinksAreFaulty, TellsLinks, link_text_fault}
 use Rattle.symple_run.proofs.TextTasks.{text_holds, text_settles}
-use Rattle.vert_base.specs.declared.limits.TheConstants.{SCHEDULE_BYTES}
 use Rattle.vert_base.specs.declared.message.Event.{Event}
 
 -- ---- a text of form 3

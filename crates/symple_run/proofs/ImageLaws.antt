@@ -1,5 +1,5 @@
 -- What a run leaves that stores images, event by event.
-use Rattle.std.proofs.Common.{◌≡◌, ◌≢◌, ℕ, ◌+◌, ◌≤◌, Bool, true, false, ◌&&◌, List, [], ◌∷◌, Option, Some, None, Result, Ok, Err, refl, sym, ap, subst, ◌∙◌, arith, map, slice_get}
+use Rattle.std.proofs.Common.{◌≡◌, ◌≢◌, ℕ, ◌+◌, ◌≤◌, Bool, true, false, List, [], ◌∷◌, Option, Some, None, Ok, Err, refl, sym, ap, subst, ◌∙◌, arith, map, slice_get}
 use Rattle.std.specs.Prelude.{◌==◌, if◌then◌else◌, option_map}
 use Rattle.std.proofs.lemmas.Bool.{and_parts, eqb-true, false≢true}
 use Rattle.std.proofs.lemmas.Option.{slice_get_within}
@@ -10,7 +10,6 @@ use Rattle.circulant_plan.specs.Standing.{Standing}
 use Rattle.circulant_plan.specs.Table.{after_judge, next_spot}
 use Rattle.cluster_run.proofs.Sites.{set_here}
 use Rattle.command_steps.specs.declared.failure.Failure.{Failure}
-use Rattle.command_steps.specs.Commands.{image_name}
 use Rattle.command_steps.specs.Faults.{fault_of}
 use Rattle.command_steps.specs.Leaves.{Gained, Leaves, NotPut, Ran}
 use Rattle.command_steps.specs.Notes.{Fault, NoWrite}
@@ -19,7 +18,6 @@ use Rattle.command_steps.specs.States.{Held, Kept, Left, Outside, outside}
 use Rattle.command_steps.specs.Walks.{HandsOn}
 use Rattle.command_steps.proofs.FileLaws.{store_goes, store_stops}
 use Rattle.command_steps.proofs.LeavesLaws.{unplayed}
-use Rattle.check_point.specs.Images.{image_bytes}
 use Rattle.outside.specs.declared.sink.SinkFault.{SinkFault}
 use Rattle.schedule_laws.specs.Layout.{row_in, table_of, vertices_in}
 use Rattle.schedule_laws.specs.Starts.{ahead_with, start_told, start_with}

@@ -1,12 +1,10 @@
 -- Runs that leave images and runs that go on from one: what machines tell of them, and that for cores the source tells it.
-use Rattle.std.proofs.Common.{◌≡◌, ◌⊎◌, inl, inr, ℕ, zero, suc, ◌+◌, ◌-◌, ◌<◌, Bool, true, false, nat_lt, List, [], ◌∷◌, ◌++◌, codes, length, map, Option, Some, None, refl, sym, ap, subst, ◌∙◌, arith, append_assoc, append-nil}
+use Rattle.std.proofs.Common.{◌≡◌, ◌⊎◌, inl, inr, ℕ, zero, suc, ◌-◌, ◌<◌, Bool, true, false, nat_lt, List, [], ◌∷◌, ◌++◌, codes, length, Option, Some, None, refl, sym, ap, subst, ◌∙◌, arith, append_assoc, append-nil}
 use Rattle.std.specs.Prelude.{◌%◌, decimal, if◌then◌else◌}
 use Rattle.std.specs.List.{All, range_with_len}
 use Rattle.std.proofs.lemmas.List.Elements.{All-from_recursion, All-map}
-use Rattle.array_text.specs.Tables.{table_text}
 use Rattle.chunk_split.specs.Chunks.{vertices_of}
-use Rattle.check_point.specs.Laws.{StartIsReady, told_start}
-use Rattle.circulant_plan.specs.Skeleton.{resumed_skeleton}
+use Rattle.check_point.specs.Laws.{StartIsReady}
 use Rattle.cluster_run.specs.Driven.{IsReached, again}
 use Rattle.cluster_run.proofs.Restarted.{is_restarted}
 use Rattle.delivery_log.specs.Choosers.{PlainRunsAreComplete}
@@ -19,7 +17,7 @@ use Rattle.graph_table.proofs.FilterLaws.{all_true}
 use Rattle.machine_runs.proofs.SourceFollows.{later_plain_told}
 use Rattle.schedule_laws.specs.Laws.{later_run}
 use Rattle.schedule_laws.specs.Layout.{lines_of, round_lines, table_of, text_of}
-use Rattle.schedule_laws.specs.OutputText.{output_text, run_of}
+use Rattle.schedule_laws.specs.OutputText.{run_of}
 use Rattle.schedule_laws.specs.Texts.{text_of_run}
 use Rattle.schedule_laws.proofs.Parts.{parts_run}
 use Rattle.schedule_laws.proofs.Whole.{every_later_log, every_later_schedule}
@@ -33,7 +31,7 @@ use Rattle.symple_face.specs.State.{State}
 use Rattle.symple_face.specs.Work.{PlainStart, Work}
 use Rattle.symple_run.specs.KeptImages.{IsImagedPlay, StoresImages, imaged_from, key_for, start_behind, with_image}
 use Rattle.machine_runs.specs.PlainPlays.{course_from, log_line}
-use Rattle.symple_run.specs.Resumes.{IsImage, IsResumedPlay, Tells, begun_world, later_of}
+use Rattle.symple_run.specs.Resumes.{IsResumedPlay, Tells, later_of}
 use Rattle.machine_runs.specs.RunParts.{IsRunOf}
 use Rattle.symple_run.specs.SourceImages.{begun_text, files_kept, images_of, standing_of}
 use Rattle.symple_run.specs.SourceRuns.{IsLogged, IsLoggedFrom, IsPrinted, IsSourceImaged}

@@ -1,6 +1,6 @@
 -- The images that cores leave are those of the source's run.
 use Rattle.std.proofs.Common.{◌≡◌, ◌≢◌, ℕ, ◌+◌, ◌-◌, ◌<◌, ◌≤◌, Bool, true, false, ◌&&◌, List, [], ◌∷◌, ◌++◌, length, map, Option, Some, None, refl, sym, ap, subst, ◌∙◌, arith, ⊎_elim, slice_get}
-use Rattle.std.specs.Prelude.{◌==◌, if◌then◌else◌, nat_le, slice_set}
+use Rattle.std.specs.Prelude.{if◌then◌else◌, nat_le, slice_set}
 use Rattle.std.specs.List.{list_all}
 use Rattle.std.proofs.lemmas.Bool.{and_parts, cases_eq, cases_lt, ne_eqb}
 use Rattle.std.proofs.lemmas.Bool.Decides.{nat_tests}
@@ -55,7 +55,7 @@ use Rattle.machine_runs.specs.PlainPlays.{IsFirstWorld, judges_late, is_late_jud
 use Rattle.symple_run.specs.SourceImages.{files_kept, image_file, images_of, later_rounds}
 use Rattle.symple_run.specs.SourceTexts as sources
 use Rattle.symple_words.specs.declared.line.Lines.{Lines}
-use Rattle.vert_eval.specs.SourceRun.{Job, Played, Run, played_at, source_run, then_runs}
+use Rattle.vert_eval.specs.SourceRun.{Job, Played, Run, source_run}
 use Rattle.vert_tree.specs.declared.program.Program.{Program}
 use Rattle.word_kinds.specs.Fits.{IsFitting}
 use Rattle.state_laws.proofs.Options.{some_of}

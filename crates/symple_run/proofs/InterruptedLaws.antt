@@ -1,5 +1,5 @@
 -- How far a run comes that leaves images.
-use Rattle.std.proofs.Common.{◌≡◌, ◌≢◌, inl, inr, ℕ, Bool, true, false, List, [], ◌∷◌, ◌++◌, map, Option, None, Some, refl, sym, ap, subst, ◌∙◌, append_assoc, append-nil}
+use Rattle.std.proofs.Common.{◌≡◌, ◌≢◌, inl, inr, ℕ, Bool, true, false, List, [], ◌∷◌, ◌++◌, Option, None, Some, refl, sym, ap, subst, ◌∙◌, append_assoc, append-nil}
 use Rattle.std.specs.Prelude.{bytes_eq, if◌then◌else◌, option_map}
 use Rattle.std.proofs.lemmas.Bool.{false≢true}
 use Rattle.std.proofs.lemmas.List.{map-append}
@@ -7,7 +7,7 @@ use Rattle.std.proofs.lemmas.Slice.Eq.{bytes_eq-Decides}
 use Rattle.command_steps.specs.Leaves.{Gained, Leaves, NotPut, NotStored, Stored, WantsAtPut, WantsAtStore}
 use Rattle.command_steps.specs.Notes.{Fault}
 use Rattle.command_steps.specs.Orders.{Course, Ends, Fails, IsOver, Keeps, NoTask, Prints, Stores, Takes, Task, follows}
-use Rattle.command_steps.specs.States.{Kept, Outside}
+use Rattle.command_steps.specs.States.{Outside}
 use Rattle.command_steps.proofs.LeavesLaws.{spared_stays}
 use Rattle.outside.specs.Bytes.{gained}
 use Rattle.outside.specs.Files.{File, SameBut, file_named, with_file}

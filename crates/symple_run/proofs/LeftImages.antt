@@ -1,5 +1,5 @@
 -- What `run --image` leaves, from what the order of its words leaves.
-use Rattle.std.proofs.Common.{◌≡◌, ◌≢◌, ◌⊎◌, inl, inr, ℕ, List, Option, None, Some, Result, Ok, Err, refl, sym, ap, subst, ◌∙◌}
+use Rattle.std.proofs.Common.{◌≡◌, ◌⊎◌, inl, inr, ℕ, List, Option, Some, Result, Ok, Err, refl, sym, subst}
 use Rattle.command_steps.specs.declared.status.Status.{Status}
 use Rattle.command_steps.specs.declared.status.Status.TheVariants as status
 use Rattle.command_steps.specs.Commands.{asked_by, edge_fault, graph_of, image_order, of_graph, order_of, origin_of, play_of, too_long_graph, too_long_program}

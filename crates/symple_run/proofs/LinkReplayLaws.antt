@@ -2,9 +2,8 @@
 use Rattle.std.proofs.Common.{◌≡◌, ◌⊎◌, inl, inr, ℕ, ◌+◌, ◌<◌, ◌≤◌, Bool, true, false, List, [], ◌∷◌, ◌++◌, length, Option, Some, None, nat_lt, refl, sym, ap, subst, ◌∙◌, arith, append_assoc, append-nil}
 use Rattle.std.specs.Prelude.{if◌then◌else◌, option_map}
 use Rattle.std.specs.List.{AllByRecursion}
-use Rattle.std.proofs.lemmas.Bool.{and_parts, false≢true, ltb-false}
-use Rattle.cluster_run.specs.Driven.{IsReached}
-use Rattle.cluster_run.specs.Faults.{fault_of, lacking, lacks}
+use Rattle.std.proofs.lemmas.Bool.{and_parts, ltb-false}
+use Rattle.cluster_run.specs.Faults.{lacking, lacks}
 use Rattle.command_steps.specs.Courses.{course_end, course_text}
 use Rattle.command_steps.specs.Notes.{Fault, LongSchedule}
 use Rattle.command_steps.specs.declared.impossible.Impossible.{Impossible}
@@ -33,7 +32,6 @@ use Rattle.symple_run.proofs.FormTasks.{no_link_fault, no_other_header}
 use Rattle.symple_run.proofs.LinkedCores.{links_begin}
 use Rattle.symple_words.specs.declared.line.Lines.{Lines}
 use Rattle.vert_base.specs.declared.limits.TheConstants.{SCHEDULE_BYTES}
-use Rattle.vert_base.specs.declared.message.Event.{Event}
 
 -- a recording that kept bytes: they are the text of all its events, and following these events gains the same
 record KeptAll (text : List ℕ) (bytes : List ℕ) (machines : ℕ) (events : List LinkEvent) (other : Course) : Type 0

@@ -1,7 +1,6 @@
 -- A run that cores play over links is told by the source's run.
-use Rattle.std.proofs.Common.{◌≡◌, ◌⊎◌, inl, inr, ℕ, ◌<◌, ◌≤◌, List, [], None, length, refl, sym, ap, subst, ◌∙◌, arith, true}
+use Rattle.std.proofs.Common.{◌≡◌, ◌⊎◌, inl, inr, ℕ, ◌<◌, List, [], None, length, refl, sym, ap, subst, ◌∙◌, arith, true}
 use Rattle.std.proofs.lemmas.Bool.{and_from}
-use Rattle.cluster_run.specs.Driven.{IsReached}
 use Rattle.cluster_run.specs.Faults.{lacking}
 use Rattle.command_steps.specs.Courses.{course_end, course_text}
 use Rattle.command_steps.specs.Orders.{Course, Play}

@@ -1,18 +1,17 @@
 -- Runs over links, and by the text of a schedule of any form, go one way: those of machines of a kind, and those that the
 -- source's run tells.
-use Rattle.std.proofs.Common.{◌≡◌, ◌≢◌, ℕ, List, [], ◌∷◌, refl, sym, ap, subst, ◌∙◌}
+use Rattle.std.proofs.Common.{◌≡◌, ◌≢◌, ℕ, List, [], sym, ap, subst, ◌∙◌}
 use Rattle.circulant_plan.specs.Skeleton.{Skeleton}
 use Rattle.command_steps.specs.Courses.{TakesNothing}
 use Rattle.command_steps.specs.Notes.{Fault}
 use Rattle.command_steps.specs.Orders.{Course, Fails, Play, Task, follows}
 use Rattle.command_steps.specs.Quiet.{IsQuiet, Spares}
-use Rattle.delivery_log.specs.declared.form.Form.{Form}
 use Rattle.delivery_log.specs.Choosers.{generator_of}
 use Rattle.link_core.specs.declared.event.LinkEvent.{LinkEvent}
 use Rattle.link_core.specs.Links.{Linked, linked_anew}
 use Rattle.link_core.specs.LinkTexts.{links_text}
 use Rattle.link_runs.proofs.OneLaws.{header_short, one_drawn, one_in_order}
-use Rattle.link_runs.specs.LinkedPlays.{IsDrawnFar, IsLinkedPlay, IsLossyPlay}
+use Rattle.link_runs.specs.LinkedPlays.{IsDrawnFar, IsLossyPlay}
 use Rattle.link_runs.specs.LinkTellings.{by_links, listed_links}
 use Rattle.link_runs.specs.SourceLinks.{IsFarOrder, Ordered, by_source_links, ordered_anew}
 use Rattle.machine_runs.proofs.FirstLaws.{first_same}
@@ -23,7 +22,7 @@ use Rattle.symple_face.specs.Source.{Source}
 use Rattle.symple_face.specs.Work.{Work}
 use Rattle.symple_run.specs.Followed.{IsFollowed}
 use Rattle.symple_run.specs.SourceSchedules.{IsSourceLossy, IsSourceReplay}
-use Rattle.symple_run.specs.SourceTexts.{HasParts, first_order, source_on}
+use Rattle.symple_run.specs.SourceTexts.{first_order, source_on}
 use Rattle.symple_run.proofs.CourseShapes.{followed_as_calm, followed_as_quiet, followed_as_spares, recorded_as_calm, recorded_as_spares}
 use Rattle.symple_run.proofs.FormTasks.{each_holds, each_settles}
 use Rattle.symple_run.proofs.SourceTasks.{order_same, source_same}

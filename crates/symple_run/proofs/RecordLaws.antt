@@ -1,5 +1,5 @@
 -- What recording leaves of the outside, event by event.
-use Rattle.std.proofs.Common.{◌≡◌, ◌⊎◌, inl, inr, ℕ, ◌<◌, ◌≤◌, Bool, true, false, List, [], ◌∷◌, ◌++◌, length, Option, Some, None, Result, Ok, Err, refl, sym, ap, subst, ◌∙◌}
+use Rattle.std.proofs.Common.{◌≡◌, ◌⊎◌, inl, inr, ℕ, ◌<◌, ◌≤◌, Bool, true, false, List, [], ◌∷◌, ◌++◌, length, Option, Some, None, Ok, Err, refl, sym, ap, subst, ◌∙◌}
 use Rattle.std.specs.Prelude.{if◌then◌else◌, nat_lt}
 use Rattle.std.proofs.lemmas.Bool.{false≢true, le-ltb, lt-ltb}
 use Rattle.command_steps.specs.declared.failure.Failure.{Failure}
@@ -23,7 +23,7 @@ use Rattle.command_steps.specs.FileWalks.{StoresFile}
 use Rattle.machine_runs.specs.PlainPlays.{IsFirstWorld}
 use Rattle.symple_run.specs.Played.{IsPlayed}
 use Rattle.machine_runs.specs.PlayedEvents.{PutsLines, StopsInLines}
-use Rattle.symple_run.specs.RecordWalks.{HasRecorded, Recordings, RecordsOn, RecordsTo, StopsRecording}
+use Rattle.symple_run.specs.RecordWalks.{HasRecorded, Recordings, RecordsOn, RecordsTo}
 use Rattle.machine_runs.specs.Tellings.{by_worlds, recorded, told_event}
 use Rattle.command_steps.proofs.FileLaws.{store_goes, store_stops}
 use Rattle.symple_words.specs.declared.line.Lines.{Lines}

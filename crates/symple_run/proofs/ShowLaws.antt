@@ -22,7 +22,7 @@ use Rattle.sha2.specs.Sha256.{sha256}
 use Rattle.symple_face.specs.Cluster.{IsPlainRun, World, after, finished, plain_of, step}
 use Rattle.symple_face.specs.State.{State}
 use Rattle.symple_face.specs.Work.{Work}
-use Rattle.symple_run.specs.Played.{IsFirstWorld, IsPlayed, ends_round, first_report, is_late_judge, judges_late}
+use Rattle.symple_run.specs.Played.{IsFirstWorld, IsPlayed, ends_round, is_late_judge, judges_late}
 use Rattle.symple_run.specs.Shows.{IsShow, IsSourceShow, reads_in_all, shown_course}
 use Rattle.symple_run.specs.ShowWalks.{CountsOn, HasPlayed, reported}
 use Rattle.symple_run.specs.SourceRuns.{IsPrinted}

@@ -12,7 +12,6 @@ use Rattle.outside.specs.Files.{File}
 use Rattle.symple_face.specs.CoreWork.{core_work}
 use Rattle.symple_face.specs.Work.{Work}
 use Rattle.part_runs.proofs.CourseLaws.{parted_calm, parted_quiet, parted_same, parted_spares, serving_spares}
-use Rattle.symple_run.specs.SourceSchedules.{IsSourceReplay}
 use Rattle.symple_run.proofs.CourseShapes.{same_alike}
 use Rattle.symple_run.proofs.LinkedTasks.{follow_calm, follow_quiet, follow_spares, followed_same, lossy_calm, lossy_same, lossy_spares, replay_calm, replay_quiet, replay_same, replay_spares, source_lossy_calm, source_lossy_same, source_lossy_spares}
 use Rattle.symple_run.proofs.SourceTasks.{record_calm, record_same, record_spares}

@@ -1,5 +1,5 @@
 -- Tasks with the text of a schedule go one way: the text says one pair of machines and events, or has one fault.
-use Rattle.std.proofs.Common.{◌≡◌, ◌≢◌, ℕ, List, [], ◌∷◌, ◌++◌, Option, Some, None, Result, Ok, Err, refl, sym, ap, subst, ◌∙◌}
+use Rattle.std.proofs.Common.{◌≡◌, ◌≢◌, ℕ, List, [], Err, refl, sym, ap, subst, ◌∙◌}
 use Rattle.command_steps.specs.Courses.{TakesNothing}
 use Rattle.command_steps.specs.Notes.{Fault}
 use Rattle.command_steps.specs.Orders.{Course, Fails, Play, Task, follows}
@@ -14,7 +14,7 @@ use Rattle.delivery_log.proofs.DrawnLaws.{drawn_is_one}
 use Rattle.delivery_log.proofs.PairLaws.{has_one_fault, one_header, reads_back, stands_for_one}
 use Rattle.symple_face.specs.Cluster.{World}
 use Rattle.symple_face.specs.Work.{Work}
-use Rattle.symple_run.specs.Followed.{ByText, IsFaulty, IsRenewed, Tells, renewed, text_fault}
+use Rattle.symple_run.specs.Followed.{ByText, IsFaulty, IsRenewed, Tells, text_fault}
 use Rattle.symple_run.specs.Recorded.{IsDrawnPlay}
 use Rattle.machine_runs.specs.Tellings.{by_worlds, recorded}
 use Rattle.symple_run.proofs.CourseShapes.{recorded_calm, recorded_spares, renewed_calm, renewed_spares}

@@ -1,14 +1,12 @@
 -- What a run that leaves images leaves of the files, and what goes on from them.
-use Rattle.std.specs.Prelude.{◌≡◌, ◌≢◌, ◌<◌, ◌+◌, ◌⊎◌, false, ℕ, List, [], ◌∷◌, ◌++◌, Option, None, Some, Ok, bytes_eq, if◌then◌else◌, map}
-use Rattle.check_point.specs.Laws.{told_start}
+use Rattle.std.specs.Prelude.{◌≡◌, ◌≢◌, ◌⊎◌, ℕ, List, [], ◌∷◌, ◌++◌, Option, None, Some, Ok, bytes_eq, if◌then◌else◌, map}
 use Rattle.command_steps.specs.declared.status.Status.{Status}
 use Rattle.command_steps.specs.declared.status.Status.TheVariants as status
-use Rattle.command_steps.specs.Commands.{graph_of, image_name, origin_of, play_of}
-use Rattle.command_steps.specs.Courses.{course_text}
+use Rattle.command_steps.specs.Commands.{graph_of, origin_of, play_of}
 use Rattle.command_steps.specs.Leaves.{IsUnder}
 use Rattle.command_steps.specs.Notes.{Fault, NoMemory, NoWrite}
 use Rattle.command_steps.specs.Orders.{Course, Fails, Imaged, IsOver, Keeps, Prints, Takes, Task}
-use Rattle.command_steps.specs.States.{Held, Kept, Outside}
+use Rattle.command_steps.specs.States.{Outside}
 use Rattle.edge_reader.specs.EdgeList.{Graph}
 use Rattle.outside.specs.Bytes.{gained}
 use Rattle.outside.specs.Files.{File, file_named}

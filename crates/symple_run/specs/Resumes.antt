@@ -1,5 +1,5 @@
 -- The courses of runs that go on from an image.
-use Rattle.std.specs.Prelude.{◌≡◌, nat_lt, ℕ, List, length, map, Option, None, Some, Result, Ok, Err, if◌then◌else◌, option_map}
+use Rattle.std.specs.Prelude.{◌≡◌, nat_lt, ℕ, List, Option, None, Some, Result, Ok, Err, if◌then◌else◌, option_map}
 use Rattle.check_point.specs.Judgement.{IsOwn, IsWholeOf}
 use Rattle.check_point.specs.Laws.{told_start}
 use Rattle.chunk_split.specs.Chunks.{vertices_of}

@@ -1,5 +1,5 @@
 -- What playing a run does to the outside.
-use Rattle.std.specs.Prelude.{◌≡◌, ℕ, List, Result, Ok, Err}
+use Rattle.std.specs.Prelude.{◌≡◌, ℕ, Result, Ok, Err}
 use Rattle.check_point.specs.Keys.{key_of}
 use Rattle.edge_reader.specs.Gives.{graph_of_edges}
 use Rattle.command_steps.specs.Faults.{fault_of}

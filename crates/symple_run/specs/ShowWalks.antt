@@ -3,9 +3,9 @@ use Rattle.std.specs.Prelude.{◌≡◌, ◌+◌, ℕ, Bool, false, List, [], �
 use Rattle.plain_run.specs.Told.{Told}
 use Rattle.schedule_laws.specs.Layout.{told_in}
 use Rattle.schedule_laws.specs.ToldRounds.{rounds_ended}
-use Rattle.symple_face.specs.Cluster.{IsPlainRun, World, after, step}
+use Rattle.symple_face.specs.Cluster.{IsPlainRun, World, after}
 use Rattle.symple_face.specs.Work.{Work}
-use Rattle.machine_runs.specs.PlainPlays.{ends_round, first_report}
+use Rattle.machine_runs.specs.PlainPlays.{first_report}
 use Rattle.symple_run.specs.Shows.{reads_in_all}
 use Rattle.vert_base.specs.declared.message.Event.{Event}
 

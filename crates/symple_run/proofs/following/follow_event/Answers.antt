@@ -1,5 +1,4 @@
-use Rattle.std.proofs.Common.{arith}
-use Rattle.symple_run.proofs.FollowLaws.{listed_goes, listed_refused, listed_stops, listed_wants}
+use Rattle.symple_run.proofs.FollowLaws.{listed_goes, listed_stops}
 use Rattle.symple_run.proofs.ResultLaws.{err_more, on_more}
 use Rattle.symple_run.proofs.following.follow_event.Goals as goal
 

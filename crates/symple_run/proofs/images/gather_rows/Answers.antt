@@ -1,4 +1,4 @@
-use Rattle.std.proofs.Common.{◌≡◌, ◌<◌, ◌≤◌, ◌∙◌, ℕ, length, subst, arith}
+use Rattle.std.proofs.Common.{◌<◌, ◌≤◌, ◌∙◌, ℕ, length, subst, arith}
 use Rattle.schedule_laws.specs.Layout.{vertices_in}
 use Rattle.symple_run.proofs.RowsTold.{rows_all, rows_more}
 use Rattle.symple_run.proofs.images.gather_rows.Goals as goal

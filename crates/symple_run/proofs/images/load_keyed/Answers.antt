@@ -3,7 +3,6 @@ use Rattle.check_point.specs.Keys.{key_of}
 use Rattle.command_steps.specs.States.{shelf_state}
 use Rattle.command_steps.specs.Walks.{HasBoth}
 use Rattle.edge_reader.specs.Gives.{graph_of_edges}
-use Rattle.symple_run.specs.KeptImages.{flags_of}
 use Rattle.symple_words.specs.Views.{job_view}
 use Rattle.symple_run.proofs.images.load_keyed.Goals as goal
 

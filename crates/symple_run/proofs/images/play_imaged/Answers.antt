@@ -1,6 +1,5 @@
 use Rattle.std.proofs.lemmas.Result.{err_from_is_err_and}
 use Rattle.command_steps.specs.Commands.{play_of}
-use Rattle.command_steps.specs.Leaves.{WantsAtRun}
 use Rattle.command_steps.specs.States.{shelf_state}
 use Rattle.edge_reader.specs.Gives.{graph_of_edges}
 use Rattle.symple_run.proofs.ImageLaws.{imaged_ends, imaged_plays, imaged_table_stops}

@@ -1,7 +1,5 @@
-use Rattle.std.proofs.Common.{◌≡◌, ◌∙◌, None, Option, Ok, Err, Result, refl, rules, arith, sym, subst}
-use Rattle.std.specs.Prelude.{if◌then◌else◌}
+use Rattle.std.proofs.Common.{◌∙◌, Option, Ok, Err, refl, rules, arith, sym, subst}
 use Rattle.std.proofs.lemmas.Result.{err_from_is_err_and}
-use Rattle.command_steps.specs.Faults.{fault_of}
 use Rattle.command_steps.specs.States.{shelf_state}
 use Rattle.schedule_laws.specs.Starts.{start_told}
 use Rattle.symple_face.specs.Cluster.{World}

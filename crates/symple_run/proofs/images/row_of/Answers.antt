@@ -1,7 +1,7 @@
-use Rattle.std.proofs.Common.{◌≡◌, ◌<◌, List, ℕ, length, sym, ap, subst, ◌∙◌, arith}
+use Rattle.std.proofs.Common.{◌≡◌, ◌<◌, List, ℕ, sym, ap, subst, ◌∙◌, arith}
 use Rattle.chunk_split.specs.Chunks.{Holds, vertices_of}
 use Rattle.symple_face.specs.Parts.{PlainPart}
-use Rattle.machine_runs.proofs.WorldLaws.{IsOfRun, ends_in_is, of_run, own_lies, owner_is, row_is, some_sites, vertex_count}
+use Rattle.machine_runs.proofs.WorldLaws.{ends_in_is, of_run, own_lies, owner_is, row_is, some_sites, vertex_count}
 use Rattle.symple_run.proofs.images.row_of.Goals as goal
 
 pub site-requires : goal.site-requires

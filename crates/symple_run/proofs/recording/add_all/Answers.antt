@@ -1,4 +1,4 @@
-use Rattle.std.proofs.Common.{◌+◌, List, subst, sym, take}
+use Rattle.std.proofs.Common.{List, subst, sym, take}
 use Rattle.std.proofs.lemmas.List.{take_all, take_more}
 use Rattle.std.proofs.lemmas.Result.{err_from_is_err_and}
 use Rattle.delivery_log.specs.Records.{Records}

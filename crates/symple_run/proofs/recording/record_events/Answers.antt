@@ -1,4 +1,4 @@
-use Rattle.std.proofs.Common.{[], ◌∷◌, ◌++◌, arith, rules, subst, sym}
+use Rattle.std.proofs.Common.{[], ◌∷◌, ◌++◌, rules, subst, sym}
 use Rattle.std.proofs.lemmas.Result.{err_from_is_err_and}
 use Rattle.command_steps.specs.States.{outside, sink_state}
 use Rattle.rand_pcg.specs.Lcg.{Lcg}

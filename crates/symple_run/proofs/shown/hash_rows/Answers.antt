@@ -1,4 +1,4 @@
-use Rattle.std.proofs.Common.{◌≡◌, ◌<◌, ◌≤◌, ◌+◌, ◌++◌, List, [], ℕ, length, slice_get, sym, ap, subst, ◌∙◌, arith, append_assoc, append-nil}
+use Rattle.std.proofs.Common.{◌<◌, ◌≤◌, ◌++◌, List, ℕ, length, slice_get, sym, ap, subst, ◌∙◌, arith, append_assoc, append-nil}
 use Rattle.schedule_laws.specs.Layout.{vertices_in}
 use Rattle.sha2.specs.Hashers.{Holds256}
 use Rattle.symple_run.specs.Played.{line_of, lines_to}

@@ -1,19 +1,17 @@
-use Rattle.std.proofs.Common.{◌≡◌, ◌∙◌, List, ℕ, Option, Some, None, ap, refl, sym, subst}
+use Rattle.std.proofs.Common.{List, ℕ, Option, Some, subst}
 use Rattle.std.specs.Prelude.{option_map}
 use Rattle.std.proofs.lemmas.Result.{err_from_is_err_and}
-use Rattle.check_point.specs.Keys.{key_of}
 use Rattle.command_steps.specs.Commands.{image_name, origin_of, play_of}
 use Rattle.command_steps.specs.Faults.{fault_of}
 use Rattle.command_steps.specs.Leaves.{Leaves}
 use Rattle.command_steps.specs.Orders.{Order, Resumed, Runs, Tries, follows}
-use Rattle.command_steps.specs.States.{Held, Left, outside, shelf_state, sink_state}
+use Rattle.command_steps.specs.States.{Left, outside, shelf_state, sink_state}
 use Rattle.command_steps.specs.Walks.{fault_after}
 use Rattle.command_steps.proofs.FileLaws.{try_stops}
 use Rattle.command_steps.proofs.WalkLaws.{both_go, both_stop}
 use Rattle.edge_reader.specs.EdgeList.{Graph}
 use Rattle.edge_reader.specs.Gives.{graph_of_edges}
-use Rattle.symple_face.specs.Work.{PlainStart, plain_start}
-use Rattle.symple_run.specs.KeptImages.{flags_of}
+use Rattle.symple_face.specs.Work.{plain_start}
 use Rattle.symple_run.specs.Played.{IsPlayed}
 use Rattle.symple_run.specs.Resumes.{Tells}
 use Rattle.symple_run.proofs.ResumeLaws.{found_goes, ready_by}
