@@ -19,7 +19,7 @@ use Rattle.cluster_run.specs.Driven.{IsReached}
 use Rattle.cluster_run.specs.Faults.{event_fault, fault_of, lacking}
 use Rattle.cluster_run.proofs.Chosen.{goes_on, nothing_lacks}
 use Rattle.cluster_run.proofs.Letters.{has_letter}
-use Rattle.cluster_run.proofs.Results.{finished_alike}
+use Rattle.cluster_run.proofs.Results.{finished_alike, some_site}
 use Rattle.cluster_run.proofs.Tables.{acts_alike}
 use Rattle.cluster_run.proofs.Worlds.{IsMachine, Knows, it_is, it_keeps, ready_going, ready_holds}
 use Rattle.command_steps.specs.Notes.{LongSchedule}
@@ -52,8 +52,6 @@ use Rattle.schedule_laws.specs.Layout.{taken_in}
 use Rattle.schedule_laws.specs.OutputText.{ideal_taken, next_by}
 use Rattle.schedule_laws.specs.Runs.{IsSourceRun}
 use Rattle.schedule_laws.proofs.Follows.{Follows, few, gone_is}
-use Rattle.schedule_laws.proofs.Printed.{some_site}
-use Rattle.schedule_laws.proofs.Saying.{quiet}
 use Rattle.symple_face.specs.Cluster.{IsOneRun, World, can_act, choices_of, finished, first_world, possible, ready_machines, step, takes}
 use Rattle.symple_face.specs.CoreWork.{core_work}
 use Rattle.symple_face.specs.Lawful.{acting}
@@ -71,6 +69,7 @@ use Rattle.vert_base.specs.Letters.{Letter, found}
 use Rattle.word_kinds.specs.Fits.{IsFitting}
 use Rattle.work_laws.specs.Sound.{core_sound}
 use Rattle.work_laws.proofs.Whole.{core_lawful}
+use Rattle.schedule_laws.specs.Texts.{no_lines}
 
 -- ---- lists
 drop_front : (xs ys : List Name) → drop (length xs) (xs ++ ys) ≡ ys
@@ -193,11 +192,13 @@ module _ (src : Source) (parts : List PlainPart) (one : IsOneRun parts) (run : I
         by : (b : Bool) → finished l.world ≡ b → link_fault_of l e ≡ ordered_fault (ring_in src) s e
         by true over =
             ap (λ (b : Bool). if b then Some (Plain RunOver) else fault_within l e) over
-            ∙ sym (ap (λ (b : Bool). if b then Some (Plain RunOver) else turn_fault (ring_in src) s e) (sym over_alike ∙ over))
+            ∙ sym (ap (λ (b : Bool). if b then Some (Plain RunOver) else turn_fault (ring_in src) s e) (sym over_alike
+            ∙ over))
         by false on =
             ap (λ (b : Bool). if b then Some (Plain RunOver) else fault_within l e) on
             ∙ turn_alike e on
-            ∙ sym (ap (λ (b : Bool). if b then Some (Plain RunOver) else turn_fault (ring_in src) s e) (sym over_alike ∙ on))
+            ∙ sym (ap (λ (b : Bool). if b then Some (Plain RunOver) else turn_fault (ring_in src) s e) (sym over_alike
+            ∙ on))
 
     -- ---- what may come next
     ready_alike : ready_machines l.world ≡ order_ready (ring_in src) s.order
@@ -229,7 +230,8 @@ module _ (src : Source) (parts : List PlainPart) (one : IsOneRun parts) (run : I
 
       -- an event of the machines, told as without links
       plain_alike : (e : Event) → possible l.world e ≡ true →
-          GoesAlike (by_worlds core_work lines) (by_source lines src) (Goes src parts one run same_ends) l.world s.order e
+          GoesAlike (by_worlds core_work lines) (by_source lines src) (Goes src parts one run same_ends) l.world
+          s.order e
       plain_alike e can = (told_alike src parts one run same_ends lines).goes l.world s.order g.world e
           (ap (option_map (why_of e))
           (((goes_on core_work core_sound core_lawful l.world g.world.reached).played e).0 can))
@@ -317,7 +319,7 @@ module _ (src : Source) (parts : List PlainPart) (one : IsOneRun parts) (run : I
 
   step_over : (l : Linked) (s : Ordered) → GoesOver l s → (e : LinkEvent) → link_possible l e ≡ true →
       GoesOver (link_step core_work l e) (ordered_step src s e)
-  step_over l s g e can = (event_alike l s g quiet e (possible_event l e can)).behind
+  step_over l s g e can = (event_alike l s g no_lines e (possible_event l e can)).behind
 
   -- ---- drawn events
   pub drawn_over : (l : Linked) (s : Ordered) → GoesOver l s → (c : Lcg) (es : List LinkEvent) →
@@ -376,7 +378,8 @@ module _ (src : Source) (parts : List PlainPart) (one : IsOneRun parts) (run : I
         recorded_as (by_links core_work lines) (links_text machines) name added l []
         ≡ recorded_as (by_source_links lines src) (links_text machines) name added s []
     end_over added l s g fits (inl over) =
-        ap (λ (table : List ℕ). Keeps name (links_text machines added) (Prints table IsOver)) (ends_alike l s g lines over)
+        ap (λ (table : List ℕ). Keeps name (links_text machines added) (Prints table IsOver)) (ends_alike l s g lines
+        over)
     end_over added l s g fits (inr long) = absurd (not_long added fits long)
 
     pub recorded_over : (added : List LinkEvent) (l : Linked) (s : Ordered) → GoesOver l s → (es : List LinkEvent) →
@@ -436,11 +439,13 @@ module _ (split : Split) (parts : List PlainPart) (one : IsOneRun parts) (fits :
   module _ (machines : ℕ) (c : Lcg) (es : List LinkEvent) (can : links_possible core_work first es ≡ true)
       (far : IsDrawnFar core_work machines [] first c es) where
     pub links_drawn : IsFarOrder whole machines [] begun c es
-    links_drawn = far_over whole parts one (is_run split parts one fits) refl machines first begun first_over c es can far
+    links_drawn = far_over whole parts one (is_run split parts one fits) refl machines first begun first_over c es can
+        far
 
     pub links_recorded : (lines : Lines) (name : List ℕ) → length (links_text machines []) ≤ SCHEDULE_BYTES →
         recorded_as (by_links core_work lines) (links_text machines) name [] first es
         ≡ recorded_as (by_source_links lines whole) (links_text machines) name [] begun es
     links_recorded lines name short =
-        recorded_over whole parts one (is_run split parts one fits) refl lines name machines [] first begun first_over es
+        recorded_over whole parts one (is_run split parts one fits) refl lines name machines [] first begun first_over
+        es
         can short far.1

@@ -123,7 +123,8 @@ text_parts lines program run rest before behind are same last =
     ∙ ap (λ (text : List ℕ). text ++ table)
     (sym (flat_map-append (told_lines lines) (map (told_played lines.reads) before)
     (map (told_played lines.reads) behind)))
-    ∙ ap (λ tolds. flat_map (told_lines lines) tolds ++ table) (sym (map-append (told_played lines.reads) before behind))
+    ∙ ap (λ tolds. flat_map (told_lines lines) tolds ++ table) (sym (map-append (told_played lines.reads) before
+    behind))
     ∙ ap (λ (ps : List Played). rounds_text lines ps ++ table) (sym are)
 
 module _ (play : Play) where

@@ -154,7 +154,8 @@ module _ (sound : State → Type 0) (lines : Lines) (program : Program) (graph :
         ∙ text_said lines first.split.program.program program _ _ first.program_is job_is
 
     pub log_told : text_of core_work lines v es
-        ≡ output_text lines (whole_run first.split first.parts first.of_graph.one) (first_skeleton (length first.parts)) es
+        ≡ output_text lines (whole_run first.split first.parts first.of_graph.one) (first_skeleton
+        (length first.parts)) es
     log_told = there ∙ every_log lines first.split first.parts first.of_graph.one es first.fits ended_there
 
     pub rounds_are_told : rounds_ended false core_work v es
@@ -174,7 +175,8 @@ module _ (sound : State → Type 0) (lines : Lines) (program : Program) (graph :
         first.program_is
 
 -- the parts of a first world
-abbrev pub parts_on : (play : Play) (v : World) → IsFirstWorld core_work play.program play.graph play.machines play.draws v →
+abbrev pub parts_on : (play : Play) (v : World) → IsFirstWorld core_work play.program play.graph play.machines
+    play.draws v →
     HasParts play
 parts_on play v first = record {
   split = first.split;
@@ -300,7 +302,8 @@ module _ (sound : State → Type 0) (laws : ChosenWell core_work sound) where
         course_is = is.course_is
             ∙ ap (λ (u : World). recorded (by_worlds core_work play.lines) name play.machines [] u is.events)
             is.is_first.here
-            ∙ recorded_told is.is_first.split is.is_first.parts is.is_first.of_graph.one is.is_first.fits play.lines name
+            ∙ recorded_told is.is_first.split is.is_first.parts is.is_first.of_graph.one is.is_first.fits play.lines
+            name
             play.machines is.events there;
         text = puts_source sound play is.first is.is_first is.events course (λ ends. complete)
             (λ ends. ap course_text is.course_is
@@ -309,7 +312,8 @@ module _ (sound : State → Type 0) (laws : ChosenWell core_work sound) where
       }
 
   -- the world behind possible events is reached
-  pub reached_behind : (w : World) (es : List Event) → IsReached core_work sound w → all_possible core_work w es ≡ true →
+  pub reached_behind : (w : World) (es : List Event) → IsReached core_work sound w → all_possible core_work w es
+      ≡ true →
       IsReached core_work sound (after core_work w es)
   reached_behind w [] r can = r
   reached_behind w (e ∷ es) r can =
@@ -325,7 +329,8 @@ module _ (sound : State → Type 0) (laws : ChosenWell core_work sound) where
         on = parts_on play is.first is.is_first;
         course_is = is.course_is
             ∙ ap (λ (u : World). followed (by_worlds core_work play.lines) form 0 1 u events) is.is_first.here
-            ∙ followed_told is.is_first.split is.is_first.parts is.is_first.of_graph.one is.is_first.fits play.lines form
+            ∙ followed_told is.is_first.split is.is_first.parts is.is_first.of_graph.one is.is_first.fits play.lines
+            form
             events;
         text = puts_source sound play is.first is.is_first events course
             (λ ends.

@@ -41,7 +41,8 @@ module _ (work : Work) (lines : Lines) (w : World) (e : Event) (line : ℕ) wher
   pub listed_goes : fault_of w e ≡ None → (old new : Held) → PutsLines work lines w e old new →
       PlaysListed work lines w e line old new
   listed_goes can old new puts = λ rest shelf input after outcome leaves.
-      subst (λ (o : Option EventFault). Leaves NoTask (follows (course_by o rest)) (outside shelf old input) after outcome)
+      subst (λ (o : Option EventFault). Leaves NoTask (follows (course_by o rest)) (outside shelf old input) after
+      outcome)
       (sym can) (puts (follows rest) shelf input after outcome leaves)
 
   -- it was played up to a fault
@@ -163,14 +164,16 @@ module _ (work : Work) (play : ℕ → Play) (text : List ℕ) where
   text_follows machines events says form is_form old new outcome goes =
       task_goes work (Followed play text) (Told machines form events)
       (λ course is. ByEvents (λ none. no_fault text machines events says Header (λ e. cc) none)
-      (Tells machines events says (subst (λ (f : Form). Told machines f events course) is_form is))) old new outcome goes
+      (Tells machines events says (subst (λ (f : Form). Told machines f events course) is_form is))) old new outcome
+      goes
 
   -- it has no first line of them
   pub text_linked : HasNoHeader text → (old new : Outside) (outcome : Option Fault) →
       Goes (ByLinkText text (λ machines events. IsLinkedPlay work (play machines) events)) old new outcome →
       Leaves (IsPlayed work) (Runs (Followed play text) follows) old new outcome
   text_linked none old new outcome goes =
-      task_goes work (Followed play text) (ByLinkText text (λ machines events. IsLinkedPlay work (play machines) events))
+      task_goes work (Followed play text) (ByLinkText text (λ machines events. IsLinkedPlay work (play machines)
+      events))
       (λ course is. ByLinks none is) old new outcome goes
 
   -- it has another fault in form 1 or 2
@@ -195,7 +198,8 @@ module _ (work : Work) (play : ℕ → Play) (text : List ℕ) where
       (old new : Outside) (outcome : Option Fault) → Goes (Linked machines events) old new outcome →
       Goes (ByLinkText text Linked) old new outcome
   links_follow machines events says old new outcome goes =
-      goes_so (Linked machines events) (ByLinkText text Linked) (λ course is. TellsLinks machines events says is) old new
+      goes_so (Linked machines events) (ByLinkText text Linked) (λ course is. TellsLinks machines events says is) old
+      new
       outcome goes
 
   pub links_faulty : (fault : Fault) → NoLinksRead text fault → (w : Outside) →

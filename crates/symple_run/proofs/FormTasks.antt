@@ -46,7 +46,8 @@ one_link_fault text (Line m) Want a b bad also = absurd (b refl)
 one_link_fault text Want because a b gives also = absurd (a refl)
 
 links_settle : (text : List ℕ) (told : ℕ → List LinkEvent → Course → Type 0) →
-    ((machines : ℕ) (events : List LinkEvent) (a b : Course) → told machines events a → told machines events b → a ≡ b) →
+    ((machines : ℕ) (events : List LinkEvent) (a b : Course) → told machines events a → told machines events b → a
+    ≡ b) →
     (course other : Course) → ByLinkText text told course → ByLinkText text told other → course ≡ other
 links_settle text told settles course other (TellsLinks m es a is) (TellsLinks n fs b also) =
     let pair = tells_one text m n es fs a b in
@@ -59,7 +60,8 @@ links_settle text told settles course other (LinksAreFaulty why real gives is) (
     absurd (no_link_fault text n fs b why real gives)
 links_settle text told settles course other (LinksAreFaulty why real gives is) (LinksAreFaulty because too shows also) =
     is
-    ∙ ap (λ (fault : LinkTextFault). Fails (link_text_fault fault)) (one_link_fault text why because real too gives shows)
+    ∙ ap (λ (fault : LinkTextFault). Fails (link_text_fault fault)) (one_link_fault text why because real too gives
+    shows)
     ∙ sym also
 
 -- ---- a text of any form
@@ -89,7 +91,8 @@ links_hold text told P fails holds course (LinksAreFaulty why real gives is) =
 
 pub each_holds : (text : List ℕ) (told : ℕ → Form → List Event → Course → Type 0)
     (linked : ℕ → List LinkEvent → Course → Type 0) (P : Course → Type 0) → ((fault : Fault) → P (Fails fault)) →
-    ((machines : ℕ) (form : Form) (events : List Event) (course : Course) → told machines form events course → P course) →
+    ((machines : ℕ) (form : Form) (events : List Event) (course : Course) → told machines form events course →
+    P course) →
     ((machines : ℕ) (events : List LinkEvent) (course : Course) → linked machines events course → P course) →
     (course : Course) → ByEachForm text told linked course → P course
 each_holds text told linked P fails holds also course (ByEvents some is) = text_holds text told P fails holds course is

@@ -83,7 +83,8 @@ module _ (work : Work) (lines : Lines) (key image : List ℕ) where
       ap (λ (text : List ℕ). log_line lines w e ++ (round ++ text))
       (with_text (start_behind work w e) (imaged_from work lines key image next es) ∙ imaged_text next es)
       ∙ sym (append_assoc (log_line lines w e) round rest)
-      ∙ sym (append_assoc (log_line lines w e ++ round) (lines_of work lines next es) (table_of work (after work next es)))
+      ∙ sym (append_assoc (log_line lines w e ++ round) (lines_of work lines next es) (table_of work (after work next
+      es)))
 
 pub imaged_stores : (work : Work) (play : Play) (origin : Origin) (image : List ℕ) (course : Course) →
     IsImagedPlay work play origin image course → StoresImages image course
@@ -109,7 +110,8 @@ module _ (split : Split) (vertices : ℕ) (key : List ℕ) where
       subst (λ (n : ℕ). Tells split n key (Some bytes) (Some start) → IsStart whole split start) same
       (λ here. subst (IsStart whole split) (sym here.1) (ready whole split key bytes here.0.own)) told
 
-  pub later_ready : (even odd : Option (List ℕ)) (first second : Option PlainStart) → Tells split vertices key even first →
+  pub later_ready : (even odd : Option (List ℕ)) (first second : Option PlainStart) → Tells split vertices key even
+      first →
       Tells split vertices key odd second → (start : PlainStart) → later_of first second ≡ Some start →
       (whole : PlainPart) → vertices_of whole.ends ≡ vertices → StartIsReady → IsStart whole split start
   later_ready even odd None second a b start is whole same ready =

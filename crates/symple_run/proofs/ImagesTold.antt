@@ -125,7 +125,8 @@ module _ (key image : List ℕ) (split : Split) (parts : List PlainPart) (one : 
 
     low : (j : ℕ) (t : State) → slice_get w.sites j ≡ Some t → j < length parts
     low j t there =
-        (it_keeps core_work core_sound core_lawful src.split parts (few src parts one run refl) w k f.alike f.reached j t
+        (it_keeps core_work core_sound core_lawful src.split parts (few src parts one run refl) w k f.alike f.reached
+        j t
         there).machine
 
     stands : (j : ℕ) (t : State) → slice_get w.sites j ≡ Some t → standing_of k.standings j ≡ t.at
@@ -133,7 +134,8 @@ module _ (key image : List ℕ) (split : Split) (parts : List PlainPart) (one : 
         same_Some (standing_of k.standings j) t.at
         (sym (got k.standings j
         (let all = state.settled.rules.all_there in let lt = low j t there in omega arith))
-        ∙ it_stands core_work core_sound core_lawful src.split parts (few src parts one run refl) w k f.alike f.reached j
+        ∙ it_stands core_work core_sound core_lawful src.split parts (few src parts one run refl) w k f.alike
+        f.reached j
         t there)
 
     -- ---- machine 0 judges a round

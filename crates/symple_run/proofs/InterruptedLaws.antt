@@ -18,7 +18,8 @@ use Rattle.symple_run.specs.KeptImages.{StoresImages}
 -- ---- files
 -- under the name of a store stand its bytes
 module _ (name other bytes : List ℕ) (same : other ≡ name) where
-  at_file : (file : File) (files : List File) → file_named name (with_file other bytes files) ≡ Some bytes → (b : Bool) →
+  at_file : (file : File) (files : List File) → file_named name (with_file other bytes files) ≡ Some bytes →
+      (b : Bool) →
       bytes_eq file.name other ≡ b →
       file_named name (if b then record file { bytes = bytes } ∷ files else file ∷ with_file other bytes files)
       ≡ Some bytes

@@ -6,9 +6,9 @@
 -- course of the first is one of the second (`core_runs`, in CoreTasks), so all that is said of the
 -- first carries over. Where files are told and no count of faults rises, a command comes out
 -- (`completes`, in HeadLaws, over the laws of orders in command_steps). What a recorded run kept is
--- replayed to the same bytes (`replays_gain_the_same`, in ReplayLaws; over links LinkReplayLaws), a run leaves images as its
--- course says (`tells_images`, in LeftImages), and a run that was stopped goes on with the rest of
--- the whole (`every_stop_goes_on`, in ContinuedLaws).
+-- replayed to the same bytes (`replays_gain_the_same`, in ReplayLaws; over links LinkReplayLaws), a
+-- run leaves images as its course says (`tells_images`, in LeftImages), and a run that was stopped
+-- goes on with the rest of the whole (`every_stop_goes_on`, in ContinuedLaws).
 --
 -- The invariant of each loop over events: with what was put and kept so far, what the events from
 -- here on leave of the outside is what all of them leave from the first state on (`RecordsTo`, in
@@ -21,8 +21,8 @@
 -- (`played_are`, `told_are`), over CourseShapes, PartTasks, SourceTasks, and TextTasks, by which a
 -- text settles its machines and events; over links, and of texts of any form, FormTasks and
 -- LinkedTasks. That for cores they are the source's: CoreRuns, and over links LinkedCores. ShowLaws:
--- the rounds that the demonstration counts, and its lines. RowsTold: the rows of all vertices, gathered. Images: what machines tell of such runs
--- (ImagedRuns), that cores tell the source's images (`images_told`, in ImagesTold), how far a run
+-- the rounds that the demonstration counts, and its lines. RowsTold: the rows of all vertices,
+-- gathered. Images: what machines tell of such runs (ImagedRuns), that cores tell the source's images (`images_told`, in ImagesTold), how far a run
 -- comes that was cut off (`came_to`, in InterruptedLaws). HeadLaws takes the status, the note and
 -- the answer of `free` from what the order leaves; ResultLaws hands facts of results on.
 pub mod ContinuedLaws

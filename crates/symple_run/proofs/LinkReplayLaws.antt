@@ -113,7 +113,8 @@ module _ (work : Work) (sound : State → Type 0) (laws : ChosenWell work sound)
           (recorded_as (by_links work lines) (links_text machines) name (added ++ e ∷ []) (link_step work l e) es))
           ≡ Some bytes →
           (length (links_text machines (added ++ e ∷ [])) ≤ SCHEDULE_BYTES →
-          kept_bytes (recorded_as (by_links work lines) (links_text machines) name (added ++ e ∷ []) (link_step work l e)
+          kept_bytes (recorded_as (by_links work lines) (links_text machines) name (added ++ e ∷ []) (link_step work l
+          e)
           es) ≡ Some bytes → length (links_text machines ((added ++ e ∷ []) ++ es)) ≤ SCHEDULE_BYTES) →
           length (links_text machines (added ++ e ∷ es)) ≤ SCHEDULE_BYTES
       by true is kept more = absurd (cc)

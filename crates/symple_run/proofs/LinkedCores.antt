@@ -46,14 +46,16 @@ module _ (sound : State → Type 0) (laws : ChosenWell core_work sound) (play : 
     part = plain_part core_work (linked_anew w) es
 
     -- the plain part of possible events that come to an end is complete
-    plain_complete : finished (link_after core_work (linked_anew w) es).world ≡ true → is_complete core_work w part ≡ true
+    plain_complete : finished (link_after core_work (linked_anew w) es).world ≡ true → is_complete core_work w part
+        ≡ true
     plain_complete over =
         let plain = events_are_over_plain core_work (linked_anew w) es can in
         and_from (all_possible core_work w part) (finished (after core_work w part)) plain.possible
         (ap finished (sym plain.world) ∙ over)
 
     -- and it comes to an end where nothing is lacking
-    nothing_lacking : lacking (link_after core_work (linked_anew w) es).world ≡ None → is_complete core_work w part ≡ true
+    nothing_lacking : lacking (link_after core_work (linked_anew w) es).world ≡ None → is_complete core_work w part
+        ≡ true
     nothing_lacking none =
         let plain = events_are_over_plain core_work (linked_anew w) es can in
         let reached = first_reached core_work sound play.program play.graph play.machines play.draws w first in

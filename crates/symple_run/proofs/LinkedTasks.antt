@@ -38,7 +38,8 @@ module _ (work : Work) where
         b.is_first in
         let m = play.machines in
         a.course_is
-        ∙ ap (λ (w : World). recorded_as (by_links work play.lines) (links_text m) name [] (linked_anew w) a.events) first
+        ∙ ap (λ (w : World). recorded_as (by_links work play.lines) (links_text m) name [] (linked_anew w) a.events)
+        first
         ∙ one_drawn work play.lines name m [] (linked_anew b.first) (generator_of seed) a.events b.events
         (header_short m a.few.1)
         (subst (λ (w : World). IsDrawnFar work m [] (linked_anew w) (generator_of seed) a.events) first a.drawn) b.drawn
@@ -46,7 +47,8 @@ module _ (work : Work) where
 
     pub lossy_calm : (course : Course) → IsLossyPlay work play seed name course → TakesNothing course
     lossy_calm course is = subst TakesNothing (sym is.course_is)
-        (recorded_as_calm (by_links work play.lines) (links_text play.machines) name [] (linked_anew is.first) is.events)
+        (recorded_as_calm (by_links work play.lines) (links_text play.machines) name [] (linked_anew is.first)
+        is.events)
 
     pub lossy_spares : (courses : Task → Course → Type 0) (other : List ℕ) → other ≢ name → (course : Course) →
         IsLossyPlay work play seed name course → Spares courses other (follows course)
@@ -79,10 +81,12 @@ module _ (work : Work) where
     follow_holds P fails each course is =
         each_holds text _ _ P fails
         (λ machines form events c one.
-        subst P (sym one.course_is) (each World Event (by_worlds work (play machines).lines) one.first (listed form 0 1 events)))
+        subst P (sym one.course_is) (each World Event (by_worlds work (play machines).lines) one.first (listed form 0
+        1 events)))
         (λ machines events c one.
         subst P (sym one.course_is)
-        (each Linked LinkEvent (by_links work (play machines).lines) (linked_anew one.first) (listed_links 1 events))) course is
+        (each Linked LinkEvent (by_links work (play machines).lines) (linked_anew one.first) (listed_links 1 events)))
+        course is
 
     pub follow_calm : (course : Course) → IsFollowed work play text course → TakesNothing course
     follow_calm course is = follow_holds TakesNothing (λ fault. tt) (λ X E t x ls. followed_as_calm t x ls) course is

@@ -35,7 +35,8 @@ same_drawn e d is = cc
 
 -- the drawn events from the next world on
 pub drawn_behind : (work : Work) (w : World) (g : Lcg) (e : Event) → finished w ≡ false → drawn_of g w ≡ Some e →
-    ((es : List Event) × IsDrawnRun work w g es) → (es : List Event) × IsDrawnRun work (step work w e) (behind_word g) es
+    ((es : List Event) × IsDrawnRun work w g es) → (es : List Event) × IsDrawnRun work (step work w e) (behind_word g)
+    es
 drawn_behind work w g e more drawn ([], ends) = absurd (false≢true (sym more ∙ ends))
 drawn_behind work w g e more drawn (d ∷ es, runs) = (
   es,
@@ -62,7 +63,8 @@ module _ (run : Recordings) (added : List Event) (w : World) (g : Lcg) (e : Even
           events = e ∷ on.events;
           drawn = (more, drawn, on.drawn);
           leaves = subst (λ (b : Bool). Leaves NoTask (follows (course_if b on.events)) (outside shelf old input) after
-              outcome) (sym (le-ltb SCHEDULE_BYTES (length (schedule_text Roundless run.machines (added ++ e ∷ []))) fits))
+              outcome) (sym (le-ltb SCHEDULE_BYTES (length (schedule_text Roundless run.machines (added ++ e ∷ [])))
+              fits))
               (puts (follows (rest_of on.events)) shelf input after outcome on.leaves);
         }
 
@@ -158,7 +160,8 @@ module _ (work : Work) (lines : Lines) (machines : ℕ) (w : World) (g h : Lcg) 
       record_ends work lines machines w g h old mid v recording has ends name shelf input (outside new mid input)
       (Some (fault_of why))
       (store_stops NoTask name recording.text shelf new (fault_of why)
-      (subst (λ (t : List ℕ). StoresFile name t shelf new (Err why)) same keeps) (Puts (table_of work v) Ends) mid input)
+      (subst (λ (t : List ℕ). StoresFile name t shelf new (Err why)) same keeps) (Puts (table_of work v) Ends) mid
+      input)
 
   module _ (keeps : StoresFile name bytes shelf new (Ok tt)) (last : Held) where
     behind : (outcome : Option Fault) →

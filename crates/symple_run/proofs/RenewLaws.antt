@@ -59,7 +59,8 @@ long_or_wants machines es fs same fault = subst (λ (list : List Event). (fault 
     ⊎ ((fault ≡ LongSchedule) × (SCHEDULE_BYTES < length (schedule_text Roundless machines list)))) same
 
 module _ (work : Work) (text target : List ℕ) where
-  ends : (bytes : List ℕ) (old new : Kept) (result : Result (Unit {0}) Failure) → StoresFile target bytes old new result →
+  ends : (bytes : List ℕ) (old new : Kept) (result : Result (Unit {0}) Failure) → StoresFile target bytes old new
+      result →
       (out : Held) (input : Left) →
       Leaves (IsPlayed work) (Stores target bytes Ends) (outside old out input) (outside new out input)
       (fault_after result)

@@ -167,7 +167,8 @@ module _ (work : Work) (seed machines : ℕ) (program : Program) (says : Says de
 
   pub show_goes : (digest : List ℕ) → digest ≡ sha256 (table_of work v) → (old new : Held) →
       HandsOn (shown_text machines rounds reads digest) old new (Ok tt) → (shelf : Kept) (input : Left) →
-      Leaves (IsPlayed work) (Runs (Shown seed machines) follows) (outside shelf old input) (outside shelf new input) None
+      Leaves (IsPlayed work) (Runs (Shown seed machines) follows) (outside shelf old input) (outside shelf new input)
+      None
   show_goes digest is old new puts shelf input =
       let put = subst (λ (text : List ℕ). HandsOn text old new (Ok tt)) (told digest is) puts in
       Ran course is_show (Gained new.spare put.spared

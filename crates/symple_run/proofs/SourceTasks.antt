@@ -54,7 +54,8 @@ module _ (play : Play) (seed : ℕ) (name : List ℕ) where
       let k = order_same play a.on b.on in
       let events = drawn_one (source_on play b.on) (first_order play b.on) (generator_of seed) a.events b.events
       (subst (λ (s : Source). IsDrawnOrder s (first_order play b.on) (generator_of seed) a.events) src
-      (subst (λ (x : Skeleton). IsDrawnOrder (source_on play a.on) x (generator_of seed) a.events) k a.drawn)) b.drawn in
+      (subst (λ (x : Skeleton). IsDrawnOrder (source_on play a.on) x (generator_of seed) a.events) k a.drawn)) b.drawn
+      in
       a.course_is
       ∙ (λ i. recorded (by_source play.lines (src i)) name play.machines [] (k i) (events i))
       ∙ sym b.course_is

@@ -108,28 +108,36 @@ no_names name none = cc
 -- those of machines of a kind
 module _ (work : Work) where
   played_must : (task : Task) (files : List File) (input : Option (List ℕ)) (outcome : Option note.Fault) →
-      Comes (IsPlayed work) (Runs task follows) files input outcome → Must (IsPlayed work) (Runs task follows) files input outcome
+      Comes (IsPlayed work) (Runs task follows) files input outcome → Must (IsPlayed work) (Runs task follows) files
+      input outcome
   played_must (Plain play) files input outcome (course, is, comes) = λ other same.
-      printed_alike (IsPlayed work) course other (plain_printed work play course is) (plain_printed work play other same) files input outcome comes
+      printed_alike (IsPlayed work) course other (plain_printed work play course is) (plain_printed work play other
+      same) files input outcome comes
   played_must (Imaged play origin image) files input outcome (course, is, comes) = λ other same.
-      stores_alike image (IsPlayed work) course other (imaged_stores work play origin image course is) (imaged_stores work play origin image other same) files input outcome comes
+      stores_alike image (IsPlayed work) course other (imaged_stores work play origin image course is) (imaged_stores
+      work play origin image other same) files input outcome comes
   played_must (Resumed play origin even odd) files input outcome (course, is, comes) = λ other same.
-      printed_alike (IsPlayed work) course other (resumed_printed work play origin even odd course is) (resumed_printed work play origin even odd other same) files input outcome comes
+      printed_alike (IsPlayed work) course other (resumed_printed work play origin even odd course is)
+      (resumed_printed work play origin even odd other same) files input outcome comes
   played_must (Drawn play seed schedule) files input outcome (course, is, comes) = λ other same.
       same_alike (IsPlayed work) course other
-      (drawn_same work play seed schedule course other is same) (drawn_calm work play seed schedule course is) files input outcome comes
+      (drawn_same work play seed schedule course other is same) (drawn_calm work play seed schedule course is) files
+      input outcome comes
   played_must (DrawnLossy play seed schedule) files input outcome (course, is, comes) = λ other same.
       same_alike (IsPlayed work) course other
-      (lossy_same work play seed schedule course other is same) (lossy_calm work play seed schedule course is) files input outcome comes
+      (lossy_same work play seed schedule course other is same) (lossy_calm work play seed schedule course is) files
+      input outcome comes
   played_must (Followed play schedule) files input outcome (course, is, comes) = λ other same.
       same_alike (IsPlayed work) course other
-      (followed_same work play schedule course other is same) (follow_calm work play schedule course is) files input outcome comes
+      (followed_same work play schedule course other is same) (follow_calm work play schedule course is) files input
+      outcome comes
   played_must (Shown seed machines) files input outcome (course, is, comes) = λ other same.
       printed_alike (IsPlayed work) course other (show_printed work seed machines course is)
       (show_printed work seed machines other same) files input outcome comes
   played_must (Renewed schedule target) files input outcome (course, is, comes) = λ other same.
       same_alike (IsPlayed work) course other
-      (renewed_same schedule target course other is same) (renew_calm schedule target course is) files input outcome comes
+      (renewed_same schedule target course other is same) (renew_calm schedule target course is) files input outcome
+      comes
   played_must (Parted play program prefix) files input outcome (course, is, comes) = λ other same.
       same_alike (IsPlayed work) course other (parted_same prefix program play course other is same)
       (parted_calm prefix program play course is) files input outcome comes
@@ -138,9 +146,12 @@ module _ (work : Work) where
 
   played_spares : (task : Task) (course : Course) → IsPlayed work task course → (name : List ℕ) →
       IsNoneOf name (names_of task) → Spares (IsPlayed work) name (follows course)
-  played_spares (Plain play) course is = λ name none. printed_spares (IsPlayed work) name course (plain_printed work play course is)
-  played_spares (Imaged play origin image) course is = λ name none. stores_spares image (IsPlayed work) name course (imaged_stores work play origin image course is) none
-  played_spares (Resumed play origin even odd) course is = λ name none. printed_spares (IsPlayed work) name course (resumed_printed work play origin even odd course is)
+  played_spares (Plain play) course is = λ name none. printed_spares (IsPlayed work) name course (plain_printed work
+      play course is)
+  played_spares (Imaged play origin image) course is = λ name none. stores_spares image (IsPlayed work) name course
+      (imaged_stores work play origin image course is) none
+  played_spares (Resumed play origin even odd) course is = λ name none. printed_spares (IsPlayed work) name course
+      (resumed_printed work play origin even odd course is)
   played_spares (Drawn play seed schedule) course is = λ name none.
       drawn_spares work (IsPlayed work) play seed schedule name none.0 course is
   played_spares (DrawnLossy play seed schedule) course is = λ name none.
@@ -160,14 +171,16 @@ module _ (work : Work) where
       IsQuiet (IsPlayed work) (follows course)
   played_quiet (Plain play) course is = λ none. printed_quiet (IsPlayed work) course (plain_printed work play course is)
   played_quiet (Imaged play origin image) course is = λ none. cc
-  played_quiet (Resumed play origin even odd) course is = λ none. printed_quiet (IsPlayed work) course (resumed_printed work play origin even odd course is)
+  played_quiet (Resumed play origin even odd) course is = λ none. printed_quiet (IsPlayed work) course
+      (resumed_printed work play origin even odd course is)
   played_quiet (Drawn play seed schedule) course is = λ none. absurd (no_names schedule none)
   played_quiet (DrawnLossy play seed schedule) course is = λ none. absurd (no_names schedule none)
   played_quiet (Followed play schedule) course is = λ none. follow_quiet work play schedule (IsPlayed work) course is
   played_quiet (Shown seed machines) course is = λ none.
       printed_quiet (IsPlayed work) course (show_printed work seed machines course is)
   played_quiet (Renewed schedule target) course is = λ none. absurd (no_names target none)
-  played_quiet (Parted play program prefix) course is = λ none. parted_quiet prefix program play course is (IsPlayed work) none
+  played_quiet (Parted play program prefix) course is = λ none. parted_quiet prefix program play course is
+      (IsPlayed work) none
   played_quiet (Served part rows) course is = λ none. absurd (no_names rows none)
 
   pub played_are : AreCourses (IsPlayed work)
@@ -177,7 +190,8 @@ module _ (work : Work) where
 told_must : (task : Task) (files : List File) (input : Option (List ℕ)) (outcome : Option note.Fault) →
     Comes IsSourceRun (Runs task follows) files input outcome → Must IsSourceRun (Runs task follows) files input outcome
 told_must (Plain play) files input outcome (course, is, comes) = λ other same.
-    printed_alike IsSourceRun course other (source_printed play course is) (source_printed play other same) files input outcome comes
+    printed_alike IsSourceRun course other (source_printed play course is) (source_printed play other same) files
+    input outcome comes
 told_must (Imaged play origin image) files input outcome (course, is, comes) = λ other same.
     stores_alike image IsSourceRun course other is.stored same.stored files input outcome comes
 told_must (Resumed play origin even odd) files input outcome (course, is, comes) = λ other same.
@@ -208,7 +222,8 @@ told_must (Served part rows) files input outcome each = λ course is.
 told_spares : (task : Task) (course : Course) → IsSourceRun task course → (name : List ℕ) →
     IsNoneOf name (names_of task) → Spares IsSourceRun name (follows course)
 told_spares (Plain play) course is = λ name none. printed_spares IsSourceRun name course (source_printed play course is)
-told_spares (Imaged play origin image) course is = λ name none. stores_spares image IsSourceRun name course is.stored none
+told_spares (Imaged play origin image) course is = λ name none. stores_spares image IsSourceRun name course is.stored
+    none
 told_spares (Resumed play origin even odd) course is = λ name none. printed_spares IsSourceRun name course is.printed
 told_spares (Drawn play seed schedule) course is = λ name none.
     record_spares play seed schedule IsSourceRun name none.0 course is

@@ -22,7 +22,8 @@ use Rattle.machine_runs.proofs.FirstLaws.{first_same}
 use Rattle.vert_base.specs.declared.message.Event.{Event}
 
 -- a text that says machines and events has no fault
-pub no_fault : (text : List ℕ) (machines : ℕ) (events : List Event) → Says text machines events → (why : ScheduleFault) →
+pub no_fault : (text : List ℕ) (machines : ℕ) (events : List Event) → Says text machines events →
+    (why : ScheduleFault) →
     why ≢ Want → Gives text (Err why) → ⊥
 no_fault text machines events says TooLong real gives = reads_back text machines events (Err TooLong) says gives
 no_fault text machines events says Header real gives = reads_back text machines events (Err Header) says gives
@@ -31,7 +32,8 @@ no_fault text machines events says (Line number) real gives =
 no_fault text machines events says Want real gives = real refl
 
 -- and says them in one form
-pub one_form : (text : List ℕ) (m n : ℕ) (es fs : List Event) (a : Says text m es) (b : Says text n fs) → a.form ≡ b.form
+pub one_form : (text : List ℕ) (m n : ℕ) (es fs : List Event) (a : Says text m es) (b : Says text n fs) → a.form
+    ≡ b.form
 one_form text m n es fs a b =
     (one_header a.form b.form m n (text_of (events_lines a.form 0 es)) (text_of (events_lines b.form 0 fs)) a.is.some
     a.is.few b.is.some b.is.few (sym a.spelled ∙ b.spelled)).form
@@ -59,7 +61,8 @@ text_settles text told settles course other (IsFaulty why real gives is) (IsFaul
 -- what holds of a course that fails, and of each that is told, holds of that by a text
 pub text_holds : (text : List ℕ) (told : ℕ → Form → List Event → Course → Type 0) (P : Course → Type 0) →
     ((fault : Fault) → P (Fails fault)) →
-    ((machines : ℕ) (form : Form) (events : List Event) (course : Course) → told machines form events course → P course) →
+    ((machines : ℕ) (form : Form) (events : List Event) (course : Course) → told machines form events course →
+    P course) →
     (course : Course) → ByText text told course → P course
 text_holds text told P fails holds course (Tells machines events says is) = holds machines says.form events course is
 text_holds text told P fails holds course (IsFaulty why real gives is) = subst P (sym is) (fails (text_fault why))

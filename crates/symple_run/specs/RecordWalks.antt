@@ -41,7 +41,8 @@ pub record HasRecorded (work : Work) (lines : Lines) (machines : ℕ) (w : World
     (h : Lcg) (new : Held) (recording : Recording) : Type 0 where
   pub added : List Event
   pub records : Records recording machines added
-  pub goes : (name : List ℕ) → RecordsTo (record { work = work; lines = lines; name = name; machines = machines }) [] w g
+  pub goes : (name : List ℕ) → RecordsTo (record { work = work; lines = lines; name = name; machines = machines }) []
+      w g
       old added v h new
 
 -- recording stops with a fault

@@ -30,5 +30,6 @@ DoesStoring work task shelf shelf_after old new result =
 abbrev pub GivesKeyed : ℕ → words.PlainJob → Kept → Kept → Result Keyed Failure → Type 0
 GivesKeyed machines job old new (Ok keyed) =
     (has : HasBoth old new job.program job.form job.graph keyed.typed (graph_of_edges keyed.edges))
-    × (keyed.key ≡ key_of has.has_program.text has.has_graph.bytes job.form.vertices (flags_of job.form) machines job.draws)
+    × (keyed.key ≡ key_of has.has_program.text has.has_graph.bytes job.form.vertices (flags_of job.form) machines
+    job.draws)
 GivesKeyed machines job old new (Err failure) = NoBoth old new job.program job.form job.graph (fault_of failure)

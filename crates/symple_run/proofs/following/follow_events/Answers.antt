@@ -60,7 +60,8 @@ returns-in_err-follow_event-clause-err g c =
     let mid = sink_state g.O.Sink.held g.O.Sink.faults g.O.Sink.spare c.events.out in
     let p = err_from_is_err_and c.from_residual.result c.from_residual.ensures.1 in
     rw (p.1, p.2)
-    (follow_stops g.S.Site.work c.args.lines.now c.args.form from old c.events.held c.events.line _ c.events.cluster.world e
+    (follow_stops g.S.Site.work c.args.lines.now c.args.form from old c.events.held c.events.line _
+    c.events.cluster.world e
     (drop (i + 1) es) (drop i es) left (ap (λ (n : ℕ). c.events.line + n) c.lines_of-told.ensures.count) mid
     c.events.invariant.1 _ _ c.in_err-follow_event.ensures.err)
 

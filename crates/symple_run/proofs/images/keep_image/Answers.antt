@@ -10,7 +10,8 @@ site-requires g c =
     let w = c.args.cluster.now.world in
     let reached = c.tells_reached.ensures c.requires.on in (
       omega arith,
-      some_sites reached.one_run.ends reached.split w (of_run g.S.Site.work g.S.Site.sound g.met.S.Site.lawful w reached),
+      some_sites reached.one_run.ends reached.split w (of_run g.S.Site.work g.S.Site.sound g.met.S.Site.lawful w
+          reached),
     )
 
 pub write_image-requires-clause-rows : goal.write_image-requires-clause-rows

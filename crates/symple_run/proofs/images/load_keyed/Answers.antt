@@ -27,6 +27,7 @@ returns-clause-both g c =
           job.draws) text
           ∙ ap (λ (b : List ℕ). key_of has.0.has_program.text b form.vertices c.flags_of-flags.result c.args.machines
           job.draws) bytes
-          ∙ ap (λ (f : ℕ). key_of has.0.has_program.text has.0.has_graph.bytes form.vertices f c.args.machines job.draws)
+          ∙ ap (λ (f : ℕ). key_of has.0.has_program.text has.0.has_graph.bytes form.vertices f c.args.machines
+          job.draws)
           c.flags_of-flags.ensures,
     )

@@ -13,7 +13,8 @@ returns-in_err-play_out_imaged-clause-task g c =
     let p = err_from_is_err_and c.from_residual-in_err-play_out_imaged.result
     c.from_residual-in_err-play_out_imaged.ensures.1 in
     rw (p.1, p.2) (λ origin same input. imaged_plays g.S.Site.work play origin keyed.key c.args.image.now
-    c.in_ok-cluster.cluster.world c.in_ok-cluster.ensures.first same _ _ _ _ _ c.in_err-play_out_imaged.ensures.err input)
+    c.in_ok-cluster.cluster.world c.in_ok-cluster.ensures.first same _ _ _ _ _ c.in_err-play_out_imaged.ensures.err
+    input)
 
 pub returns-in_err-put_table-clause-task : goal.returns-in_err-put_table-clause-task
 returns-in_err-put_table-clause-task g c =

@@ -45,7 +45,8 @@ events-preserved g c =
       on = c.in_ok-play_event.ensures.on;
       leads = λ shelf after outcome goes. c.events.invariant.leads shelf after outcome
           (imaged_goes work c.args.lines.now key image w c.in-Some.event
-          (not_finished w c.in-Some.event c.in-Some.ensures.none) (sym c.in-Some.ensures.is) old new shelf _ _ after outcome _
+          (not_finished w c.in-Some.event c.in-Some.ensures.none) (sym c.in-Some.ensures.is) old new shelf _ _ after
+          outcome _
           c.in_ok-play_event.ensures.world c.in_ok-play_event.ensures.ok
           (subst P told c.in_ok-keep_image_if.ensures.kept) goes);
       loads = c.in_ok-keep_image_if.ensures.loads ∙ c.events.invariant.loads;

@@ -22,7 +22,8 @@ owner-requires g c =
     ap (λ (part : PlainPart). part.ends) c.part-part.ensures.part ∙ run.ends_are 0 first c.site.ensures in (
       omega arith,
       subst (λ (es : List ℕ). c.args.v.0 < vertices_of es) (sym same)
-          (subst (λ (n : ℕ). c.args.v.0 < n) (vertex_count reached.one_run.ends reached.split w run first c.site.ensures)
+          (subst (λ (n : ℕ). c.args.v.0 < n) (vertex_count reached.one_run.ends reached.split w run first
+          c.site.ensures)
           c.requires.there),
     )
 
@@ -65,5 +66,6 @@ returns g c =
     subst (λ (n : ℕ). v < n) (vertex_count ends reached.split w run first c.site.ensures) c.requires.there in
     let mine = owner_is ends v c.owner.result run.are there
     (subst (λ (es : List ℕ). (m : ℕ) → Holds es v m → m ≡ c.owner.result) same c.owner.ensures.alone) in
-    c.row.ensures ∙ sym (row_is work w ends v c.owner.result it (ends_in_is ends reached.split w run first c.site.ensures)
+    c.row.ensures ∙ sym (row_is work w ends v c.owner.result it (ends_in_is ends reached.split w run first
+    c.site.ensures)
     mine c.site-2.ensures)

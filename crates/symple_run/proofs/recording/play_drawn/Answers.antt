@@ -32,7 +32,8 @@ returns-in_err-store_file-clause-order g c =
     c.in_ok-cluster.ensures.first _ _ _
     (unkept g.S.Site.work c.args.job.now.lines c.args.machines w (generator_of c.args.seed) done.0 _ _
     c.record_events.new.cluster.world c.record_events.new.recorder done.1 c.in_ok-record_events.ensures.finished
-    c.args.schedule.now c.text.result.now c.text.ensures _ _ input c.in_err-store_file.field-0.0 c.in_err-store_file.ensures.stored))
+    c.args.schedule.now c.text.result.now c.text.ensures _ _ input c.in_err-store_file.field-0.0
+    c.in_err-store_file.ensures.stored))
 
 pub returns-in_err-put_table-clause-order : goal.returns-in_err-put_table-clause-order
 returns-in_err-put_table-clause-order g c =

@@ -43,5 +43,6 @@ returns-clause-order g c =
     λ input. both_go (IsPlayed g.S.Site.work) old new job.program job.form job.graph typed graph
     (subst Q c.deref-2.ensures (subst P c.deref.ensures c.in_ok-read.ensures.both)) next out input _ _
     (task_goes g.S.Site.work
-    (DrawnLossy (play_of job c.args.machines typed.program graph) c.args.seed c.args.schedule.now) _ (λ course is. is) _ _
+    (DrawnLossy (play_of job c.args.machines typed.program graph) c.args.seed c.args.schedule.now) _ (λ course is. is)
+    _ _
     _ (c.record_lossy.ensures.order input))

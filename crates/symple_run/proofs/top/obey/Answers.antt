@@ -14,7 +14,8 @@ returns-in_err-line-clause-order g c =
     c.in_err-line.ensures.refused p.0 p.2)
 
 pub returns-clause-order : goal.returns-clause-order
-returns-clause-order g c = line_obeyed (IsPlayed g.S.Site.work) (words_of c.args.words.now) (line_view c.in_ok-line.line)
+returns-clause-order g c = line_obeyed (IsPlayed g.S.Site.work) (words_of c.args.words.now)
+    (line_view c.in_ok-line.line)
     _ _ _ c.in_ok-line.ensures.read c.perform.ensures.order
 
 pub returns-clause-input : goal.returns-clause-input

@@ -10,7 +10,8 @@ pub returns-in_err-play_out : goal.returns-in_err-play_out
 returns-in_err-play_out g c =
     let play = play_of (job_view c.args.job.now) c.args.machines c.args.typed.program (graph_of_edges c.args.edges) in
     let p = err_from_is_err_and c.from_residual-in_err-play_out.result c.from_residual-in_err-play_out.ensures.1 in
-    rw (p.1, p.2) (run_plays (IsPlayed g.S.Site.work) g.S.Site.work play (λ course is. is) c.in_ok-cluster.cluster.world c.in_ok-cluster.ensures.first _ _ _
+    rw (p.1, p.2) (run_plays (IsPlayed g.S.Site.work) g.S.Site.work play (λ course is. is)
+    c.in_ok-cluster.cluster.world c.in_ok-cluster.ensures.first _ _ _
     c.in_err-play_out.ensures.err)
 
 pub returns-in_err-put_table : goal.returns-in_err-put_table
@@ -18,7 +19,8 @@ returns-in_err-put_table g c =
     let lines = c.args.job.now.lines in
     let play = play_of (job_view c.args.job.now) c.args.machines c.args.typed.program (graph_of_edges c.args.edges) in
     let p = err_from_is_err_and c.from_residual-in_err-put_table.result c.from_residual-in_err-put_table.ensures.1 in
-    rw (p.1, p.2) (run_plays (IsPlayed g.S.Site.work) g.S.Site.work play (λ course is. is) c.in_ok-cluster.cluster.world c.in_ok-cluster.ensures.first _ _ _
+    rw (p.1, p.2) (run_plays (IsPlayed g.S.Site.work) g.S.Site.work play (λ course is. is)
+    c.in_ok-cluster.cluster.world c.in_ok-cluster.ensures.first _ _ _
     (c.in_ok-play_out.ensures.ok _ _ (table_stops g.S.Site.work lines c.play_out.new.cluster.world _ _
     c.in_err-put_table.field-0.0 c.in_ok-play_out.ensures.finished c.in_err-put_table.ensures)))
 
@@ -26,6 +28,7 @@ pub returns : goal.returns
 returns g c =
     let lines = c.args.job.now.lines in
     let play = play_of (job_view c.args.job.now) c.args.machines c.args.typed.program (graph_of_edges c.args.edges) in
-    run_plays (IsPlayed g.S.Site.work) g.S.Site.work play (λ course is. is) c.in_ok-cluster.cluster.world c.in_ok-cluster.ensures.first _ _ _
+    run_plays (IsPlayed g.S.Site.work) g.S.Site.work play (λ course is. is) c.in_ok-cluster.cluster.world
+    c.in_ok-cluster.ensures.first _ _ _
     (c.in_ok-play_out.ensures.ok _ _ (table_goes g.S.Site.work lines c.play_out.new.cluster.world _ _
     c.in_ok-play_out.ensures.finished c.in_ok-put_table.ensures))

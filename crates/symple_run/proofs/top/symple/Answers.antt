@@ -98,7 +98,8 @@ returns-in-Err-clause-core g c = λ core. record {
 
 pub returns-in-Err-clause-complete : goal.returns-in-Err-clause-complete
 returns-in-Err-clause-complete g c =
-    completes (IsPlayed g.S.Site.work) (played_are g.S.Site.work) (words_of c.args.words.now) _ _ (Some (fault_of c.in-Err.failure)) _
+    completes (IsPlayed g.S.Site.work) (played_are g.S.Site.work) (words_of c.args.words.now) _ _
+    (Some (fault_of c.in-Err.failure)) _
     c.in-Err.ensures.order c.status.ensures
 
 pub returns-in-Err-clause-whole : goal.returns-in-Err-clause-whole
@@ -116,12 +117,14 @@ returns-in-Err-clause-whole g c = λ core.
 
 pub returns-in-Err-clause-others : goal.returns-in-Err-clause-others
 returns-in-Err-clause-others g c =
-    others_stay (IsPlayed g.S.Site.work) (played_are g.S.Site.work) (words_of c.args.words.now) _ _ (Some (fault_of c.in-Err.failure))
+    others_stay (IsPlayed g.S.Site.work) (played_are g.S.Site.work) (words_of c.args.words.now) _ _
+    (Some (fault_of c.in-Err.failure))
     c.in-Err.ensures.order
 
 pub returns-in-Err-clause-quiet : goal.returns-in-Err-clause-quiet
 returns-in-Err-clause-quiet g c =
-    nothing_stored (IsPlayed g.S.Site.work) (played_are g.S.Site.work) (words_of c.args.words.now) _ _ (Some (fault_of c.in-Err.failure))
+    nothing_stored (IsPlayed g.S.Site.work) (played_are g.S.Site.work) (words_of c.args.words.now) _ _
+    (Some (fault_of c.in-Err.failure))
     c.in-Err.ensures.order
 
 pub returns-in-Ok-clause-replays : goal.returns-in-Ok-clause-replays
