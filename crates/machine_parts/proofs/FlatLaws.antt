@@ -1,7 +1,7 @@
 -- What two lists make, place by place.
-use Rattle.std.proofs.Common.{◌≡◌, ℕ, zero, suc, ◌+◌, ℤ, pos, ◌<◌, ◌≤◌, Bool, false, List, [], ◌∷◌, length, get_or, set, take, map, replicate, refl, sym, ap, subst, ◌∙◌, arith, ◌++◌}
+use Rattle.std.proofs.Common.{◌≡◌, ℕ, zero, suc, ℤ, pos, ◌<◌, ◌≤◌, Bool, false, List, [], ◌∷◌, length, get_or, set, replicate, refl, sym, ap, subst, ◌∙◌, arith}
 use Rattle.std.specs.List.{All}
-use Rattle.std.proofs.lemmas.List.{get_or-map, length-map, length-replicate, length-set, map_push, take_more, take_more_set}
+use Rattle.std.proofs.lemmas.List.{length-replicate, length-set}
 use Rattle.std.proofs.lemmas.List.Elements.{All-replicate, All-set}
 use Rattle.vert_base.specs.declared.value.Row.{Row}
 use Rattle.vert_eval.specs.Rounds.{empty_row, row_at}
@@ -165,17 +165,3 @@ module _ (width count : ℕ) (marks : List Mark) (words : Rows ℤ)
   fresh_still =
       let P : State → Type 0 = λ s. s.mark ≡ Fresh → s.words ≡ replicate width (pos 0) in
       subst (λ (ss : List State). All P ss) (sym fresh_all) (All-replicate P count (fresh_state width) (λ fresh. refl))
-
--- one state more is put
-pub put_more : {X : Type 0} (view : X → State) (xs : List X) (i : ℕ) (x d : X) (states new : List State) → i < length xs
-    → length states ≡ length xs →
-    x ≡ get_or xs i d → take i states ≡ take i (map view xs) → new ≡ set states i (view x)
-    → take (i + 1) new ≡ take (i + 1) (map view xs)
-put_more view xs i x d states new lt count here so_far put =
-    let inside : i < length states = omega (arith, count) in
-    let within : i < length (map view xs) = omega (arith, length-map xs view) in
-    ap (take (i + 1)) put ∙ take_more_set states i (view x) inside
-    ∙ ap (λ ss. ss ++ view x ∷ []) so_far
-    ∙ ap (λ y. take i (map view xs) ++ view y ∷ []) here
-    ∙ ap (λ s. take i (map view xs) ++ s ∷ []) (sym (get_or-map view xs i d (fresh_state 0) lt))
-    ∙ sym (take_more (map view xs) i (fresh_state 0) within)

@@ -31,6 +31,7 @@
 pub mod CountLaws
 pub mod FlatLaws
 pub mod MissingLaws
+pub mod RingLaws
 pub mod SeenLaws
 pub mod SendingLaws
 pub mod SpanLaws

@@ -13,6 +13,7 @@ mod missing;
 mod part_feed;
 mod repeated;
 mod ring_half;
+mod ring_marks;
 mod rows;
 mod sends;
 mod spans;

@@ -1,13 +1,16 @@
 // The ring states of the vertices of a half.
-ghost use Rattle.std.specs.Prelude.{◌≡◌, ◌≤◌, ◌<◌, ◌^◌, length, pos, replicate, slice_set, IfOk};
-ghost use Rattle.dep_layout.specs.Judgement.{FitsRing};
-ghost use Rattle.dep_layout.specs.Reading.{read_of};
-ghost use Rattle.dep_layout.specs.Spelling.{spelled};
-ghost use Rattle.dep_layout.specs.States.{state_of, states_of};
+ghost use Rattle.std.specs.Prelude.{◌≡◌, ◌≤◌, ◌<◌, ◌*◌, ◌^◌, ◌++◌, length, pos, replicate, slice_set, take, IfOk, OnOk};
+ghost use Rattle.std.specs.List.{flat_map};
+ghost use Rattle.dep_layout.specs.Judgement.{FitsRing, pairs_in};
+ghost use Rattle.dep_layout.specs.Reading.{read_of, state_with, states_in, words_behind};
+ghost use Rattle.dep_layout.specs.Spelling.{sent_bytes, spelled};
 ghost use Rattle.machine_parts.specs.Flat.{fresh_state, state_at};
 
 use crate::repeated::repeated;
-use dep_layout::{DepState, Mark, Words, by_width, pack, unpack};
+use crate::ring_marks::{mark_at, put_marks};
+use arrayvec::ArrayVec;
+use body_shape::{behind, put_words, read_words};
+use dep_layout::Mark;
 use flat_table::Grid;
 use std::alloc::Global;
 use std::marker::Model;
@@ -67,14 +70,21 @@ impl RingHalf {
         ensures { IfOk result (λ half. half
             ≡ record { width = width; states = read_of width vertices body.now }) }
     {
-        by_width!(width, read_half::<_>(alloc, vertices, bools, body), else Err(Want))
+        let count = vertices as usize;
+        let (marks, words) = body.split_at(count.div_ceil(4));
+        let mut half = RingHalf::fresh(alloc, width, count)?;
+        read_states(&mut half, marks, words);
+        Ok(half)
     }
 
     /// The spelling of the states.
     pub fn spell(&self, alloc: Global) -> Result<Vec<u8>, Want>
         ensures { IfOk result (λ body. body.items ≡ spelled self.now.states) }
     {
-        by_width!(self.width, spell_half::<_>(alloc, self), else Err(Want))
+        let mut body = Vec::with_capacity(alloc, self.marks.len())?;
+        put_marks(&mut body, &self.marks)?;
+        put_states(&mut body, self)?;
+        Ok(body)
     }
 
     /// Of how many vertices there are states.
@@ -120,61 +130,67 @@ impl RingHalf {
     }
 }
 
-// The states that a body spells.
-fn read_half<const W: usize>(
-    alloc: Global,
-    vertices: u32,
-    bools: u8,
-    body: &[u8],
-) -> Result<RingHalf, Want>
-    requires width { W ≤ 8 }
-    requires fits { FitsRing W vertices bools body.now }
-    ensures { IfOk result (λ half. half
-        ≡ record { width = W; states = read_of W vertices body.now }) }
+// Reads the state of a vertex from the front of bytes, where its mark has words: the bytes behind
+// them.
+fn read_state<'a>(half: &mut RingHalf, place: usize, mark: Mark, words: &'a [u8]) -> &'a [u8]
+    requires place { place < length half.old.states }
+    requires narrow { half.old.width ≤ 8 }
+    ensures half { half.new ≡ record half.old {
+      states = slice_set half.old.states place (state_with half.old.width mark words.now);
+    } }
+    ensures rest { result.now ≡ words_behind half.old.width mark words.now }
 {
-    match unpack::<W>(alloc, body, vertices, bools) {
-        Ok(states) => half_with(alloc, &states),
-        Err(_) => Err(Want),
+    match mark {
+        Mark::Fresh => {
+            let zeros = [0i64; 8];
+            half.put(place, mark, &zeros[..half.width]);
+            words
+        }
+        Mark::Running | Mark::Broken => {
+            let mut row: ArrayVec<i64, 8> = ArrayVec::new();
+            read_words(words, 0, half.width, &mut row);
+            half.put(place, mark, row.as_slice());
+            behind(words, 8 * half.width)
+        }
     }
 }
 
-// These states, laid flat.
-fn half_with<const W: usize>(alloc: Global, states: &[DepState<W>]) -> Result<RingHalf, Want>
-    requires width { W ≤ 8 }
-    requires few { length states.now < 2 ^ 32 }
-    ensures { IfOk result (λ half. half ≡ record { width = W; states = states_of states.now }) }
+// Reads the states of all vertices from their marks and the words of the started ones.
+fn read_states(half: &mut RingHalf, marks: &[u8], words: &[u8])
+    requires narrow { half.old.width ≤ 8 }
+    requires marked { length half.old.states ≤ 4 * length marks.now }
+    ensures width { half.new.width ≡ half.old.width }
+    ensures states { half.new.states ≡ states_in half.old.width
+        (take (length half.old.states) (pairs_in marks.now)) words.now }
 {
-    let mut half = RingHalf::fresh(alloc, W, states.len())?;
-    for (place, state) in states.iter().enumerate() {
-        half.put(place, state.mark, &state.words.at);
+    let mut rest = words;
+    'states: for place in 0..half.len() {
+        let mark = mark_at(marks, place);
+        rest = read_state(half, place, mark, rest);
     }
-    Ok(half)
 }
 
-// The spelling of states of a width.
-fn spell_half<const W: usize>(alloc: Global, half: &RingHalf) -> Result<Vec<u8>, Want>
-    requires width { half.now.width ≡ W }
-    requires few { W ≤ 8 }
-    ensures { IfOk result (λ body. body.items ≡ spelled half.now.states) }
+// Writes the words of a vertex at the end of bytes, where it is started.
+#[inline]
+fn put_state(body: &mut Vec<u8>, mark: Mark, words: &[i64]) -> Result<(), Want>
+    requires { length words.now ≤ 16 }
+    ensures { OnOk result (body.new.items
+        ≡ body.old.items ++ sent_bytes (record { mark = mark; words = words.now })) }
 {
-    let count = half.len();
-    let mut states = Vec::with_capacity(alloc, count)?;
-    'states: for place in 0..count {
-        states.push(dep_state::<W>(half, place))?;
+    match mark {
+        Mark::Fresh => Ok(()),
+        Mark::Running | Mark::Broken => put_words(body, words),
     }
-    pack(alloc, &states)
 }
 
-// The state at a place, as it is spelled.
-fn dep_state<const W: usize>(half: &RingHalf, place: usize) -> DepState<W>
-    requires width { half.now.width ≡ W }
-    requires place { place < length half.now.states }
-    ensures { state_of result ≡ state_at half.now.states place }
+// Writes the words of the started vertices at the end of bytes.
+fn put_states(body: &mut Vec<u8>, half: &RingHalf) -> Result<(), Want>
+    requires narrow { half.now.width ≤ 8 }
+    ensures { OnOk result (body.new.items
+        ≡ body.old.items ++ flat_map sent_bytes half.now.states) }
 {
-    let mut at = [0; W];
-    at.copy_from_slice(half.words(place));
-    DepState {
-        mark: half.mark(place),
-        words: Words { at },
+    'states: for place in 0..half.len() {
+        put_state(body, half.mark(place), half.words(place))?;
     }
+    Ok(())
 }

@@ -8,6 +8,7 @@ ghost use Rattle.command_steps.specs.States.{input_state, outside, shelf_state, 
 ghost use Rattle.command_steps.specs.Walks.{Performs, fault_after};
 ghost use Rattle.edge_reader.specs.Gives.{graph_of_edges};
 ghost use Rattle.link_core.specs.LinkOrder.{MessagesAreDeliveredOnce, SomeLinkMoves};
+ghost use Rattle.part_runs.specs.CoreServing.{CompleteRunsAreServed};
 ghost use Rattle.symple_run.specs.Continued.{EveryStopGoesOn};
 ghost use Rattle.symple_run.specs.Headline.{Answers, IsComplete, TellsFreedom};
 ghost use Rattle.symple_run.specs.Interrupted.{TellsImages};
@@ -18,6 +19,7 @@ ghost use Rattle.symple_run.specs.SourceRuns.{IsSourceRun};
 ghost use Rattle.symple_words.specs.Lines.{RecordOf, RunOf};
 ghost use Rattle.symple_words.specs.Ranges.{AreMachines, IsGraphForm, IsWithin};
 ghost use Rattle.symple_words.specs.Views.{job_view, line_view, words_of};
+ghost use Rattle.worker_laws.specs.Chunks.{TablesAreOfChunks};
 ghost use Rattle.worker_stream.specs.Prompt.{PlainRunsArePrompt, PromptRunsAreServed};
 
 use crate::following::replay;
@@ -37,7 +39,7 @@ use link_core::{drawn_links_are_possible, links_are_in_order};
 use machine_runs::{play_out, put_table, started};
 use order_free::order_free_programs;
 use outside::{Shelf, Sink, Source};
-use part_runs::{split, work};
+use part_runs::{core_runs_are_served, split, work};
 use std::alloc::Global;
 use symple_face::{Restart, Site};
 use symple_words::{Job, Line, read_words};
@@ -345,6 +347,11 @@ pub fn symple<S: Restart, H: Shelf, I: Source, O: Sink, N: Sink>(
     ensures alone { PromptRunsAreServed S.work }
     ensures prompt { PlainRunsArePrompt S.work }
 
+    // A core does so over what its machine took in any complete run, whatever the order of events, and keeps its part
+    // of the run's table; and the parts of all machines are the table.
+    ensures served { S.is_core → CompleteRunsAreServed S.work }
+    ensures tables { TablesAreOfChunks }
+
     // A file stays but under a name that the words let it store under, and the input but for a worker.
     ensures others { KeepsOthers (names_stored (words_of words.now)) (H.files shelf.old)
         (H.files shelf.new) }
@@ -361,6 +368,7 @@ pub fn symple<S: Restart, H: Shelf, I: Source, O: Sink, N: Sink>(
     links_are_in_order::<S>();
     worlds_are_in_order::<S>();
     prompt_runs_are_served::<S>();
+    core_runs_are_served::<S>();
     choices_are_in_order::<S>();
     match obey::<S, H, I, O>(alloc, words, shelf, input, out) {
         Ok(()) => Status::Done,

@@ -1,0 +1,71 @@
+-- Ring states as they are spelled, one after another.
+use Rattle.std.proofs.Common.{◌≡◌, ℕ, ℤ, pos, replicate, ◌⊎◌, inl, inr, ◌+◌, ◌<◌, ◌≤◌, List, [], ◌∷◌, ◌++◌, length, get_or, set, map, take, drop, refl, sym, ap, ◌∙◌, arith}
+use Rattle.std.specs.List.{flat_map}
+use Rattle.std.proofs.lemmas.List.{append-nil, append_assoc, drop_all, drop_more, take_all, take_more_set}
+use Rattle.dep_layout.specs.declared.state.Mark.{Mark}
+use Rattle.dep_layout.specs.declared.state.Mark.TheVariants.{Fresh, Running, Broken}
+use Rattle.dep_layout.specs.Spelling.{State, mark_of, sent_bytes}
+use Rattle.dep_layout.specs.Reading.{mark_with, state_with, states_in, words_behind}
+use Rattle.dep_layout.proofs.LoopLaws.{state_step}
+use Rattle.machine_parts.specs.Flat.{fresh_state, state_at, states_with}
+
+abbrev state_of_words : Mark → List ℤ → State
+state_of_words mark words = record { mark = mark; words = words }
+
+-- the marks of states are those that they are made of
+pub marks_in : (marks : List Mark) (lists : List (List ℤ)) → length lists ≡ length marks →
+    map mark_of (states_with marks lists) ≡ marks
+marks_in [] lists e = refl
+marks_in (m ∷ marks) [] e = absurd (omega arith)
+marks_in (m ∷ marks) (ws ∷ lists) e = ap (λ ms. m ∷ ms) (marks_in marks lists (omega arith))
+
+-- what is sent of one vertex more is written
+pub sent_more : (bytes new : List ℕ) (states : List State) (i : ℕ) (state : State) (whole : List ℕ) → i < length states
+    → state ≡ state_at states i → new ≡ bytes ++ sent_bytes state →
+    bytes ++ flat_map sent_bytes (drop i states) ≡ whole → new ++ flat_map sent_bytes (drop (i + 1) states) ≡ whole
+sent_more bytes new states i state whole within read pushed all =
+    let rest = flat_map sent_bytes (drop (i + 1) states) in
+    ap (λ front. front ++ rest) pushed
+    ∙ append_assoc bytes (sent_bytes state) rest
+    ∙ ap (λ s. bytes ++ (sent_bytes s ++ rest)) read
+    ∙ sym (ap (λ ss. bytes ++ flat_map sent_bytes ss) (drop_more states i (fresh_state 0) within))
+    ∙ all
+
+-- one state more is read
+pub read_more : (width : ℕ) (pairs : List ℕ) (i : ℕ) (states new : List State) (mark : Mark) (rest others : List ℕ)
+    (whole : List State) → i < length pairs → i < length states → mark ≡ mark_with (get_or pairs i 0)
+    → new ≡ set states i (state_with width mark rest) → others ≡ words_behind width mark rest
+    → take i states ++ states_in width (drop i pairs) rest ≡ whole
+    → take (i + 1) new ++ states_in width (drop (i + 1) pairs) others ≡ whole
+read_more width pairs i states new mark rest others whole within inside here put behind all =
+    let one = state_with width mark rest in
+    let left = states_in width (drop (i + 1) pairs) others in
+    ap (λ ss. take (i + 1) ss ++ left) put
+    ∙ ap (λ ss. ss ++ left) (take_more_set states i one inside)
+    ∙ state_step width pairs i (take i states) one rest others whole within
+    (ap (λ m. state_with width m rest) here)
+    (behind ∙ ap (λ m. words_behind width m rest) here) all
+
+-- all states are read
+pub read_done : (width : ℕ) (pairs : List ℕ) (i : ℕ) (states : List State) (rest : List ℕ) (whole : List State)
+    → length pairs ≤ i → length states ≤ i → take i states ++ states_in width (drop i pairs) rest ≡ whole
+    → states ≡ whole
+read_done width pairs i states rest whole within inside all =
+    sym (take_all i states inside)
+    ∙ sym (append-nil (take i states))
+    ∙ sym (ap (λ ps. take i states ++ states_in width ps rest) (drop_all i pairs within))
+    ∙ all
+
+-- the loop of a started vertex has begun
+pub not_fresh : {X : Type 0} (mark : Mark) → (mark ≡ Running) ⊎ (mark ≡ Broken) → mark ≡ Fresh → X
+not_fresh Fresh (inl e) fresh = absurd (cc)
+not_fresh Fresh (inr e) fresh = absurd (cc)
+not_fresh Running which fresh = absurd (cc)
+not_fresh Broken which fresh = absurd (cc)
+
+-- zeros are the words of a vertex whose loop hasn't begun
+pub fresh_read : (width : ℕ) (mark : Mark) (words : List ℕ) (zeros : List ℤ) → mark ≡ Fresh
+    → zeros ≡ replicate width (pos 0) → state_of_words mark zeros ≡ state_with width mark words
+fresh_read width Fresh words zeros fresh e = ap (state_of_words Fresh) e
+fresh_read width Running words zeros fresh e = absurd (cc)
+fresh_read width Broken words zeros fresh e = absurd (cc)
