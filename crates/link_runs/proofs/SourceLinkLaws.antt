@@ -13,10 +13,8 @@ use Rattle.circulant_plan.specs.Standing.{round_of}
 use Rattle.circulant_plan.specs.Table.{gives_of, needs_of}
 use Rattle.circulant_plan.proofs.Members.{Has}
 use Rattle.circulant_plan.proofs.StandingLaws.{not_zero}
-use Rattle.cluster_run.specs.declared.fault.EventFault.{EventFault}
 use Rattle.cluster_run.specs.declared.fault.EventFault.TheVariants.{NotUnderWay, RunOver}
-use Rattle.cluster_run.specs.Driven.{IsReached}
-use Rattle.cluster_run.specs.Faults.{event_fault, fault_of, lacking}
+use Rattle.cluster_run.specs.Faults.{event_fault, lacking}
 use Rattle.cluster_run.proofs.Chosen.{goes_on, nothing_lacks}
 use Rattle.cluster_run.proofs.Letters.{has_letter}
 use Rattle.cluster_run.proofs.Results.{finished_alike, some_site}
@@ -42,23 +40,21 @@ use Rattle.link_runs.specs.LinkTellings.{by_links, listed_links, why_not}
 use Rattle.link_runs.specs.SourceLinks.{AreDrawnInOrder, IsFarOrder, Ordered, by_source_links, given_by, next_links, ordered_after, ordered_anew, ordered_fault, ordered_step, turn_fault, will_accept}
 use Rattle.machine_runs.proofs.SourceFollows.{Goes, choices_next, fault_alike, first_goes, is_run, told_alike}
 use Rattle.machine_runs.proofs.TellingLaws.{AreAlike, GoesAlike, followed_alike}
-use Rattle.machine_runs.specs.PlainPlays.{log_line}
-use Rattle.machine_runs.specs.SourceTellings.{by_source, order_fault}
+use Rattle.machine_runs.specs.SourceTellings.{by_source}
 use Rattle.machine_runs.specs.Tellings.{Telling, by_worlds, followed_as, lack_of, recorded_as, told_event, why_of}
 use Rattle.rand_pcg.specs.Lcg.{Lcg}
 use Rattle.schedule_laws.specs.Events.{ring_in}
 use Rattle.schedule_laws.specs.Laws.{whole_run}
-use Rattle.schedule_laws.specs.Layout.{taken_in}
 use Rattle.schedule_laws.specs.OutputText.{ideal_taken, next_by}
 use Rattle.schedule_laws.specs.Runs.{IsSourceRun}
 use Rattle.schedule_laws.proofs.Follows.{Follows, few, gone_is}
-use Rattle.symple_face.specs.Cluster.{IsOneRun, World, can_act, choices_of, finished, first_world, possible, ready_machines, step, takes}
+use Rattle.symple_face.specs.Cluster.{IsOneRun, World, can_act, finished, first_world, possible, ready_machines, step, takes}
 use Rattle.symple_face.specs.CoreWork.{core_work}
 use Rattle.symple_face.specs.Lawful.{acting}
 use Rattle.symple_face.specs.Parts.{PlainPart}
 use Rattle.symple_face.specs.Plans.{ring_of}
 use Rattle.symple_face.specs.Source.{Source}
-use Rattle.symple_face.specs.State.{State, machine, p_of}
+use Rattle.symple_face.specs.State.{State, p_of}
 use Rattle.symple_words.specs.declared.line.Lines.{Lines}
 use Rattle.vert_base.specs.declared.limits.TheConstants.{SCHEDULE_BYTES}
 use Rattle.vert_base.specs.declared.message.Event.{Event}
