@@ -34,11 +34,12 @@ use Rattle.cluster_run.proofs.Tables.{ActsAlike, acts_alike}
 use Rattle.schedule_laws.specs.Events.{IsTrue, ring_in}
 use Rattle.schedule_laws.specs.OutputText.{rulings_of}
 use Rattle.schedule_laws.specs.Runs.{IsSourceRun}
-use Rattle.schedule_laws.proofs.Follows.{judge_goes, judged_on, known_zero}
+use Rattle.schedule_laws.proofs.Follows.{judge_goes, known_zero}
 use Rattle.schedule_laws.proofs.Goes.{goes_on}
 use Rattle.worker_laws.proofs.Ahead.{CanLead, acts_by, given, led}
 use Rattle.worker_stream.proofs.StateWalks.{nothing_missing}
 use Rattle.cluster_run.proofs.Worlds.{missing_step}
+use Rattle.state_laws.proofs.Rulings.{judged_on}
 
 -- a message with its ideal body
 abbrev pub ideal_letter : Source → Name → Letter

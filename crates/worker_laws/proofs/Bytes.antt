@@ -35,13 +35,14 @@ use Rattle.work_laws.proofs.Whole.{core_lawful}
 use Rattle.schedule_laws.specs.Events.{IsTrue}
 use Rattle.schedule_laws.specs.Runs.{IsSourceRun}
 use Rattle.schedule_laws.proofs.Follows.{Follows, few, taker, taker_at}
-use Rattle.schedule_laws.proofs.Printing.{next_by, next_follows}
+use Rattle.schedule_laws.proofs.Printing.{next_follows}
 use Rattle.schedule_laws.proofs.SourceSees.{suits}
 use Rattle.schedule_laws.proofs.Stands.{few as few_rounds}
 use Rattle.worker_stream.specs.Prompt.{handed, taken_by}
 use Rattle.worker_stream.proofs.StateWalks.{planned}
 use Rattle.worker_laws.proofs.Taking.{letter_body}
 use Rattle.state_laws.proofs.Options.{some_of}
+use Rattle.schedule_laws.specs.OutputText.{next_by}
 
 abbrev IsByte : ℕ → Type 0
 IsByte b = b < 256

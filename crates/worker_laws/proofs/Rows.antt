@@ -35,10 +35,13 @@ use Rattle.round_laws.proofs.FoldCloses.{at_most}
 use Rattle.schedule_laws.specs.Events.{IsTrue}
 use Rattle.schedule_laws.specs.Runs.{IsSourceRun}
 use Rattle.schedule_laws.proofs.Follows.{Follows, few, is_judge, rounds_stay, took_is, zero_stays}
-use Rattle.schedule_laws.proofs.Printed.{first_prints, late, mode, round_behind, round_is, some_letter, some_site, to_come, within}
-use Rattle.schedule_laws.proofs.Printing.{all_pass, late as begun_by, next_by, next_follows, over_rows, stops, zero_site}
+use Rattle.schedule_laws.proofs.Printed.{first_prints, late, mode, round_behind, round_is, to_come, within}
+use Rattle.schedule_laws.proofs.Printing.{all_pass, late as begun_by, next_follows, over_rows, stops, zero_site}
 use Rattle.schedule_laws.proofs.RunLaws.{run_at, run_on, run_over}
-use Rattle.schedule_laws.proofs.Saying.{quiet}
+use Rattle.schedule_laws.specs.OutputText.{next_by}
+use Rattle.cluster_run.proofs.Results.{some_site}
+use Rattle.state_laws.proofs.Options.{some_of}
+use Rattle.schedule_laws.specs.Texts.{no_lines}
 
 -- what stands after the last round, by the round that comes next
 abbrev last_at : Source → ℕ → source.Standing
@@ -52,24 +55,24 @@ module _ (src : Source) (parts : List PlainPart) (one : IsOneRun parts) (run : I
         (spot : s.at.spot ≡ Judge r) where
       late_round : 1 ≤ r → last_at src (to_come src (core_go s).at.round) ≡ last_at src (to_come src s.at.round)
       late_round some =
-          let begun : src.base ≤ r = late quiet src parts one run same_ends w k f s at ready r spot some in
+          let begun : src.base ≤ r = late no_lines src parts one run same_ends w k f s at ready r spot some in
           let here : to_come src s.at.round ≡ r =
-          ap (to_come src) (round_is quiet src parts one run same_ends w k f s at ready r spot)
+          ap (to_come src) (round_is no_lines src parts one run same_ends w k f s at ready r spot)
           ∙ ap (λ (b : Bool). if b then r else src.base) (at_most src.base r begun) in
           let next : to_come src (core_go s).at.round ≡ r + 1 =
-          ap (to_come src) (sym (round_behind quiet src parts one run same_ends w k f s at ready r spot some))
+          ap (to_come src) (sym (round_behind no_lines src parts one run same_ends w k f s at ready r spot some))
           ∙ ap (λ (b : Bool). if b then r + 1 else src.base) (at_most src.base (r + 1) (omega (arith, begun))) in
           ap (last_at src) next
           ∙ sym (ap (λ (q : Run). q.last) (run_on src r begun
-          (within quiet src parts one run same_ends w k f s at ready r spot some)
-          (mode quiet src parts one run same_ends w k f s at ready r spot some)))
+          (within no_lines src parts one run same_ends w k f s at ready r spot some)
+          (mode no_lines src parts one run same_ends w k f s at ready r spot some)))
           ∙ ap (last_at src) (sym here)
 
       judge_round : last_at src (to_come src (core_go s).at.round) ≡ last_at src (to_come src s.at.round)
       judge_round =
           ⊎_elim
           (λ (none : r < 1).
-          ap (last_at src) (first_prints quiet src parts one run same_ends w k f s at ready r spot none))
+          ap (last_at src) (first_prints no_lines src parts one run same_ends w k f s at ready r spot none))
           late_round (cases_lt r 1)
 
     -- ---- any event
@@ -114,7 +117,7 @@ module _ (src : Source) (parts : List PlainPart) (one : IsOneRun parts) (run : I
 
     take_keeps : (x : Name) → Keeps (Take x)
     take_keeps x s t at there can =
-        let l = some_letter (found x w.under_way) can in
+        let l = some_of (found x w.under_way) can in
         let old =
         rounds_stay src parts one run same_ends w k f x l.0 l.1 0 t
         (subst (λ (v : World). slice_get v.sites 0 ≡ Some t)
@@ -134,9 +137,9 @@ module _ (src : Source) (parts : List PlainPart) (one : IsOneRun parts) (run : I
           stand src s.at.round ≡ last_at src (to_come src s.at.round)
       last_here s at =
           sym (ap (λ (q : Run). q.last)
-          (run_over src s.at.round (stops quiet src parts one run same_ends w k f ends s at)))
+          (run_over src s.at.round (stops no_lines src parts one run same_ends w k f ends s at)))
           ∙ ap (last_at src) (sym (ap (λ (b : Bool). if b then s.at.round else src.base)
-          (at_most src.base s.at.round (begun_by quiet src parts one run same_ends w k f ends s at))))
+          (at_most src.base s.at.round (begun_by no_lines src parts one run same_ends w k f ends s at))))
 
       abbrev state : SettledState
       state = reached (ring_of src.split (length parts)) (blocks_of src.split) k f.reached
@@ -190,7 +193,7 @@ module _ (src : Source) (parts : List PlainPart) (one : IsOneRun parts) (run : I
   rows_at_end (e ∷ es) w k f s at can ends m t u there truth same =
       let c = and_parts (possible w e) (all_possible core_work (step core_work w e) es) can in
       let next = next_follows src parts one run same_ends w k f e c.0 in
-      let z = zero_site quiet src parts one run same_ends (step core_work w e) (next_by src k e) next in
+      let z = zero_site no_lines src parts one run same_ends (step core_work w e) (next_by src k e) next in
       rows_at_end es (step core_work w e) (next_by src k e) next z.0 z.1 c.1 ends m t u there truth same
       ∙ ap (λ (q : source.Standing). map (row_at q.rows) (chunk_vertices src.job.graph.ends m))
       (event_keeps w k f e s z.0 at z.1 c.0)

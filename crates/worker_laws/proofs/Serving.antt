@@ -35,12 +35,12 @@ use Rattle.cluster_run.proofs.Sites.{get_one, set_here, set_other}
 use Rattle.cluster_run.proofs.TakeWorlds as take
 use Rattle.cluster_run.proofs.Worlds.{holds_need, it_stands}
 use Rattle.schedule_laws.specs.Events.{IsTrue, ring_in}
-use Rattle.schedule_laws.specs.OutputText.{rulings_of}
+use Rattle.schedule_laws.specs.OutputText.{next_by, rulings_of}
 use Rattle.schedule_laws.specs.Runs.{IsSourceRun}
 use Rattle.schedule_laws.proofs.Follows.{Follows, count, few, taker, taker_at, took_is}
-use Rattle.schedule_laws.proofs.Printing.{next_by, next_follows}
+use Rattle.schedule_laws.proofs.Printing.{next_follows}
 use Rattle.worker_stream.specs.Fronts.{front_of}
-use Rattle.worker_stream.specs.Prompt.{handed, sent_at, sent_by, sent_with, taken_at, taken_by}
+use Rattle.worker_stream.specs.Prompt.{handed, sent_at, sent_by, taken_at, taken_by}
 use Rattle.worker_stream.specs.Sent.{spelled_letter, spelled_letters}
 use Rattle.worker_stream.specs.Walks.{way_of}
 use Rattle.worker_stream.specs.Worker.{Finishes, Refuses, Served, behind_text, ends_at, served_from, takes_front}
@@ -52,6 +52,7 @@ use Rattle.worker_laws.proofs.Along.{IsAlong, acts_along, holds, others_along, s
 use Rattle.worker_laws.proofs.BySource.{can_lead, goes_to, held_of, ideal_letter, needs_are, ready_by, ready_parts, sends}
 use Rattle.worker_laws.proofs.Taking.{given_same, letter_body, letter_new, takes_along, takes_too}
 use Rattle.state_laws.proofs.Options.{some_of}
+use Rattle.cluster_run.specs.Sends.{sent_with}
 
 -- the text of messages with their ideal bodies
 abbrev ideal_text : Source → List Name → List ℕ
