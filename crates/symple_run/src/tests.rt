@@ -1,6 +1,7 @@
 ghost use Rattle.std.specs.Prelude.{◌<◌};
 
 mod demos;
+mod documents;
 mod links;
 mod real;
 mod rows;
@@ -245,6 +246,27 @@ fn rows_of_words(rt: HostRuntime) -> Result<(), Fail> {
     check_bodies(&rt, alloc)?;
     check_cuts(&rt, alloc, "run p g --machines 1", "diamond")?;
     check_cuts(&rt, alloc, "run p g --machines 1 --binary", "units")
+}
+
+/// The commands that README and the guide print, each over the files that those before it left.
+#[test]
+fn documents_are_true(rt: HostRuntime) -> Result<(), Fail> {
+    let alloc = rt.alloc();
+    let mut files = Vec::new(alloc);
+    for text in documents::FILES.split('$') {
+        if let Some((name, body)) = text.split_once('\n') {
+            let bytes = Vec::from_slice(alloc, body.as_bytes())?;
+            files.push((String::from_str(alloc, name.trim_ascii_start())?, bytes))?;
+        }
+    }
+    let mut shelf = MemShelf::new(alloc, files, Vec::new(alloc));
+    for row in documents::COMMANDS.split('$') {
+        if let Some((line, others)) = row.split_once('\n') {
+            let (status, text) = others.split_once('\n').unwrap_or((others, ""));
+            check(&rt, alloc, line, &mut shelf, (status, text))?;
+        }
+    }
+    Ok(())
 }
 
 #[test]
