@@ -3,8 +3,8 @@
 -- The claim: `split` keeps the part file of each machine in turn (PartLaws), and `worker` refuses a part file, or
 -- serves the input as its machine does and keeps its lines (ServeLaws, over the law of serving in `worker_stream`).
 --
--- The chain. The lines of a chunk that are put one by one are those by definition: RowLaws. What is known of the courses
--- of the two tasks, whatever allows them, is CourseLaws. A machine's part file is read as its part: PartBack. So its
+-- The chain. The lines of a chunk that are put one by one are those by definition: RowLaws. What is known of the
+-- courses of the two tasks, whatever allows them, is CourseLaws. A machine's part file is read as its part: PartBack. So its
 -- course at a core over what the machine took in a run is known: CoreServing, over the laws of `worker_laws`.
 pub mod CoreServing
 pub mod CourseLaws

@@ -1,4 +1,5 @@
--- Runs that leave images and runs that go on from one: what machines tell of them, and that for cores the source tells it.
+-- Runs that leave images and runs that go on from one: what machines tell of them, and that for cores the source tells
+-- it.
 use Rattle.std.proofs.Common.{◌≡◌, ◌⊎◌, inl, inr, ℕ, zero, suc, ◌-◌, ◌<◌, Bool, true, false, nat_lt, List, [], ◌∷◌, ◌++◌, codes, length, Option, Some, None, refl, sym, ap, subst, ◌∙◌, arith, append_assoc, append-nil}
 use Rattle.std.specs.Prelude.{◌%◌, decimal, if◌then◌else◌}
 use Rattle.std.specs.List.{All, range_with_len}

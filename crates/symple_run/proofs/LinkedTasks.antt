@@ -1,5 +1,5 @@
--- Runs over links, and by the text of a schedule of any form, go one way: those of machines of a kind, and those that the
--- source's run tells.
+-- Runs over links, and by the text of a schedule of any form, go one way: those of machines of a kind, and those that
+-- the source's run tells.
 use Rattle.std.proofs.Common.{◌≡◌, ◌≢◌, ℕ, List, [], sym, ap, subst, ◌∙◌}
 use Rattle.circulant_plan.specs.Skeleton.{Skeleton}
 use Rattle.command_steps.specs.Courses.{TakesNothing}

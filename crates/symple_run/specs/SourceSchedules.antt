@@ -35,7 +35,8 @@ pub record IsSourceFollowed (play : Play) (form : Form) (events : List Event) (c
       course ≡ followed (by_source play.lines (source_on play on)) form 0 1 (first_order play on) events
   pub text : PutsSource play course
 
--- The events over links are those that the seed draws, and each is told by the source's run; their text of form 3 is kept.
+-- The events over links are those that the seed draws, and each is told by the source's run; their text of form 3 is
+-- kept.
 pub record IsSourceLossy (play : Play) (seed : ℕ) (name : List ℕ) (course : Course) : Type 0 where
   pub on : HasParts play
   pub few : AreMachines play.machines
