@@ -252,14 +252,13 @@ fn rows_of_words(rt: HostRuntime) -> Result<(), Fail> {
 #[test]
 fn documents_are_true(rt: HostRuntime) -> Result<(), Fail> {
     let alloc = rt.alloc();
-    let mut files = Vec::new(alloc);
+    let mut shelf = shelf(&rt, alloc, "", b"", Vec::new(alloc))?;
     for text in documents::FILES.split('$') {
         if let Some((name, body)) = text.split_once('\n') {
-            let bytes = Vec::from_slice(alloc, body.as_bytes())?;
-            files.push((String::from_str(alloc, name.trim_ascii_start())?, bytes))?;
+            let stored = shelf.store(name.trim_ascii_start(), body.as_bytes());
+            assert_eq!(rt; stored, Ok(()));
         }
     }
-    let mut shelf = MemShelf::new(alloc, files, Vec::new(alloc));
     for row in documents::COMMANDS.split('$') {
         if let Some((line, others)) = row.split_once('\n') {
             let (status, text) = others.split_once('\n').unwrap_or((others, ""));
