@@ -46,7 +46,8 @@ fn chunk_from(table: &Table, machines: u8, start: u32, need: u64) -> Chunk
     requires within { start ≤ table.now.vertices }
     ensures end { result.end ≡ start
         + reach need (drop start (costs_of machines table.now.vertices table.now.list)) }
-    ensures cost { result.cost + sum (drop result.end (costs_of machines table.now.vertices table.now.list))
+    ensures cost { result.cost
+        + sum (drop result.end (costs_of machines table.now.vertices table.now.list))
         ≡ sum (drop start (costs_of machines table.now.vertices table.now.list)) }
     ensures within { result.end ≤ table.now.vertices }
 {

@@ -26,7 +26,8 @@ pub fn print_split(alloc: Global, split: &Split) -> Result<String, Want>
 
 fn print_dense(out: &mut String, split: &Split) -> Result<(), Want>
     ensures { OnOk result (string_bytes out.new ≡ string_bytes out.old
-        ++ shown_dense split.now.program.program.names.items split.now.program.program.slots.items split.now.program.program.dense) }
+        ++ shown_dense split.now.program.program.names.items
+        split.now.program.program.slots.items split.now.program.program.dense) }
 {
     let program = &split.program.program;
     match (&program.dense, &split.dense) {

@@ -37,7 +37,8 @@ fn bits_at(marks: &[Mark], vertex: usize) -> u8
 fn mark_byte(marks: &[Mark], vertex: usize) -> u8
     requires within { vertex < length marks.now }
     requires few { vertex + 4 < 2 ^ 64 }
-    ensures { mark_bytes (drop vertex marks.now) ≡ result ∷ mark_bytes (drop (vertex + 4) marks.now) }
+    ensures { mark_bytes (drop vertex marks.now)
+        ≡ result ∷ mark_bytes (drop (vertex + 4) marks.now) }
 {
     bits_at(marks, vertex)
         + 4 * bits_at(marks, vertex + 1)

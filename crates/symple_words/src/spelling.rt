@@ -32,7 +32,8 @@ fn option_move<'a>(
     value: Option<&'a str>,
 ) -> Option<Move<'a>>
     ensures { option_map move_view result
-        ≡ option_move (form_of form.now) (texts names.now) name.now (option_map (λ text. text.now) value.entry) }
+        ≡ option_move (form_of form.now) (texts names.now) name.now
+        (option_map (λ text. text.now) value.entry) }
 {
     if has(name, names) {
         return None;

@@ -91,7 +91,8 @@ fn enter_stmt(
     used: &mut IndexSet<String>,
 ) -> Result<(), ParseFault>
     ensures entered { OnOk result (texts_in used.new.keys
-        ≡ enter_all (texts_in used.old.keys) (statement_names (view_statement names.now stmt.now))) }
+        ≡ enter_all (texts_in used.old.keys)
+        (statement_names (view_statement names.now stmt.now))) }
     ensures want { IfErr result (λ fault. fault ≡ ParseFault.Want) }
 {
     match stmt {

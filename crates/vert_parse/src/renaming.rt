@@ -196,7 +196,8 @@ fn rename_sparse(sparse: &mut Sparse, names: &[String], used: &IndexSet<String>)
 }
 
 fn rename_maybe_dense(dense: &mut Option<Dense>, names: &[String], used: &IndexSet<String>)
-    requires places { IsTrue (option_all (dense_all (has_place names.now used.now.keys)) dense.old) }
+    requires places { IsTrue (option_all (dense_all (has_place names.now used.now.keys))
+        dense.old) }
     requires few { length used.now.keys ≤ 2 ^ 32 }
     ensures same { option_map (view_dense used.now.keys) dense.new
         ≡ option_map (view_dense names.now) dense.old }

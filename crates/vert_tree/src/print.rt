@@ -36,7 +36,8 @@ pub fn print_declarations(
     declarations: &[Decl],
 ) -> Result<(), Want>
     ensures printed { OnOk result (string_bytes out.new ≡ string_bytes out.old
-        ++ flat_map (printed_declaration keyword.now) (map (view_declaration names.now) declarations.now)) }
+        ++ flat_map (printed_declaration keyword.now)
+        (map (view_declaration names.now) declarations.now)) }
     ensures kept { OnErr result (string_bytes out.new ≡ string_bytes out.old) }
 {
     let mut text = String::new(*out.allocator());

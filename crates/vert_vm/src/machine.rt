@@ -123,7 +123,8 @@ fn run_above(
         next ≡ place + 1 + (step instr place (value ∷ stack.old) env.old).over) }
     ensures going { IfSome result (λ next.
         Going ≡ (step instr place (value ∷ stack.old) env.old).ran.flow) }
-    ensures broke { IfNone result (Broke ≡ (step instr place (value ∷ stack.old) env.old).ran.flow) }
+    ensures broke { IfNone result (
+        Broke ≡ (step instr place (value ∷ stack.old) env.old).ran.flow) }
     ensures stack { stack.new ≡ (step instr place (value ∷ stack.old) env.old).stack }
     ensures env { env.new ≡ (step instr place (value ∷ stack.old) env.old).ran.env }
     ensures emits { emits.new.slots.items

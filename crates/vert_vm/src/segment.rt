@@ -25,7 +25,8 @@ pub fn step_segment<F: Feed>(code: &Code, env: &mut Env, emits: &mut Emits, feed
     requires rows { All (IsWide env.old) (F.left feed.old) }
     requires draws { CanDraw env.old }
     requires partials { length emits.old.slots.items ≡ length env.old.slots.items }
-    ensures env { env.new ≡ (loop_code (list_of code.now Block.Loop) (F.left feed.old) env.old).env }
+    ensures env { env.new
+        ≡ (loop_code (list_of code.now Block.Loop) (F.left feed.old) env.old).env }
     ensures flow { result ≡ (loop_code (list_of code.now Block.Loop) (F.left feed.old)
         env.old).flow }
     ensures emits { emits.new.slots.items

@@ -18,7 +18,8 @@ states-preserved c =
     let so_far = c.states.invariant in
     let mark = c.mark_at-mark.result in
     let all = pairs_in c.args.marks.now in
-    let below : c.states.place < length c.args.half.now.states = omega (arith, c.states-test.true, c.len-place-end.ensures) in
+    let below : c.states.place < length c.args.half.now.states =
+    omega (arith, c.states-test.true, c.len-place-end.ensures) in
     let within : c.states.place < length (take (length c.args.half.now.states) (pairs_in c.args.marks.now)) =
     omega (arith, below, length-front n c.args.marks.now c.requires.marked) in
     let inside : c.states.place < length c.states.half.states = omega (arith, below, so_far.count) in
