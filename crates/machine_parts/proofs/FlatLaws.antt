@@ -9,6 +9,7 @@ use Rattle.flat_table.specs.Grids.{Rows}
 use Rattle.dep_layout.specs.declared.state.Mark.{Mark}
 use Rattle.dep_layout.specs.declared.state.Mark.TheVariants.{Fresh}
 use Rattle.dep_layout.specs.Spelling.{State}
+use Rattle.dep_layout.proofs.LoopLaws.{state_made}
 use Rattle.machine_parts.specs.Flat.{AreLaid, AreStill, RowTable, StateTable, fresh_state, row_with, rows_with, state_at, states_with, still_row, zip_with}
 
 module _ {X Y Z : Type 0} (f : X → Y → Z) where
@@ -75,9 +76,6 @@ still_rows width count words flags filled none =
     ∙ zip_with-replicate row_with count (replicate width (pos 0)) false in
     λ j. record { width = width; rows = rows j }
 
-abbrev pub state_with : Mark → List ℤ → State
-state_with mark words = record { mark = mark; words = words }
-
 -- a state table with these marks and words
 abbrev pub states_of_half : ℕ → List Mark → List (List ℤ) → StateTable
 states_of_half width marks lists = record { width = width; states = states_with marks lists }
@@ -86,13 +84,13 @@ module _ (t : StateTable) (width : ℕ) (marks : List Mark) (words : Rows ℤ)
     (is : states_of_half width marks words.rows ≡ t) (laid : AreLaid 8 width (length marks) words) where
   pub states_count : length t.states ≡ length marks
   states_count = ap (λ (u : StateTable). length u.states) (sym is)
-      ∙ length-zip_with state_with marks words.rows (sym laid.size) ∙ laid.size
+      ∙ length-zip_with state_made marks words.rows (sym laid.size) ∙ laid.size
 
   pub at_state : (i : ℕ) → i < length t.states → state_at t.states i
-      ≡ state_with (get_or marks i Fresh) (get_or words.rows i [])
+      ≡ state_made (get_or marks i Fresh) (get_or words.rows i [])
   at_state i lt =
       ap (λ (u : StateTable). state_at u.states i) (sym is)
-      ∙ get_or-zip_with state_with marks words.rows i Fresh [] (fresh_state 0) (sym laid.size)
+      ∙ get_or-zip_with state_made marks words.rows i Fresh [] (fresh_state 0) (sym laid.size)
       (omega (arith, states_count, laid.size))
 
   pub state_wide : (i : ℕ) → i < length t.states → length (get_or words.rows i []) ≡ t.width
@@ -104,19 +102,19 @@ module _ (t : StateTable) (width : ℕ) (marks : List Mark) (words : Rows ℤ)
       let P : StateTable → Type 0 = λ u. (state_at u.states i).mark ≡ Fresh
       → (state_at u.states i).words ≡ replicate u.width (pos 0) in
       let inside : i < length (states_with marks words.rows) =
-      omega (arith, states_count, length-zip_with state_with marks words.rows (sym laid.size), laid.size) in
+      omega (arith, states_count, length-zip_with state_made marks words.rows (sym laid.size), laid.size) in
       subst P is (still i (fresh_state 0) inside)
 
   module _ (i : ℕ) (mark : Mark) (ws : List ℤ) (new : Rows ℤ) (put : new ≡ record words { rows = set words.rows i ws })
     where
-      states : states_with (set marks i mark) new.rows ≡ set (states_with marks words.rows) i (state_with mark ws)
+      states : states_with (set marks i mark) new.rows ≡ set (states_with marks words.rows) i (state_made mark ws)
       states = ap (λ (r : Rows ℤ). states_with (set marks i mark) r.rows) put
-          ∙ zip_with-set state_with marks words.rows i mark ws
+          ∙ zip_with-set state_made marks words.rows i mark ws
 
       pub state_put : states_of_half width (set marks i mark) new.rows
-          ≡ record t { states = set t.states i (state_with mark ws) }
+          ≡ record t { states = set t.states i (state_made mark ws) }
       state_put = (λ j. record { width = width; states = states j })
-          ∙ ap (λ (u : StateTable). record u { states = set u.states i (state_with mark ws) }) is
+          ∙ ap (λ (u : StateTable). record u { states = set u.states i (state_made mark ws) }) is
 
       pub put_laid : length ws ≡ t.width → AreLaid 8 width (length (set marks i mark)) new
       put_laid wide = record {
@@ -136,7 +134,7 @@ module _ (t : StateTable) (width : ℕ) (marks : List Mark) (words : Rows ℤ)
           let one : mark ≡ Fresh → ws ≡ replicate width (pos 0) = λ fresh. here fresh
           ∙ ap (λ (u : StateTable). replicate u.width (pos 0)) (sym is) in
           subst (λ (ss : List State). All P ss) (sym states) (All-set P (states_with marks words.rows) i
-          (state_with mark ws) one still)
+          (state_made mark ws) one still)
 
 module _ (width count : ℕ) (marks : List Mark) (words : Rows ℤ)
     (filled : words ≡ record { width = width; rows = replicate count (replicate width (pos 0)) })
@@ -145,7 +143,7 @@ module _ (width count : ℕ) (marks : List Mark) (words : Rows ℤ)
   fresh_all =
       ap (λ (r : Rows ℤ). states_with marks r.rows) filled
       ∙ ap (λ ms. states_with ms (replicate count (replicate width (pos 0)))) all
-      ∙ zip_with-replicate state_with count Fresh (replicate width (pos 0))
+      ∙ zip_with-replicate state_made count Fresh (replicate width (pos 0))
 
   pub fresh_is : states_of_half width marks words.rows ≡ record
       { width = width; states = replicate count (fresh_state width) }

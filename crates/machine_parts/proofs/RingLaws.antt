@@ -6,11 +6,8 @@ use Rattle.dep_layout.specs.declared.state.Mark.{Mark}
 use Rattle.dep_layout.specs.declared.state.Mark.TheVariants.{Fresh, Running, Broken}
 use Rattle.dep_layout.specs.Spelling.{State, mark_of, sent_bytes}
 use Rattle.dep_layout.specs.Reading.{mark_with, state_with, states_in, words_behind}
-use Rattle.dep_layout.proofs.LoopLaws.{state_step}
+use Rattle.dep_layout.proofs.LoopLaws.{state_made, state_step}
 use Rattle.machine_parts.specs.Flat.{fresh_state, state_at, states_with}
-
-abbrev state_of_words : Mark → List ℤ → State
-state_of_words mark words = record { mark = mark; words = words }
 
 -- the marks of states are those that they are made of
 pub marks_in : (marks : List Mark) (lists : List (List ℤ)) → length lists ≡ length marks →
@@ -65,7 +62,7 @@ not_fresh Broken which fresh = absurd (cc)
 
 -- zeros are the words of a vertex whose loop hasn't begun
 pub fresh_read : (width : ℕ) (mark : Mark) (words : List ℕ) (zeros : List ℤ) → mark ≡ Fresh
-    → zeros ≡ replicate width (pos 0) → state_of_words mark zeros ≡ state_with width mark words
-fresh_read width Fresh words zeros fresh e = ap (state_of_words Fresh) e
+    → zeros ≡ replicate width (pos 0) → state_made mark zeros ≡ state_with width mark words
+fresh_read width Fresh words zeros fresh e = ap (state_made Fresh) e
 fresh_read width Running words zeros fresh e = absurd (cc)
 fresh_read width Broken words zeros fresh e = absurd (cc)
