@@ -4,8 +4,8 @@ use Rattle.link_runs.specs.LinkTellings.{by_links, listed_links}
 use Rattle.machine_runs.specs.FollowWalks.{FollowsTo}
 use Rattle.link_runs.proofs.following.follow_events.Given as goal
 
--- no Want has ended the links; what comes at the events that are left comes from the first one on; and each event so far
--- had a line
+-- no Want has ended the links; what comes at the events that are left comes from the first one on; and each event so
+-- far had a line
 abbrev pub invariant-events : goal.invariant-events
 invariant-events g l =
     (l.links.ended ≡ false)
