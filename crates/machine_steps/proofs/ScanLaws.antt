@@ -1,6 +1,6 @@
 -- A vertex of a scan is entered as it is seen.
-use Rattle.std.proofs.Common.{◌≡◌, ◌==◌, ◌<◌, ◌≤◌, ◌+◌, ◌-◌, ℕ, ℤ, List, length, get_or, drop, map, All, sym, ap, subst, ◌∙◌, Option, arith}
-use Rattle.std.proofs.lemmas.List.{get_or-map, get_or_default, length-drop, length-map, length-take}
+use Rattle.std.proofs.Common.{◌≡◌, ◌==◌, ◌<◌, ◌≤◌, ◌+◌, ◌-◌, ◌||◌, not, true, if◌then◌else◌, refl, ℕ, ℤ, List, [], ◌∷◌, length, get_or, drop, map, All, sym, ap, subst, ◌∙◌, Option, arith}
+use Rattle.std.proofs.lemmas.List.{get_or-map, get_or_default, length-drop, length-map, length-take, set-get_or}
 use Rattle.std.proofs.lemmas.List.Elements.{All-filter}
 use Rattle.vert_base.specs.declared.graph.Edge.{Edge}
 use Rattle.vert_base.specs.declared.value.Row.{Row}
@@ -8,17 +8,20 @@ use Rattle.vert_base.specs.Neighbours.{bucket, source, target}
 use Rattle.vert_tree.specs.declared.program.Dense.{Dense}
 use Rattle.vert_eval.specs.declared.environment.Env.{Env}
 use Rattle.vert_eval.specs.Rounds.{row_at as row_of}
+use Rattle.vert_eval.specs.Values.{value_of}
+use Rattle.vert_eval.specs.Words.{is_set}
 use Rattle.dep_layout.specs.Spelling.{State as LoopState}
 use Rattle.body_shape.specs.Refresh.{plain_row, row_at}
 use Rattle.body_shape.specs.Update.{Sent}
 use Rattle.instrument.specs.declared.split.Split.{Split}
 use Rattle.symple_face.specs.declared.degree.Degree.{Degree}
-use Rattle.symple_face.specs.CoreScan.{scanned}
+use Rattle.symple_face.specs.CoreScan.{is_broken, passed, scanned, scanned_by, segment_seen}
 use Rattle.symple_face.specs.CoreSight.{none, told_row}
+use Rattle.symple_face.specs.CoreTakes.{unsent}
 use Rattle.symple_face.specs.Sight.{Sight, seen_env}
 use Rattle.machine_parts.specs.declared.spans.Span.{Span}
 use Rattle.machine_parts.specs.Entering.{IsReadyFor}
-use Rattle.machine_parts.specs.Flat.{RowTable, StateTable}
+use Rattle.machine_parts.specs.Flat.{RowTable, StateTable, fresh_state, state_at}
 use Rattle.machine_parts.specs.Neighbours.{AreOwn, member_in, no_degree}
 use Rattle.machine_parts.specs.Seen.{ShowsOwn}
 use Rattle.machine_parts.specs.Spans.{IsSpan, vertex_of}
@@ -36,6 +39,14 @@ span_some edges s is =
       length-take (s.end - s.start) (drop s.start edges),
       length-drop s.start edges,
     )
+
+-- the members of a vertex are own ones
+pub members_own : (edges members : List Edge) (v start count rows : ℕ) → AreOwn start count rows edges
+    → members ≡ bucket target v edges → AreOwn start count rows members
+members_own edges members v start count rows own are =
+    let P : Edge → Type 0 = λ e. (start ≤ source e) × (source e - start < count) × (source e - start < rows) in
+    subst (λ es. AreOwn start count rows es) (sym are)
+    (All-filter (λ e. target e == v) P edges own)
 
 module _ (g : Sight) (table : RowTable) (degrees : List Degree) (start : ℕ) (values : List (Option ℤ)) (env : Env)
     (shows : ShowsOwn g table.rows degrees start values env) where
@@ -138,6 +149,29 @@ visited_over split d g key start degrees table edges members s first env st plac
     }) in
     subst (λ (e : Env). IsVisited (scanned split d g e.key all e.id.0 st) all place old new told count) is
     (subst (λ ms. IsVisited (scanned split d g env.key ms env.id.0 st) ms place old new told count) are here)
+
+-- where the loop broke before, nothing is read, nothing is sent, and the state is passed on
+broken_passes : (split : Split) (d : Dense) (g : Sight) (key : ℕ) (members : List Edge) (v : ℕ) (st : LoopState)
+    → is_broken st.mark ≡ true → scanned split d g key members v st ≡ passed split st
+broken_passes split d g key [] v st broken = refl
+broken_passes split d g key (e ∷ es) v st broken =
+    let env : Env = seen_env g v key (none split) in
+    ap (λ b. if b || not (is_set (value_of d.when_test env)) then passed split st
+    else scanned_by split d (segment_seen d g (e ∷ es) st env)) broken
+
+pub passed_over : (split : Split) (d : Dense) (g : Sight) (key : ℕ) (edges : List Edge) (v place : ℕ)
+    (half : StateTable) (told : Sent) → is_broken (state_at half.states place).mark ≡ true → told ≡ unsent split →
+    IsVisited (scanned_over split d g key edges v (state_at half.states place)) (bucket target v edges) place half half
+    told 0
+passed_over split d g key edges v place half told broken none_sent =
+    let st : LoopState = state_at half.states place in
+    subst (λ s. IsVisited s (bucket target v edges) place half half told 0)
+    (sym (broken_passes split d g key (bucket target v edges) v st broken)) (record {
+      state = ap (λ ss. let t : StateTable = record half { states = ss } in t)
+          (sym (set-get_or half.states place (fresh_state 0)));
+      sent = none_sent;
+      reads = refl;
+    })
 
 -- ---- the environments of a round
 pub round_trans : (a b c : Env) → SameRound a b → SameRound b c → SameRound a c

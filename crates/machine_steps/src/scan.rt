@@ -1,7 +1,8 @@
 // A scan of the vertices of a half that have members with the machine.
-ghost use Rattle.std.specs.Prelude.{◌≡◌, ◌≤◌, ◌<◌, ◌+◌, ◌++◌, ◌-◌, ◌^◌, All, length, map, slice_index_or, OnOk};
+ghost use Rattle.std.specs.Prelude.{◌≡◌, ◌≤◌, ◌<◌, ◌+◌, ◌++◌, ◌-◌, ◌^◌, All, None, length, map, replicate, slice_index_or, OnOk};
 ghost use Rattle.vert_base.specs.Neighbours.{bucket, target};
 ghost use Rattle.body_shape.specs.Update.{update_body};
+ghost use Rattle.symple_face.specs.CoreScan.{is_broken};
 ghost use Rattle.symple_face.specs.CoreSight.{none, program_of};
 ghost use Rattle.symple_face.specs.CoreTakes.{slot_count};
 ghost use Rattle.symple_face.specs.Plans.{loop_carry};
@@ -15,7 +16,9 @@ ghost use Rattle.machine_parts.specs.Spans.{IsSpan, vertex_of};
 ghost use Rattle.vertex_work.specs.Scanning.{AreFew, AreScanned, HavePlaces, IsOfRound, ShowsMirrors, scanned_over, scans};
 ghost use Rattle.vertex_work.specs.Stepping.{IsVisited, SameRound};
 
+use arrayvec::ArrayVec;
 use body_shape::{put_sent, read_row};
+use dep_layout::Mark;
 use flat_table::Grid;
 use machine_parts::{RingHalf, Span, edges_in, enter, read_row_of};
 use slot_merge::Partial;
@@ -42,7 +45,42 @@ pub(crate) struct Step {
     pub start: u32,
 }
 
-/// Goes to one of these vertices and scans it: how many members it reads.
+// So many words none of which is there.
+fn put_none(count: usize, words: &mut ArrayVec<Option<i64>, 8>)
+    requires { count ≤ 8 }
+    ensures { words.new.items ≡ replicate count None }
+{
+    words.clear();
+    'words: for _ in 0..count {
+        words.push(None);
+    }
+}
+
+// Passes over a vertex: nothing is sent of it.
+fn pass_over(body: &LoopCode, visit: &mut Visit)
+    ensures values { visit.new.values.items ≡ replicate (slot_count body.now.split.now) None }
+    ensures operands { visit.new.operands.items
+        ≡ replicate (length (reduced_in body.now.split.now.dense)) None }
+    ensures env { visit.new.env ≡ visit.old.env }
+{
+    put_none(body.split.program.program.slots.len(), &mut visit.values);
+    put_none(body.parts.reduced.len(), &mut visit.operands);
+}
+
+// Whether the loop of the vertex at a place broke before.
+#[inline]
+fn is_broken(half: &RingHalf, place: usize) -> bool
+    requires { place < length half.now.states }
+    ensures { result ≡ is_broken (state_at half.now.states place).mark }
+{
+    match half.mark(place) {
+        Mark::Fresh | Mark::Running => false,
+        Mark::Broken => true,
+    }
+}
+
+/// Goes to one of these vertices and scans it: how many members it reads. Where the loop broke
+/// before, its row isn't looked at.
 fn scan_mirror(
     body: &LoopCode,
     own: &OwnVertices,
@@ -78,13 +116,17 @@ fn scan_mirror(
     ensures states { length half.new.states ≡ length half.old.states }
 {
     let span = mirrors.spans[at];
+    let slot = (span.vertex.0 - step.start) as usize;
+    if is_broken(half, slot) {
+        pass_over(body, visit);
+        return 0;
+    }
     let place = mirrors.first + at;
     let fields = own.rows.width();
     read_row(mirrors.refresh, fields, place, &mut visit.env.row);
     read_row(mirrors.refresh, fields, place, &mut visit.env.other_row);
     enter(&mut visit.env, span.vertex, &mirrors.degrees[at], step.key);
     let members = edges_in(own.edges, &span);
-    let slot = (span.vertex.0 - step.start) as usize;
     scan_vertex(body, own, members, visit, half, slot)
 }
 
@@ -134,7 +176,8 @@ pub(crate) fn tell_mirrors(
     Ok(())
 }
 
-/// Goes to an own vertex and scans it: how many members it reads.
+/// Goes to an own vertex and scans it: how many members it reads. Where the loop broke before, its
+/// row isn't looked at.
 fn scan_own_vertex(
     body: &LoopCode,
     own: &OwnVertices,
@@ -170,11 +213,15 @@ fn scan_own_vertex(
     ensures operands { length visit.new.operands.items
         ≡ length (reduced_in body.now.split.now.dense) }
 {
+    let slot = (span.vertex.0 - step.start) as usize;
+    if is_broken(half, slot) {
+        pass_over(body, visit);
+        return 0;
+    }
     let place = (span.vertex.0 - own.start) as usize;
     read_row_of(own.rows, place, &mut visit.env);
     enter(&mut visit.env, span.vertex, &own.degrees[place], step.key);
     let members = edges_in(own.edges, span);
-    let slot = (span.vertex.0 - step.start) as usize;
     scan_vertex(body, own, members, visit, half, slot)
 }
 
