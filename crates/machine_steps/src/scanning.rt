@@ -1,5 +1,5 @@
 // A scan of a half, by the state of the machine.
-ghost use Rattle.std.specs.Prelude.{◌≡◌, ◌≤◌, ◌<◌, ◌+◌, true, is_some, length, All, IfOk};
+ghost use Rattle.std.specs.Prelude.{◌≡◌, ◌≤◌, ◌<◌, ◌+◌, ◌^◌, true, is_some, length, All, IfOk};
 ghost use Rattle.circulant_plan.specs.Ring.{chunk_of};
 ghost use Rattle.dep_layout.specs.Judgement.{FitsRing};
 ghost use Rattle.symple_face.specs.CoreSight.{field_count, total_count};
@@ -35,6 +35,14 @@ pub(crate) fn no_counts(alloc: Global, count: usize) -> Result<Vec<u32>, Want>
         counts.push(0)?;
     }
     Ok(counts)
+}
+
+// How many bytes an update of so many vertices has at most.
+fn update_most(ground: &Ground, count: usize) -> usize
+    requires { count < 2 ^ 32 }
+{
+    let words = ground.sent_words();
+    (2 + 8 * (words.slots + words.reduced)) * count
 }
 
 /// Scans a half of another chunk, in a step before the last. It changes nothing of the machine, and
@@ -76,7 +84,7 @@ pub fn scan_half(
     let count = mirrors.spans.len();
     let mut states = received(alloc, &body, range.1 - range.0, dep)?;
     let mut counts = no_counts(alloc, count)?;
-    let mut update = Vec::with_capacity(alloc, 130 * count)?;
+    let mut update = Vec::with_capacity(alloc, update_most(ground, count))?;
     let mut visit = new_visit(new_env(&ground.setting(round), totals));
     tell_mirrors(
         &body,
