@@ -1,8 +1,8 @@
 -- The goes and then the takes, by their places.
-use Rattle.std.proofs.Common.{◌≡◌, ℕ, zero, suc, ◌+◌, List, [], ◌∷◌, ◌++◌, length, map, Option, Some, None, refl, ap, sym, ◌∙◌, arith, slice_get}
+use Rattle.std.proofs.Common.{◌≡◌, ℕ, zero, suc, ◌+◌, ◌<◌, ◌≤◌, List, [], ◌∷◌, ◌++◌, length, map, Option, Some, None, refl, ap, sym, ◌∙◌, arith, get_or, slice_get, subst}
 use Rattle.std.proofs.lemmas.List.{length-append, length-map}
 use Rattle.std.specs.Option.{option_map}
-use Rattle.std.specs.Prelude.{if◌then◌else◌, Bool}
+use Rattle.std.specs.Prelude.{if◌then◌else◌, Bool, false}
 use Rattle.std.specs.List.{filter, range_with_len}
 use Rattle.vert_base.specs.declared.message.Name.{Name}
 use Rattle.vert_base.specs.declared.message.Event.TheVariants.{Go, Take}
@@ -85,3 +85,28 @@ set_are_ready state n (x ∷ xs) =
 pub set_ready : {X : Type 0} → (state : X → State) (xs : List X) (flags : List Bool) → flags ≡ flags_of state xs →
     set_from 0 flags ≡ ready_from 0 (map state xs)
 set_ready state xs flags is = ap (set_from 0) is ∙ set_are_ready state 0 xs
+
+-- a flag says of its machine whether it is ready
+flag_is : {X : Type 0} → (state : X → State) (xs : List X) (k : ℕ) (b : Bool) → k < length (flags_of state xs) →
+    b ≡ get_or (flags_of state xs) k b → b ≡ can_act (slice_get (map state xs) k)
+flag_is state [] k b lt e = absurd (omega (arith, lt))
+flag_is state (x ∷ xs) zero b lt e = e
+flag_is state (x ∷ xs) (suc k) b lt e = flag_is state xs k b (omega (arith, lt)) e
+
+flag_lacks : {X : Type 0} → (state : X → State) (xs : List X) (k : ℕ) → length (flags_of state xs) ≤ k →
+    false ≡ can_act (slice_get (map state xs) k)
+flag_lacks state [] k le = refl
+flag_lacks state (x ∷ xs) zero le = absurd (omega (arith, le))
+flag_lacks state (x ∷ xs) (suc k) le = flag_lacks state xs k (omega (arith, le))
+
+module _ {X : Type 0} (state : X → State) (xs : List X) (flags : List Bool) (are : flags ≡ flags_of state xs)
+    (at k : ℕ) (is : at ≡ k) where
+  pub flag_told : (b : Bool) → at < length flags → b ≡ get_or flags at b → b ≡ can_act (slice_get (map state xs) k)
+  flag_told b lt e =
+      subst (λ j. b ≡ can_act (slice_get (map state xs) j)) is (flag_is state xs at b
+      (subst (λ (fs : List Bool). at < length fs) are lt) (e ∙ ap (λ (fs : List Bool). get_or fs at b) are))
+
+  pub no_flag : length flags ≤ at → false ≡ can_act (slice_get (map state xs) k)
+  no_flag le =
+      subst (λ j. false ≡ can_act (slice_get (map state xs) j)) is (flag_lacks state xs at
+      (subst (λ (fs : List Bool). length fs ≤ at) are le))

@@ -12,11 +12,12 @@ use symple_face::Site;
 use vert_base::Event;
 
 /// Whether an event is possible.
-pub(crate) fn can_play<S: Site>(sites: &[S], flight: &Flight, event: &Event) -> bool
+pub(crate) fn can_play<S: Site>(sites: &[S], ready: &[bool], flight: &Flight, event: &Event) -> bool
+    requires flags { ready.now ≡ flags_of S.state sites.now }
     ensures { result ≡ possible (world_of S.state sites.now flight.now) event.now }
 {
     match event {
-        Event::Go(machine) => can_go(sites, *machine),
+        Event::Go(machine) => can_go(sites, ready, *machine),
         Event::Take(name) => flight.peek(name).is_some(),
     }
 }

@@ -82,12 +82,14 @@ pub(crate) fn nth_set(ready: &[bool], k: u32) -> Result<u8, u32>
     Err(left)
 }
 
-/// Whether the machine of a number is ready.
-pub(crate) fn can_go<S: Site>(sites: &[S], machine: u8) -> bool
+/// Whether the machine of a number is ready, by its flag.
+pub(crate) fn can_go<S: Site>(sites: &[S], ready: &[bool], machine: u8) -> bool
+    requires flags { ready.now ≡ flags_of S.state sites.now }
     ensures { result ≡ can_act (slice_get (map S.state sites.now) machine) }
 {
-    match sites.get(usize::from(machine)) {
-        Some(site) => is_ready(site),
+    let _machines = sites.len();
+    match ready.get(usize::from(machine)) {
+        Some(flag) => *flag,
         None => false,
     }
 }

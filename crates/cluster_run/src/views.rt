@@ -44,7 +44,7 @@ impl<S: Site, const CAP: usize> Cluster<S, CAP> {
         ensures is { result ≡ possible self.now.world event.now }
         ensures played { (result ≡ true) ↔ (fault_of self.now.world event.now ≡ None) }
     {
-        can_play(&self.sites, &self.flight, event)
+        can_play(&self.sites, &self.ready, &self.flight, event)
     }
 
     /// How many events are possible.
