@@ -1,15 +1,14 @@
 // The ring states of the vertices of a half.
-ghost use Rattle.std.specs.Prelude.{◌≡◌, ◌≤◌, ◌<◌, ◌*◌, ◌^◌, ◌++◌, length, pos, replicate, slice_set, take, IfOk, OnOk};
+ghost use Rattle.std.specs.Prelude.{◌≡◌, ◌≢◌, ◌≤◌, ◌<◌, ◌*◌, ◌^◌, ◌++◌, [], length, pos, replicate, slice_index_or, slice_set, take, IfOk, OnOk};
 ghost use Rattle.std.specs.List.{flat_map};
-ghost use Rattle.dep_layout.specs.Judgement.{FitsRing, pairs_in};
+ghost use Rattle.dep_layout.specs.Judgement.{FitsRing, pairs_in, words_in};
 ghost use Rattle.dep_layout.specs.Reading.{read_of, state_with, states_in, words_behind};
 ghost use Rattle.dep_layout.specs.Spelling.{sent_bytes, spelled};
 ghost use Rattle.machine_parts.specs.Flat.{fresh_state, state_at};
 
 use crate::repeated::repeated;
 use crate::ring_marks::{mark_at, put_marks};
-use arrayvec::ArrayVec;
-use body_shape::{behind, put_words, read_words};
+use body_shape::{behind, put_words, word_at};
 use dep_layout::Mark;
 use flat_table::Grid;
 use std::alloc::Global;
@@ -81,7 +80,8 @@ impl RingHalf {
     pub fn spell(&self, alloc: Global) -> Result<Vec<u8>, Want>
         ensures { IfOk result (λ body. body.items ≡ spelled self.now.states) }
     {
-        let mut body = Vec::with_capacity(alloc, self.marks.len())?;
+        let count = self.marks.len();
+        let mut body = Vec::with_capacity(alloc, spelled_most(self.width, count))?;
         put_marks(&mut body, &self.marks)?;
         put_states(&mut body, self)?;
         Ok(body)
@@ -128,36 +128,70 @@ impl RingHalf {
         self.marks[place] = mark;
         self.words.put_row(place, words);
     }
+
+    /// Puts a started state into its place, with the words at the front of bytes.
+    fn put_read(&mut self, place: usize, mark: Mark, bytes: &[u8])
+        requires place { place < length self.old.states }
+        requires started { mark ≢ Mark.Fresh }
+        ensures { self.new ≡ record self.old {
+          states = slice_set self.old.states place
+              (record { mark = mark; words = words_in self.old.width bytes.now });
+        } }
+    {
+        self.marks[place] = mark;
+        lay_words(&mut self.words, place, self.width, bytes);
+    }
 }
 
-// Reads the state of a vertex from the front of bytes, where its mark has words: the bytes behind
-// them.
+// The bytes of the spelling of so many states where all are started.
+fn spelled_most(width: usize, count: usize) -> usize {
+    count
+        .saturating_mul(width)
+        .saturating_mul(8)
+        .saturating_add(count.div_ceil(4))
+}
+
+// Lays the words at the front of bytes into a row.
+fn lay_words(words: &mut Grid<i64>, place: usize, width: usize, bytes: &[u8])
+    requires place { place < length words.old.rows }
+    requires width { words.old.width ≡ width }
+    requires row { length (slice_index_or words.old.rows place []) ≡ width }
+    ensures { words.new ≡ record words.old {
+      rows = slice_set words.old.rows place (words_in width bytes.now);
+    } }
+{
+    let mut rest = bytes;
+    'columns: for column in 0..width {
+        words.put(place, column, word_at(rest, 0));
+        rest = behind(rest, 8);
+    }
+}
+
+// Reads the state of a vertex whose loop hasn't begun from the front of bytes, where its mark has
+// words: the bytes behind them.
+#[inline]
 fn read_state<'a>(half: &mut RingHalf, place: usize, mark: Mark, words: &'a [u8]) -> &'a [u8]
     requires place { place < length half.old.states }
-    requires narrow { half.old.width ≤ 8 }
+    requires fresh { state_at half.old.states place ≡ fresh_state half.old.width }
     ensures half { half.new ≡ record half.old {
       states = slice_set half.old.states place (state_with half.old.width mark words.now);
     } }
     ensures rest { result.now ≡ words_behind half.old.width mark words.now }
 {
     match mark {
-        Mark::Fresh => {
-            let zeros = [0i64; 8];
-            half.put(place, mark, &zeros[..half.width]);
-            words
-        }
+        Mark::Fresh => words,
         Mark::Running | Mark::Broken => {
-            let mut row: ArrayVec<i64, 8> = ArrayVec::new();
-            read_words(words, 0, half.width, &mut row);
-            half.put(place, mark, row.as_slice());
+            half.put_read(place, mark, words);
             behind(words, 8 * half.width)
         }
     }
 }
 
-// Reads the states of all vertices from their marks and the words of the started ones.
+// Reads the states of all vertices, whose loops haven't begun, from their marks and the words of
+// the started ones.
 fn read_states(half: &mut RingHalf, marks: &[u8], words: &[u8])
-    requires narrow { half.old.width ≤ 8 }
+    requires fresh { half.old.states
+        ≡ replicate (length half.old.states) (fresh_state half.old.width) }
     requires marked { length half.old.states ≤ 4 * length marks.now }
     ensures width { half.new.width ≡ half.old.width }
     ensures states { half.new.states ≡ states_in half.old.width

@@ -15,7 +15,7 @@ use vert_eval::{Env, eval};
 use vert_tree::{Expr, TotalDecl};
 
 /// The totals over own vertices, which begin at `start`. It goes through the vertices once, and
-/// enters each.
+/// enters each; where there is no total it goes to none.
 pub fn own_totals(
     totals: &[TotalDecl],
     rows: &Rows,
@@ -30,6 +30,9 @@ pub fn own_totals(
     requires names { AreTotalsPlaced rows.now.width env.old totals.now }
     ensures { result.items ≡ map (own_total rows.now.rows degrees.now start env.old) totals.now }
 {
+    if totals.is_empty() {
+        return ArrayVec::new();
+    }
     let mut words = first_words(totals);
     'places: for place in 0..rows.len() {
         read_row_of(rows, place, env);

@@ -1,12 +1,28 @@
 -- One state more is read.
-use Rattle.std.proofs.Common.{◌<◌, length, set, take, sym, ap, ◌∙◌, arith}
-use Rattle.std.proofs.lemmas.List.{get_or-take, length-set}
+use Rattle.std.proofs.Common.{◌<◌, length, get_or, set, take, refl, sym, ap, ◌∙◌, arith}
+use Rattle.std.proofs.lemmas.List.{get_or-replicate, get_or-set_other, get_or-take, length-set}
 use Rattle.dep_layout.specs.Judgement.{pairs_in}
 use Rattle.dep_layout.specs.Reading.{mark_with, state_with, words_behind}
 use Rattle.dep_layout.proofs.LoopLaws.{length-front}
-use Rattle.machine_parts.specs.Flat.{StateTable}
+use Rattle.machine_parts.specs.Flat.{StateTable, fresh_state}
 use Rattle.machine_parts.proofs.RingLaws.{read_more}
 use Rattle.machine_parts.proofs.ring_half.read_states.Goals as goal
+
+pub read_state-rest-requires-clause-fresh : goal.read_state-rest-requires-clause-fresh
+read_state-rest-requires-clause-fresh c =
+    let i = c.states.place in
+    let below : c.states.place < length c.args.half.now.states =
+    omega (arith, c.states-test.true, c.len-place-end.ensures) in
+    c.states.invariant.fresh i (omega arith) below ∙ ap fresh_state (sym c.states.invariant.width)
+
+pub states-init : goal.states-init
+states-init c = record {
+  width = refl;
+  count = refl;
+  fresh = λ k low high. ap (λ ss. get_or ss k (fresh_state 0)) c.requires.fresh
+      ∙ get_or-replicate (length c.args.half.now.states) k (fresh_state c.args.half.now.width) (fresh_state 0) high;
+  whole = refl;
+}
 
 pub states-preserved : goal.states-preserved
 states-preserved c =
@@ -31,6 +47,9 @@ states-preserved c =
       width = ap (λ (t : StateTable). t.width) c.read_state-rest.ensures.half ∙ so_far.width;
       count = ap (λ (t : StateTable). length t.states) c.read_state-rest.ensures.half
           ∙ length-set now.states i _ ∙ so_far.count;
+      fresh = λ k low high. ap (λ ss. get_or ss k (fresh_state 0)) put
+          ∙ get_or-set_other now.states i k _ (fresh_state 0) (λ same. omega (arith, low, same))
+          ∙ so_far.fresh k (omega (arith, low)) high;
       whole = read_more first.width (take n all) i now.states _ mark rest _ _ within inside here put behind
           so_far.whole;
     }
