@@ -84,8 +84,21 @@ pub fn read_row_of(rows: &Rows, place: usize, env: &mut Env)
     ensures row { env.new ≡ with_row (row_at rows.now.rows place) env.old }
     ensures width { length (row_at rows.now.rows place).words.items ≡ rows.now.width }
 {
-    rows.read(place, &mut env.row);
-    rows.read(place, &mut env.other_row);
+    let words = rows.words(place);
+    let active = rows.is_active(place);
+    write_row(words, active, &mut env.row);
+    write_row(words, active, &mut env.other_row);
+}
+
+// Writes the words and the flag of a row.
+#[inline]
+fn write_row(words: &[i64], active: bool, into: &mut Row)
+    requires { length words.now ≤ 16 }
+    ensures words { into.new.words.items ≡ words.now }
+    ensures active { into.new.active ≡ active }
+{
+    copy_words(words, &mut into.words);
+    into.active = active;
 }
 
 /// Goes to a vertex whose row the environment has already. What the vertex before has left there is

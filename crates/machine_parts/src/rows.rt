@@ -106,12 +106,17 @@ impl Rows {
     }
 }
 
-// Writes words into a list, in the place of what it held.
+// Writes words into a list, in the place of what it held. A list that has as many already isn't
+// emptied first, since that fills it with zeros.
 #[inline]
 pub(crate) fn copy_words<const N: usize>(from: &[i64], into: &mut ArrayVec<i64, N>)
     requires { length from.now ≤ N }
     ensures { into.new.items ≡ from.now }
 {
+    if into.len() == from.len() {
+        into.as_mut_slice().copy_from_slice(from);
+        return;
+    }
     into.clear();
     into.try_extend_from_slice(from).unwrap();
 }
