@@ -25,7 +25,30 @@ pub fn step_block(code: &Code, block: Block, env: &mut Env, emits: &mut Emits)
     ensures partials { length emits.new.slots.items ≡ length emits.old.slots.items }
 {
     let mut stack = Stack::new();
-    run_list(list_at(code, block), &mut stack, env, emits);
+    step_block_over(code, block, env, emits, &mut stack);
+}
+
+/// Does what `step_block` does on a stack that is there already, so that none is filled with zeros
+/// for each run. What is on it before is gone.
+pub fn step_block_over(
+    code: &Code,
+    block: Block,
+    env: &mut Env,
+    emits: &mut Emits,
+    stack: &mut Stack,
+)
+    requires names { list_names (counts_of env.old) (list_of code.now block) ≡ true }
+    requires draws { CanDraw env.old }
+    requires partials { length emits.old.slots.items ≡ length env.old.slots.items }
+    ensures env { env.new ≡ (run_code (list_of code.now block) env.old).env }
+    ensures emits { emits.new.slots.items
+        ≡ with_emissions env.old.key emits.old.slots.items
+        (run_code (list_of code.now block) env.old).emitted }
+    ensures kept { SameFrame env.old env.new }
+    ensures partials { length emits.new.slots.items ≡ length emits.old.slots.items }
+{
+    stack.clear();
+    run_list(list_at(code, block), stack, env, emits);
 }
 
 /// The list of a block.

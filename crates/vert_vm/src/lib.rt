@@ -7,5 +7,6 @@ mod operations;
 mod segment;
 mod stack;
 
-pub use block::step_block;
-pub use segment::step_segment;
+pub use block::{step_block, step_block_over};
+pub use segment::{step_segment, step_segment_over};
+pub use stack::Stack;

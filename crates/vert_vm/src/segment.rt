@@ -37,10 +37,38 @@ pub fn step_segment<F: Feed>(code: &Code, env: &mut Env, emits: &mut Emits, feed
     ensures kept { SameFrame (beside env.old env.new) env.new }
     ensures partials { length emits.new.slots.items ≡ length emits.old.slots.items }
 {
-    let list = list_at(code, Block::Loop);
     let mut stack = Stack::new();
+    step_segment_over(code, env, emits, &mut stack, feed)
+}
+
+/// Does what `step_segment` does on a stack that is there already, so that none is filled with zeros
+/// for each vertex. What is on it before is gone.
+pub fn step_segment_over<F: Feed>(
+    code: &Code,
+    env: &mut Env,
+    emits: &mut Emits,
+    stack: &mut Stack,
+    feed: &mut F,
+) -> Flow
+    requires names { list_names (counts_at env.old) (list_of code.now Block.Loop) ≡ true }
+    requires rows { All (IsWide env.old) (F.left feed.old) }
+    requires draws { CanDraw env.old }
+    requires partials { length emits.old.slots.items ≡ length env.old.slots.items }
+    ensures env { env.new ≡ (loop_code (list_of code.now Block.Loop) (F.left feed.old) env.old).env }
+    ensures flow { result ≡ (loop_code (list_of code.now Block.Loop) (F.left feed.old)
+        env.old).flow }
+    ensures emits { emits.new.slots.items
+        ≡ with_emissions env.old.key emits.old.slots.items
+        (loop_code (list_of code.now Block.Loop) (F.left feed.old) env.old).emitted }
+    ensures fed { Fed (F.given feed.old) (F.left feed.old) (F.given feed.new) (F.left feed.new)
+        (loop_code (list_of code.now Block.Loop) (F.left feed.old) env.old).reads }
+    ensures kept { SameFrame (beside env.old env.new) env.new }
+    ensures partials { length emits.new.slots.items ≡ length emits.old.slots.items }
+{
+    let list = list_at(code, Block::Loop);
+    stack.clear();
     while let Some(neighbour) = feed.next(&mut env.other_row) {
-        match visit(list, neighbour, &mut stack, env, emits) {
+        match visit(list, neighbour, stack, env, emits) {
             Flow::Broke => return Flow::Broke,
             Flow::Going => {}
         }

@@ -3,9 +3,10 @@ ghost use Rattle.vert_code.specs.Machine.{top, under};
 
 use std::marker::Model;
 
-/// The stack of a machine. Contracts see it as the list of its values, the topmost first.
+/// The stack of a machine, which fills it with zeros once and then uses it for run after run.
+/// Contracts see it as the list of its values, the topmost first.
 #[derive(Drop)]
-pub(crate) struct Stack {
+pub struct Stack {
     values: [i64; 64],
     height: usize,
 }
@@ -22,15 +23,23 @@ impl Model for Stack {
 }
 
 impl Stack {
-    /// The empty stack.
+    /// An empty stack.
     #[inline]
-    pub(crate) fn new() -> Stack
+    pub fn new() -> Stack
         ensures { result ≡ [] }
     {
         Stack {
             values: [0; 64],
             height: 0,
         }
+    }
+
+    /// Takes all values away.
+    #[inline]
+    pub(crate) fn clear(&mut self)
+        ensures { self.new ≡ [] }
+    {
+        self.height = 0;
     }
 
     /// One more value.

@@ -4,7 +4,7 @@ use Rattle.vert_eval.specs.Frames.{SameFrame, beside}
 use Rattle.vert_vm.specs.Segments.{IsWide, loop_code}
 use Rattle.vert_vm.specs.Ends.{SameEnd}
 use Rattle.vert_vm.proofs.SegmentLaws.{Feeding}
-use Rattle.vert_vm.proofs.segment.step_segment.Given as goal
+use Rattle.vert_vm.proofs.segment.step_segment_over.Given as goal
 
 -- the loop over the neighbours that are left ends as the loop over all does
 abbrev pub invariant-loop-neighbour : goal.invariant-loop-neighbour

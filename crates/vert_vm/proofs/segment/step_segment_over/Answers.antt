@@ -7,7 +7,7 @@ use Rattle.vert_code.specs.declared.instr.Block.TheVariants.{Loop}
 use Rattle.vert_vm.specs.Segments.{Fed, IsWide, Member, loop_code, member_code}
 use Rattle.vert_vm.proofs.EndLaws.{SameEnd-trans, going_ends}
 use Rattle.vert_vm.proofs.SegmentLaws.{beside_from, broke_reads, fed_of, feeding_more, going_reads, names_there, turn_is}
-use Rattle.vert_vm.proofs.segment.step_segment.Goals as goal
+use Rattle.vert_vm.proofs.segment.step_segment_over.Goals as goal
 
 pub visit-requires-clause-names : goal.visit-requires-clause-names
 visit-requires-clause-names g c =
