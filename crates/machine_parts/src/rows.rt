@@ -106,6 +106,23 @@ impl Rows {
     }
 }
 
+// Writes words over as many others. Most rows have a word or two, and copying many costs a call.
+#[inline]
+fn copy_over<const N: usize>(from: &[i64], into: &mut ArrayVec<i64, N>)
+    requires { length into.old.items ≡ length from.now }
+    ensures { into.new.items ≡ from.now }
+{
+    match from {
+        [] => {}
+        [word] => into[0] = *word,
+        [first, second] => {
+            into[0] = *first;
+            into[1] = *second;
+        }
+        _ => into.as_mut_slice().copy_from_slice(from),
+    }
+}
+
 // Writes words into a list, in the place of what it held. A list that has as many already isn't
 // emptied first, since that fills it with zeros.
 #[inline]
@@ -114,7 +131,7 @@ pub(crate) fn copy_words<const N: usize>(from: &[i64], into: &mut ArrayVec<i64, 
     ensures { into.new.items ≡ from.now }
 {
     if into.len() == from.len() {
-        into.as_mut_slice().copy_from_slice(from);
+        copy_over(from, into);
         return;
     }
     into.clear();
