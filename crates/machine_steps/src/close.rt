@@ -17,14 +17,13 @@ ghost use Rattle.vertex_work.specs.Shown.{Shows};
 ghost use Rattle.vertex_work.specs.Tails.{SameRound};
 
 use crate::blank::{empty_row, refresh_ring, ring_width};
-use arrayvec::ArrayVec;
 use flat_table::Grid;
 use machine_parts::{RingHalf, Rows, new_env};
-use slot_merge::{Emits, Partial};
+use slot_merge::Partial;
 use std::mem;
 use vert_eval::Env;
 use vert_tree::Program;
-use vertex_work::{Ending, Ground, end_vertex, is_quiet};
+use vertex_work::{Ending, Ground, Scratch, end_vertex, is_quiet, new_scratch};
 
 /// Closes a round: the own vertices have their rows after it, partials to which nothing came, and
 /// loops that haven't begun. It goes over them once, in place, and takes no memory.
@@ -58,7 +57,8 @@ pub fn close_rows(
     let _own = ground.own_count();
     let mut env = new_env(&ground.setting(round), totals);
     let tail = runs_tail(dense, &split.program.program);
-    let quiet = !tail && is_quiet(&split.program.program.update);
+    let still = is_quiet(&split.program.program.update);
+    let quiet = !tail && still;
     let empty = empty_row(split);
     let ending = Ending {
         code: &ground.code,
@@ -67,6 +67,7 @@ pub fn close_rows(
         start: ground.start(),
         key: u32::from(ground.machines()),
         tail,
+        quiet: still,
     };
     end_rows(
         &ending,
@@ -157,12 +158,18 @@ fn end_rows(
           (range_with_len ending.now.start (length rows.old.rows));
     } }
 {
-    let mut emits = Emits {
-        slots: ArrayVec::new(),
-    };
+    let mut scratch = new_scratch();
     'places: for place in 0..rows.len() {
         end_place(
-            ending, quiet, empty, ring, place, rows, partials, env, &mut emits,
+            ending,
+            quiet,
+            empty,
+            ring,
+            place,
+            rows,
+            partials,
+            env,
+            &mut scratch,
         );
     }
 }
@@ -177,7 +184,7 @@ fn end_place(
     rows: &mut Rows,
     partials: &mut Grid<Partial>,
     env: &mut Env,
-    emits: &mut Emits,
+    scratch: &mut Scratch,
 )
     requires can { CanClose ending.now.split.now ending.now.code.now ending.now.start
         (length rows.old.rows) (length ending.now.degrees.now) rows.old.width env.old }
@@ -206,7 +213,7 @@ fn end_place(
     if quiet && rests(rows, place, partials.row(place), empty) {
         return;
     }
-    end_vertex(ending, ring, place, partials.row(place), rows, env, emits);
+    end_vertex(ending, ring, place, partials.row(place), rows, env, scratch);
     partials.put_row(place, empty);
 }
 

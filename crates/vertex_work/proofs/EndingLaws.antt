@@ -1,28 +1,34 @@
 -- The end of a round at an own vertex, put together from what its steps do.
-use Rattle.std.proofs.Common.{◌≡◌, ◌≤◌, ◌<◌, ◌+◌, ◌-◌, ◌^◌, ◌++◌, ℕ, zero, suc, ℤ, Bool, true, false, List, [], ◌∷◌, drop, get_or, length, map, set, take, refl, sym, ap, subst, ◌∙◌, Option, Some, None, arith, add-one}
-use Rattle.std.specs.Prelude.{if◌then◌else◌, slice_get, unwrap_or}
-use Rattle.std.proofs.lemmas.List.{get_or_default}
+use Rattle.std.proofs.Common.{◌≡◌, ◌<◌, ◌+◌, ◌-◌, ℕ, zero, suc, ℤ, Bool, true, false, List, [], ◌∷◌, drop, get_or, length, set, take, refl, sym, ap, ◌∙◌, Option, Some, None, arith}
+use Rattle.std.specs.Prelude.{if◌then◌else◌, option_and_then, slice_get, unwrap_or}
+use Rattle.std.specs.List.{All}
+use Rattle.std.proofs.lemmas.List.{get_or_default, set-get_or}
+use Rattle.std.proofs.lemmas.List.Elements.{All-head, All-tail}
 use Rattle.vert_base.specs.declared.value.Row.{Row}
+use Rattle.vert_tree.specs.declared.name.What.{What}
+use Rattle.vert_tree.specs.declared.name.What.TheVariants.{Unread, Field, Slot, Local, Send, Total}
 use Rattle.vert_tree.specs.declared.program.Dense.{Dense}
 use Rattle.vert_tree.specs.declared.program.Program.{Program}
-use Rattle.vert_tree.specs.declared.program.SlotDecl.{SlotDecl}
+use Rattle.vert_tree.specs.declared.statement.Stmt.{Stmt}
 use Rattle.vert_tree.specs.Places.{round_counts}
 use Rattle.slot_merge.specs.declared.partial.Partial.{Partial}
 use Rattle.slot_merge.specs.Combine.{Emission}
 use Rattle.slot_merge.specs.Partials.{put_word, with_emission, with_emissions}
 use Rattle.dep_layout.specs.Spelling.{State as LoopState}
 use Rattle.vert_eval.specs.declared.environment.Env.{Env}
-use Rattle.vert_eval.specs.Rounds.{no_values, row_at, updated}
+use Rattle.vert_eval.specs.Rounds.{empty_row, row_at, updated}
 use Rattle.vert_eval.specs.Runs.{run}
-use Rattle.vert_eval.specs.Values.{CanDraw, counts_of, value_of}
+use Rattle.vert_eval.specs.Values.{counts_of, slot_value, value_of}
 use Rattle.vert_eval.specs.Words.{is_set}
 use Rattle.vert_code.specs.declared.code.Code.{Code}
 use Rattle.vert_code.specs.declared.instr.Block.TheVariants.{UpdateBody}
 use Rattle.vert_code.specs.Blocks.{list_of}
 use Rattle.vert_code.specs.Machine.{run_code}
+use Rattle.value_laws.specs.Blind.{is_quiet}
+use Rattle.value_laws.proofs.Quiet.{quiet_updates}
 use Rattle.instrument.specs.declared.split.Split.{Split}
 use Rattle.symple_face.specs.declared.degree.Degree.{Degree}
-use Rattle.symple_face.specs.CoreClose.{tail_at, tail_env}
+use Rattle.symple_face.specs.CoreClose.{tail_at, tail_env, values_of}
 use Rattle.symple_face.specs.CoreScan.{told_words}
 use Rattle.symple_face.specs.CoreSight.{field_count, none, program_of, total_count}
 use Rattle.symple_face.specs.CoreTakes.{slot_count}
@@ -132,16 +138,42 @@ pub row_written : (t new : RowTable) (place : ℕ) (row other : Row) →
     new ≡ record t { rows = set t.rows place row } → row ≡ other → new ≡ record t { rows = set t.rows place other }
 row_written t new place row other h is = h ∙ ap (λ r. let u : RowTable = record t { rows = set t.rows place r } in u) is
 
--- ---- no value for one slot more
-none_next : (slots : List SlotDecl) (i : ℕ) → i < length slots →
-    no_values (map (λ s. s.op) (take (suc i) slots)) ≡ no_values (map (λ s. s.op) (take i slots)) ++ None ∷ []
-none_next [] i lt = absurd (omega arith)
-none_next (slot ∷ slots) zero lt = refl
-none_next (slot ∷ slots) (suc i) lt = ap (λ vs. None ∷ vs) (none_next slots i (omega arith))
+-- ---- an update that does nothing, where no slot has a value
+value_at : (ps : List Partial) (i : ℕ) → All (λ p. p.value ≡ None) ps →
+    option_and_then (λ s. s) (slice_get (values_of ps) i) ≡ None
+value_at [] i empty = refl
+value_at (p ∷ ps) zero empty = All-head (λ q. q.value ≡ None) p ps empty
+value_at (p ∷ ps) (suc i) empty = value_at ps i (All-tail (λ q. q.value ≡ None) p ps empty)
 
-pub none_more : (slots : List SlotDecl) (i : ℕ) (values more : List (Option ℤ)) → i < length slots →
-    values ≡ no_values (map (λ s. s.op) (take i slots)) → more ≡ values ++ None ∷ [] →
-    more ≡ no_values (map (λ s. s.op) (take (i + 1) slots))
-none_more slots i values more lt so_far is =
-    is ∙ ap (λ vs. vs ++ None ∷ []) so_far ∙ sym (none_next slots i lt)
-    ∙ ap (λ k. no_values (map (λ s. s.op) (take k slots))) (sym (add-one i))
+none_there : (g : Sight) (v : ℕ) (ps : List Partial) → All (λ p. p.value ≡ None) ps → (w : What) →
+    slot_value w (seen_env g v 0 (values_of ps)) ≡ None
+none_there g v ps empty Unread = refl
+none_there g v ps empty (Field i) = refl
+none_there g v ps empty (Slot i) = value_at ps i empty
+none_there g v ps empty (Local i) = refl
+none_there g v ps empty (Send i) = refl
+none_there g v ps empty (Total i) = refl
+
+-- a vertex that isn't active keeps its row
+pub quiet_row : (split : Split) (t : RowTable) (degrees : List Degree) (start place : ℕ) (env : Env)
+    (slots ps : List Partial) → is_quiet (program_of split).update.items ≡ true →
+    (row_at t.rows place).active ≡ false → All (λ p. p.value ≡ None) slots → slots ≡ ps →
+    t ≡ record t {
+      rows = set t.rows place (updated (program_of split).update.items
+          (seen_env (own_view t.rows degrees start env) (start + place) 0 (values_of ps)));
+    }
+quiet_row split t degrees start place env slots ps quiet still empty same =
+    let v : ℕ = start + place in
+    let g : Sight = own_view t.rows degrees start env in
+    let back : v - start ≡ place = omega arith in
+    let row : Row = row_at t.rows place in
+    let flagged : Row → Row = λ r. record r { active = false } in
+    let with_flag : Bool → Row = λ b. record row { active = b } in
+    let update : List Stmt = (program_of split).update.items in
+    let stays : updated update (seen_env g v 0 (values_of ps)) ≡ row =
+    ap (λ qs. updated update (seen_env g v 0 (values_of qs))) (sym same)
+    ∙ quiet_updates update (seen_env g v 0 (values_of slots)) quiet (none_there g v slots empty) refl
+    ∙ ap (λ i. flagged (row_at t.rows i)) back
+    ∙ ap with_flag (sym still) in
+    let put : List Row → RowTable = λ rows. record t { rows = rows } in
+    sym (ap put (ap (set t.rows place) stays ∙ set-get_or t.rows place empty_row))

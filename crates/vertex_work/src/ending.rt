@@ -1,16 +1,18 @@
 //! The end of a round at one own vertex: the tail of a dense one, and the update.
 
-ghost use Rattle.std.specs.Prelude.{◌≡◌, ◌≤◌, ◌<◌, ◌+◌, [], Some, drop, length, map, slice_index_or, slice_set, take, unwrap_or};
+ghost use Rattle.std.specs.Prelude.{◌≡◌, ◌≤◌, ◌<◌, ◌+◌, [], true, All, None, Some, drop, length, map, slice_index_or, slice_set, take, unwrap_or};
 ghost use Rattle.vert_eval.specs.Rounds.{no_values, updated};
 ghost use Rattle.symple_face.specs.CoreClose.{tail_at, values_of};
 ghost use Rattle.symple_face.specs.CoreScan.{told_words};
 ghost use Rattle.symple_face.specs.CoreSight.{program_of};
 ghost use Rattle.symple_face.specs.CoreTakes.{slot_count};
 ghost use Rattle.symple_face.specs.Sight.{seen_env};
+ghost use Rattle.value_laws.specs.Blind.{is_quiet};
 ghost use Rattle.machine_parts.specs.Flat.{state_at};
 ghost use Rattle.vertex_work.specs.Closing.{CanClose, ended_row, ending_partials, own_view};
 ghost use Rattle.vertex_work.specs.Tails.{SameRound};
 
+use crate::scratch::{Scratch, load_emits, put_values, resize};
 use crate::tail::run_tail;
 use arrayvec::ArrayVec;
 use dep_layout::Mark;
@@ -22,7 +24,7 @@ use vert_base::VertexId;
 use vert_code::{Block, Code};
 use vert_eval::Env;
 use vert_tree::{Dense, SlotDecl};
-use vert_vm::step_block;
+use vert_vm::{Stack, step_block_over};
 
 /// What is the same for all own vertices at the end of a round. Their degrees begin at `start`.
 #[derive(Drop)]
@@ -35,6 +37,9 @@ pub struct Ending<'a> {
     pub key: u32,
     /// Whether the tail runs, where the program has one.
     pub tail: bool,
+    /// Whether the update changes nothing where no slot has a value.
+    pub quiet: bool,
+    ghost still: { quiet ≡ true → is_quiet (program_of split.now).update.items ≡ true },
 }
 
 /// Writes the row that an own vertex has at the end of the round, by its partials and ring state.
@@ -45,7 +50,7 @@ pub fn end_vertex(
     own: &[Partial],
     rows: &mut Rows,
     env: &mut Env,
-    emits: &mut Emits,
+    scratch: &mut Scratch,
 )
     requires can { CanClose ending.now.split.now ending.now.code.now ending.now.start
         (length rows.old.rows) (length ending.now.degrees.now) rows.old.width env.old }
@@ -60,9 +65,14 @@ pub fn end_vertex(
         } }
     ensures round { SameRound env.old env.new }
 {
+    let emits = &mut scratch.emits;
+    let stack = &mut scratch.stack;
     take_slots(own, ending.split.program.program.slots.len(), emits);
-    end_loop(ending, ring, place, own, rows, env, emits);
-    update_row(ending, place, rows, env, emits);
+    end_loop(ending, ring, place, own, rows, env, emits, stack);
+    if ending.quiet && !rows.is_active(place) && are_valueless(emits.slots.as_slice()) {
+        return;
+    }
+    update_row(ending, place, rows, env, emits, stack);
 }
 
 /// Adds what the tail emits at an own vertex to its slots, where it runs.
@@ -74,6 +84,7 @@ fn end_loop(
     rows: &Rows,
     env: &mut Env,
     emits: &mut Emits,
+    stack: &mut Stack,
 )
     requires can { CanClose ending.now.split.now ending.now.code.now ending.now.start
         (length rows.now.rows) (length ending.now.degrees.now) rows.now.width env.old }
@@ -108,6 +119,7 @@ fn end_loop(
         lets,
         env,
         emits,
+        stack,
     );
 }
 
@@ -124,7 +136,14 @@ fn handed(ring: &RingHalf, place: usize) -> &[i64]
 }
 
 /// Writes the row of an own vertex after the update, by what came to its slots.
-fn update_row(ending: &Ending, place: usize, rows: &mut Rows, env: &mut Env, emits: &mut Emits)
+fn update_row(
+    ending: &Ending,
+    place: usize,
+    rows: &mut Rows,
+    env: &mut Env,
+    emits: &mut Emits,
+    stack: &mut Stack,
+)
     requires can { CanClose ending.now.split.now ending.now.code.now ending.now.start
         (length rows.old.rows) (length ending.now.degrees.now) rows.old.width env.old }
     requires place { place < length rows.old.rows }
@@ -141,7 +160,7 @@ fn update_row(ending: &Ending, place: usize, rows: &mut Rows, env: &mut Env, emi
     read_row_of(rows, place, env);
     let id = VertexId(ending.start + place as u32);
     enter(env, id, &ending.degrees[place], 0);
-    step_block(ending.code, Block::UpdateBody, env, emits);
+    step_block_over(ending.code, Block::UpdateBody, env, emits, stack);
     env.row.active = env.next_active;
     rows.write(place, &env.row);
 }
@@ -152,8 +171,7 @@ fn take_slots(own: &[Partial], slots: usize, emits: &mut Emits)
     requires few { slots ≤ 8 }
     ensures { emits.new.slots.items ≡ take slots own.now }
 {
-    emits.slots.clear();
-    emits.slots.try_extend_from_slice(&own[..slots]).unwrap();
+    load_emits(&own[..slots], emits);
 }
 
 /// Takes all values of the slots away.
@@ -161,19 +179,16 @@ fn clear_values(slots: &[SlotDecl], values: &mut ArrayVec<Option<i64>, 8>)
     requires { length slots.now ≤ 8 }
     ensures { values.new.items ≡ no_values (map (λ s. s.op) slots.now) }
 {
-    values.clear();
-    for _slot in slots {
-        values.push(None);
+    resize(values, slots.len());
+    for (i, _slot) in slots.iter().enumerate() {
+        values[i] = None;
     }
 }
 
-/// Gives the slots the values of partials.
-fn put_values(partials: &[Partial], values: &mut ArrayVec<Option<i64>, 8>)
-    requires { length partials.now ≤ 8 }
-    ensures { values.new.items ≡ values_of partials.now }
+/// Whether no partial has a value.
+#[inline]
+fn are_valueless(partials: &[Partial]) -> bool
+    ensures { result ≡ true → All (λ p. p.value ≡ None) partials.now }
 {
-    values.clear();
-    for partial in partials {
-        values.push(partial.value);
-    }
+    partials.iter().all(|partial| partial.value.is_none())
 }

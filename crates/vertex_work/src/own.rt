@@ -14,10 +14,11 @@ ghost use Rattle.vertex_work.specs.Pushing.{AreOwnSenders, CanReceive, edges_add
 
 use crate::push::work_span;
 use crate::receivers::Receivers;
+use crate::scratch::{Scratch, new_scratch};
 use arrayvec::ArrayVec;
 use flat_table::Grid;
 use machine_parts::{Span, enter, read_row_of};
-use slot_merge::{Emits, Partial};
+use slot_merge::Partial;
 use vert_eval::{Env, eval, truth};
 use vert_tree::Sparse;
 
@@ -53,7 +54,7 @@ fn work_sender(
     sparse: &Sparse,
     span: &Span,
     env: &mut Env,
-    emits: &mut Emits,
+    scratch: &mut Scratch,
     partials: &mut Grid<Partial>,
 )
     requires span { IsSpan source receivers.now.edges.now span.now }
@@ -84,7 +85,7 @@ fn work_sender(
         return;
     }
     env.sends = sent_words(sparse, env);
-    work_span(receivers, span, env, emits, partials);
+    work_span(receivers, span, env, scratch, partials);
 }
 
 /// Works what own vertices send to one another. It takes no memory.
@@ -108,10 +109,8 @@ pub fn work_own(
     ensures settled { settled env.new ≡ settled env.old }
     ensures can { CanReceive receivers.now (length sparse.now.sends.items) env.new partials.new }
 {
-    let mut emits = Emits {
-        slots: ArrayVec::new(),
-    };
+    let mut scratch = new_scratch();
     for span in senders {
-        work_sender(receivers, sparse, span, env, &mut emits, partials);
+        work_sender(receivers, sparse, span, env, &mut scratch, partials);
     }
 }

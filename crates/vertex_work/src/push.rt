@@ -14,7 +14,7 @@ ghost use Rattle.machine_parts.proofs.TotalLaws.{settled};
 ghost use Rattle.vertex_work.specs.Pushing.{AreSenders, CanReceive, edge_added, edges_added, received_at, receiving};
 
 use crate::receivers::Receivers;
-use arrayvec::ArrayVec;
+use crate::scratch::{Scratch, load_emits, new_scratch};
 use body_shape::{is_sender, read_sends};
 use flat_table::Grid;
 use machine_parts::{Span, edges_in, read_row_of};
@@ -22,7 +22,7 @@ use slot_merge::{Emits, Partial};
 use vert_base::{Edge, Neighbour};
 use vert_code::Block;
 use vert_eval::Env;
-use vert_vm::step_block;
+use vert_vm::step_block_over;
 
 // The key under which the receivers of a chunk that ends at `end` take what a vertex sends.
 #[inline]
@@ -76,8 +76,7 @@ fn load(partials: &Grid<Partial>, place: usize, slots: usize, emits: &mut Emits)
     ensures { emits.new.slots.items ≡ take slots (slice_index_or partials.now.rows place []) }
 {
     let row = partials.row(place);
-    emits.slots.clear();
-    emits.slots.try_extend_from_slice(&row[..slots]).unwrap();
+    load_emits(&row[..slots], emits);
 }
 
 // Writes the partials of slots to a place.
@@ -102,7 +101,7 @@ fn work_edge(
     receivers: &Receivers,
     edge: &Edge,
     env: &mut Env,
-    emits: &mut Emits,
+    scratch: &mut Scratch,
     partials: &mut Grid<Partial>,
 )
     requires received { IsReceived receivers.now.start (length receivers.now.degrees.now)
@@ -118,9 +117,15 @@ fn work_edge(
 {
     let place = (edge.to.0 - receivers.start) as usize;
     receive(receivers, edge, env);
-    load(partials, place, env.slots.len(), emits);
-    step_block(receivers.code, Block::SparseBody, env, emits);
-    store(emits, place, partials);
+    load(partials, place, env.slots.len(), &mut scratch.emits);
+    step_block_over(
+        receivers.code,
+        Block::SparseBody,
+        env,
+        &mut scratch.emits,
+        &mut scratch.stack,
+    );
+    store(&scratch.emits, place, partials);
 }
 
 // The receivers of a vertex's edges run the sparse body over what it sends.
@@ -128,7 +133,7 @@ pub(crate) fn work_span(
     receivers: &Receivers,
     span: &Span,
     env: &mut Env,
-    emits: &mut Emits,
+    scratch: &mut Scratch,
     partials: &mut Grid<Partial>,
 )
     requires span { IsSpan source receivers.now.edges.now span.now }
@@ -142,7 +147,7 @@ pub(crate) fn work_span(
     ensures can { CanReceive receivers.now (length env.old.sends.items) env.new partials.new }
 {
     for edge in edges_in(receivers.edges, span) {
-        work_edge(receivers, edge, env, emits, partials);
+        work_edge(receivers, edge, env, scratch, partials);
     }
 }
 
@@ -169,14 +174,12 @@ pub fn work_told(
     ensures can { CanReceive receivers.now words env.new partials.new }
 {
     let count = senders.len();
-    let mut emits = Emits {
-        slots: ArrayVec::new(),
-    };
+    let mut scratch = new_scratch();
     let mut earlier = 0;
     'senders: for at in 0..count {
         if is_sender(body, count, at) {
             read_sends(body, count, earlier, words, &mut env.sends);
-            work_span(receivers, &senders[at], env, &mut emits, partials);
+            work_span(receivers, &senders[at], env, &mut scratch, partials);
             earlier += 1;
         }
     }

@@ -19,7 +19,7 @@ use vert_base::Combine;
 use vert_code::{Block, Code};
 use vert_eval::{Env, eval, truth};
 use vert_tree::{Decl, Dense};
-use vert_vm::step_block;
+use vert_vm::{Stack, step_block_over};
 
 /// Runs the tail at the vertex that the environment is entered at, where the test is true there.
 /// What it emits is added to the slots under the key of the environment. The words carried are
@@ -33,6 +33,7 @@ pub(crate) fn run_tail(
     lets: &[Partial],
     env: &mut Env,
     emits: &mut Emits,
+    stack: &mut Stack,
 )
     requires block { split.now.program.program.dense ≡ Some dense.now }
     requires code { IsCodeOf split.now.program.program code.now }
@@ -49,7 +50,7 @@ pub(crate) fn run_tail(
     }
     if let Some(split) = &split.dense {
         close_lets(split, dense, carried, lets, env);
-        step_block(code, Block::Tail, env, emits);
+        step_block_over(code, Block::Tail, env, emits, stack);
     }
 }
 

@@ -26,7 +26,7 @@ use vert_base::Edge;
 use vert_code::Code;
 use vert_eval::{Env, Flow, eval, truth};
 use vert_tree::Dense;
-use vert_vm::step_segment;
+use vert_vm::{Stack, step_segment_over};
 
 /// The loop of a program with a dense block, and its code.
 #[derive(Drop)]
@@ -86,6 +86,7 @@ fn run_segment<F: Feed>(
     half: &mut RingHalf,
     place: usize,
     emits: &mut Emits,
+    stack: &mut Stack,
     feed: &mut F,
 )
     requires place { place < length half.old.states }
@@ -112,7 +113,7 @@ fn run_segment<F: Feed>(
     ensures partials { length emits.new.slots.items ≡ length emits.old.slots.items }
 {
     begin_segment(body, env, half, place);
-    let flow = step_segment(body.code, env, emits, feed);
+    let flow = step_segment_over(body.code, env, emits, stack, feed);
     let mut words = ArrayVec::new();
     body.parts.give(env, &mut words);
     half.put(place, mark_after(flow), words.as_slice());
@@ -139,6 +140,7 @@ pub(crate) fn step_vertex(
     members: &[Edge],
     env: &mut Env,
     emits: &mut Emits,
+    stack: &mut Stack,
     half: &mut RingHalf,
     place: usize,
 ) -> u32
@@ -175,6 +177,6 @@ pub(crate) fn step_vertex(
         degrees: own.degrees,
         start: own.start,
     };
-    run_segment(body, env, half, place, emits, &mut feed);
+    run_segment(body, env, half, place, emits, stack, &mut feed);
     feed.given.min(feed.edges.len()) as u32
 }

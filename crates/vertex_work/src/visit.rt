@@ -1,7 +1,6 @@
 // A vertex of a scan: what is at hand there, and what is sent of it.
-ghost use Rattle.std.specs.Prelude.{◌≡◌, ◌==◌, ◌<◌, ◌≤◌, ◌^◌, not, All, length, map};
+ghost use Rattle.std.specs.Prelude.{◌≡◌, ◌==◌, ◌<◌, ◌≤◌, ◌^◌, not, All, length};
 ghost use Rattle.std.specs.Int.{bit_at};
-ghost use Rattle.slot_merge.specs.Partials.{empty_partial};
 ghost use Rattle.vert_tree.specs.Places.{round_counts};
 ghost use Rattle.vert_eval.specs.Values.{CanDraw, counts_of, word_at};
 ghost use Rattle.symple_face.specs.CoreScan.{scanned};
@@ -15,21 +14,20 @@ ghost use Rattle.machine_parts.specs.Flat.{state_at};
 ghost use Rattle.machine_parts.specs.Neighbours.{AreOwn};
 ghost use Rattle.vertex_work.specs.Stepping.{IsVisited, SameRound, ShowsVertex};
 
+use crate::scratch::{Scratch, clear_emits, new_scratch, put_values, resize};
 use crate::vertex::{LoopCode, OwnVertices, step_vertex};
 use arrayvec::ArrayVec;
 use instrument::SplitLoop;
 use machine_parts::RingHalf;
-use slot_merge::{Emits, Partial};
 use vert_base::Edge;
 use vert_eval::Env;
-use vert_tree::SlotDecl;
 
-/// What a scan has at hand at a vertex: its environment, what was emitted there, and what is sent
+/// What a scan has at hand at a vertex: its environment, what its code runs with, and what is sent
 /// of it, a value for each slot and a word for each reduced let.
 #[derive(Drop)]
 pub struct Visit {
     pub env: Env,
-    pub emits: Emits,
+    pub scratch: Scratch,
     pub values: ArrayVec<Option<i64>, 8>,
     pub operands: ArrayVec<Option<i64>, 8>,
 }
@@ -40,32 +38,9 @@ pub fn new_visit(env: Env) -> Visit
 {
     Visit {
         env,
-        emits: Emits {
-            slots: ArrayVec::new(),
-        },
+        scratch: new_scratch(),
         values: ArrayVec::new(),
         operands: ArrayVec::new(),
-    }
-}
-
-// Nothing was emitted to the slots.
-fn clear_emits(emits: &mut Emits, slots: &[SlotDecl])
-    requires { length slots.now ≤ 8 }
-    ensures { emits.new.slots.items ≡ map (λ s. empty_partial s.op) slots.now }
-{
-    emits.slots.clear();
-    for slot in slots {
-        emits.slots.push(Partial::new(slot.op));
-    }
-}
-
-// The values of the slots.
-fn write_values(emits: &Emits, values: &mut ArrayVec<Option<i64>, 8>)
-    ensures { values.new.items ≡ map (λ p. p.value) emits.now.slots.items }
-{
-    values.clear();
-    for partial in emits.slots.as_slice() {
-        values.push(partial.value);
     }
 }
 
@@ -104,9 +79,10 @@ fn operand_at(env: &Env, place: u8) -> Option<i64>
 fn write_operands(parts: &SplitLoop, env: &Env, words: &mut ArrayVec<Option<i64>, 8>)
     ensures { words.new.items ≡ operands parts.now.reduced.items env.now }
 {
-    words.clear();
-    for place in parts.reduced.as_slice() {
-        words.push(operand_at(env, *place));
+    let places = parts.reduced.as_slice();
+    resize(words, places.len());
+    for (i, place) in places.iter().enumerate() {
+        words[i] = operand_at(env, *place);
     }
 }
 
@@ -144,17 +120,18 @@ pub fn scan_vertex(
     ensures operands { length visit.new.operands.items
         ≡ length (reduced_in body.now.split.now.dense) }
 {
-    clear_emits(&mut visit.emits, &body.split.program.program.slots);
+    clear_emits(&mut visit.scratch.emits, &body.split.program.program.slots);
     let count = step_vertex(
         body,
         own,
         members,
         &mut visit.env,
-        &mut visit.emits,
+        &mut visit.scratch.emits,
+        &mut visit.scratch.stack,
         half,
         place,
     );
-    write_values(&visit.emits, &mut visit.values);
+    put_values(visit.scratch.emits.slots.as_slice(), &mut visit.values);
     write_operands(body.parts, &visit.env, &mut visit.operands);
     count
 }

@@ -1,6 +1,10 @@
-use Rattle.std.proofs.Common.{◌≡◌, take, map}
+-- The values so far.
+use Rattle.std.proofs.Common.{◌≡◌, length, take, map}
 use Rattle.vert_eval.specs.Rounds.{no_values}
 use Rattle.vertex_work.proofs.ending.clear_values.Given as goal
 
-abbrev pub invariant-loop-slot : goal.invariant-loop-slot
-invariant-loop-slot l = l.values.items ≡ no_values (map (λ s. s.op) (take l._slot-index l.slots))
+abbrev pub invariant-loop-i : goal.invariant-loop-i
+invariant-loop-i l = record {
+  first : take l.i l.values.items ≡ no_values (map (λ s. s.op) (take l.i l.slots));
+  count : length l.values.items ≡ length l.slots;
+}

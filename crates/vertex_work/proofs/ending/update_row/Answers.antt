@@ -14,8 +14,8 @@ use Rattle.vertex_work.specs.Closing.{own_view}
 use Rattle.vertex_work.proofs.EndingLaws.{row_written, seen_counts, seen_there, update_ran, view_width}
 use Rattle.vertex_work.proofs.ending.update_row.Goals as goal
 
-pub step_block-requires-clause-names : goal.step_block-requires-clause-names
-step_block-requires-clause-names c =
+pub step_block_over-requires-clause-names : goal.step_block_over-requires-clause-names
+step_block_over-requires-clause-names c =
     let split = c.args.ending.now.split.now in
     let rows = c.args.rows.now.rows in
     let degrees = c.args.ending.now.degrees.now in
@@ -51,5 +51,5 @@ returns-clause-rows c =
     let seen = seen_there rows degrees start place env c.read_row_of.new.env c.enter.new.env values 0 _ within read
     c.enter.ensures.entered in
     row_written c.args.rows.now c.write.new.self place _ _ c.write.ensures
-    (update_ran (program_of split) c.args.ending.now.code.now c.enter.new.env c.step_block.new.env _ c.requires.can.code
-    seen c.step_block.ensures.env)
+    (update_ran (program_of split) c.args.ending.now.code.now c.enter.new.env c.step_block_over.new.env _ c.requires.can.code
+    seen c.step_block_over.ensures.env)

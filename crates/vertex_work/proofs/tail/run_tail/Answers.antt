@@ -27,8 +27,8 @@ close_lets-requires-clause-names c =
     ap (λ k. lets_placed (bare k) d.lets.items) c.requires.counts
     ∙ lets_stand (round_counts p) d (dense_stands p c.args.split.now.program.typed d c.requires.block)
 
-pub step_block-requires-clause-names : goal.step_block-requires-clause-names
-step_block-requires-clause-names c =
+pub step_block_over-requires-clause-names : goal.step_block_over-requires-clause-names
+step_block_over-requires-clause-names c =
     tail_names c.args.split.now.program.program c.args.code.now c.args.dense.now c.requires.block c.requires.code
     c.args.env.now c.close_lets.new.env c.requires.counts c.close_lets.ensures.counts
 
@@ -38,4 +38,4 @@ returns-in-Some-clause-slots c =
     let test : is_set (value_of d.when_test c.args.env.now) ≡ true = search rules in
     tail_ran c.args.split.now.program.program c.args.code.now d c.requires.block c.requires.code c.args.carried.now
     c.args.lets.now c.args.env.now c.close_lets.new.env c.args.emits.now.slots.items _ c.close_lets.ensures.env test
-    c.step_block.ensures.emits
+    c.step_block_over.ensures.emits
