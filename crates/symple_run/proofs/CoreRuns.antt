@@ -47,11 +47,12 @@ use Rattle.machine_runs.specs.Tellings.{by_worlds, followed, lack_of, recorded, 
 use Rattle.symple_face.specs.Restarts.{IsRestartLawful, IsStart}
 use Rattle.symple_run.specs.SourceTexts as sources
 use Rattle.symple_run.specs.Played.{IsFirstWorld, IsPlainPlay, course_from, log_line}
-use Rattle.symple_run.specs.KeptImages.{IsImagedPlay, key_for}
+use Rattle.symple_run.specs.KeptImages.{IsImagedPlay, imaged_from, key_for}
 use Rattle.symple_run.specs.Resumes.{IsResumedPlay, begun_world, later_of}
-use Rattle.symple_run.specs.SourceImages.{begun_text}
+use Rattle.symple_run.specs.SourceImages.{begun_text, files_kept}
 use Rattle.symple_run.specs.SourceRuns.{IsBegunLog, IsLoggedFrom, IsPrinted, IsSourceImaged, IsSourcePlay, IsSourceResumed}
-use Rattle.symple_run.proofs.ImagedRuns.{imaged_source, later_logged, later_text, parts_start, printed_from, resumed_printed}
+use Rattle.symple_run.proofs.ImagedCourses.{course_told}
+use Rattle.symple_run.proofs.ImagedRuns.{imaged_text, later_logged, later_text, parts_start, printed_from, resumed_printed}
 use Rattle.symple_run.proofs.ImagesTold.{images_told}
 use Rattle.symple_words.specs.declared.line.Lines.{Lines}
 use Rattle.vert_base.specs.declared.graph.Edge.{Edge}
@@ -373,19 +374,26 @@ module _ (sound : State → Type 0) (complete : PlainRunsAreComplete core_work s
 
   pub imaged_told : IsSourceImaged play origin image course
   imaged_told =
-      imaged_source play origin image course is
-      (run_told sound play.lines play.program play.graph play.machines play.draws is.first is.is_first is.events
-      imaged_ended)
-      (record {
-        on = parts_on play is.first is.is_first;
+      let first = is.is_first in
+      record {
+        on = parts_on play is.first first;
+        fits = first.fits;
         events = is.events;
-        plain = plain_on sound play is.first is.is_first is.events imaged_ended is.plain;
-        is = log_told sound play.lines play.program play.graph play.machines play.draws is.first is.is_first is.events
+        plain = plain_on sound play is.first first is.events imaged_ended is.plain;
+        course_is = is.course_is
+            ∙ ap (λ (u : World). imaged_from core_work play.lines (key_for play origin) image u is.events) first.here
+            ∙ course_told first.split first.parts first.of_graph.one first.fits play.lines (key_for play origin) image
+            is.events (subst (λ (u : World). is_complete core_work u is.events ≡ true) first.here imaged_ended);
+        text = λ quiet. ap course_text is.course_is
+            ∙ imaged_text (key_for play origin) image core_work play.lines is.first is.events
+            ∙ run_told sound play.lines play.program play.graph play.machines play.draws is.first first is.events
+            imaged_ended quiet;
+        images = ap files_kept is.course_is
+            ∙ images_told play.lines (key_for play origin) image play.program play.graph play.machines play.draws
+            is.first first
+            (job_is sound play.lines play.program play.graph play.machines play.draws is.first first) is.events
             imaged_ended;
-      })
-      (images_told play.lines (key_for play origin) image play.program play.graph play.machines play.draws is.first
-      is.is_first (job_is sound play.lines play.program play.graph play.machines play.draws is.first is.is_first)
-      is.events imaged_ended)
+      }
 
 -- a run that goes on from the later of two images
 module _ (sound : State → Type 0) (complete : PlainRunsAreComplete core_work sound)

@@ -30,16 +30,19 @@ use Rattle.symple_face.specs.Restarts.{IsRestartLawful, IsStart}
 use Rattle.symple_face.specs.Source.{job_of}
 use Rattle.symple_face.specs.State.{State}
 use Rattle.symple_face.specs.Work.{PlainStart, Work}
-use Rattle.symple_run.specs.KeptImages.{IsImagedPlay, StoresImages, imaged_from, key_for, start_behind, with_image}
+use Rattle.symple_run.specs.KeptImages.{IsImagedPlay, StoresImages, imaged_as, imaged_from, key_for, start_behind, with_image}
 use Rattle.machine_runs.specs.PlainPlays.{course_from, log_line}
 use Rattle.symple_run.specs.Resumes.{IsResumedPlay, Tells, later_of}
 use Rattle.machine_runs.specs.RunParts.{IsRunOf}
-use Rattle.symple_run.specs.SourceImages.{begun_text, files_kept, images_of, standing_of}
-use Rattle.symple_run.specs.SourceRuns.{IsLogged, IsLoggedFrom, IsPrinted, IsSourceImaged}
+use Rattle.machine_runs.specs.SourceTellings.{by_source}
+use Rattle.machine_runs.specs.Tellings.{Telling, by_worlds}
+use Rattle.symple_run.specs.SourceImages.{begun_text, standing_of}
+use Rattle.symple_run.specs.SourceRuns.{IsLoggedFrom, IsPrinted, IsSourceImaged}
+use Rattle.symple_run.specs.SourceStores.{start_ended}
 use Rattle.symple_run.specs.SourceTexts as sources
 use Rattle.symple_words.specs.declared.line.Lines.{Lines}
 use Rattle.vert_base.specs.declared.message.Event.{Event}
-use Rattle.vert_eval.specs.SourceRun.{Job, resumed_run, source_run}
+use Rattle.vert_eval.specs.SourceRun.{Job, resumed_run}
 use Rattle.vert_tree.specs.declared.program.Program.{Program}
 use Rattle.word_kinds.specs.Fits.{IsFitting}
 
@@ -58,31 +61,33 @@ image_names image round = elim (remainder (round % 2) (omega arith)) [
 ]
 
 -- ---- the course of a run that leaves images
-module _ (work : Work) (lines : Lines) (key image : List ℕ) where
+module _ (key image : List ℕ) where
   with_stores : (told : Option PlainStart) (rest : Course) → StoresImages image rest →
       StoresImages image (with_image key image told rest)
   with_stores None rest is = is
   with_stores (Some start) rest is = (image_names image (start.round - 1), is)
-
-  stores_from : (w : World) (es : List Event) → StoresImages image (imaged_from work lines key image w es)
-  stores_from w [] = tt
-  stores_from w (e ∷ es) = with_stores (start_behind work w e) _ (stores_from (step work w e) es)
 
   with_text : (told : Option PlainStart) (rest : Course) →
       course_text (with_image key image told rest) ≡ course_text rest
   with_text None rest = refl
   with_text (Some start) rest = refl
 
+  -- whoever tells it
+  stores_as : {X : Type 0} (t : Telling X Event) (left : X → Event → Option PlainStart) (x : X) (es : List Event) →
+      StoresImages image (imaged_as t left key image x es)
+  stores_as t left x [] = tt
+  stores_as t left x (e ∷ es) = with_stores (left x e) _ (stores_as t left (t.behind x e) es)
+
   -- its texts are those of the events, and then the table
-  imaged_text : (w : World) (es : List Event) →
+  pub imaged_text : (work : Work) (lines : Lines) (w : World) (es : List Event) →
       course_text (imaged_from work lines key image w es) ≡ text_of work lines w es
-  imaged_text w [] = append-nil (table_of work w)
-  imaged_text w (e ∷ es) =
+  imaged_text work lines w [] = append-nil (table_of work w)
+  imaged_text work lines w (e ∷ es) =
       let next = step work w e in
       let rest = text_of work lines next es in
       let round = round_lines work lines w e in
       ap (λ (text : List ℕ). log_line lines w e ++ (round ++ text))
-      (with_text (start_behind work w e) (imaged_from work lines key image next es) ∙ imaged_text next es)
+      (with_text (start_behind work w e) (imaged_from work lines key image next es) ∙ imaged_text work lines next es)
       ∙ sym (append_assoc (log_line lines w e) round rest)
       ∙ sym (append_assoc (log_line lines w e ++ round) (lines_of work lines next es) (table_of work (after work next
       es)))
@@ -90,7 +95,16 @@ module _ (work : Work) (lines : Lines) (key image : List ℕ) where
 pub imaged_stores : (work : Work) (play : Play) (origin : Origin) (image : List ℕ) (course : Course) →
     IsImagedPlay work play origin image course → StoresImages image course
 imaged_stores work play origin image course is =
-    subst (StoresImages image) (sym is.course_is) (stores_from work play.lines (key_for play origin) image _ is.events)
+    subst (StoresImages image) (sym is.course_is)
+    (stores_as (key_for play origin) image (by_worlds work play.lines) (start_behind work) is.first is.events)
+
+pub source_stores : (play : Play) (origin : Origin) (image : List ℕ) (course : Course) →
+    IsSourceImaged play origin image course → StoresImages image course
+source_stores play origin image course is =
+    let src = sources.source_on play is.on in
+    subst (StoresImages image) (sym is.course_is)
+    (stores_as (key_for play origin) image (by_source play.lines src) (start_ended src)
+    (sources.first_order play is.on) is.events)
 
 -- ---- the course of a run that goes on
 pub printed_from : (work : Work) (lines : Lines) (w : World) (es : List Event) → IsPrinted (course_from work lines w es)
@@ -147,24 +161,6 @@ parts_start machines draws graph parts of_graph split key even odd first second 
     (ap vertices_of ends ∙ of_graph.sized) ready)
 
 -- ---- cores
-pub imaged_source : (play : Play) (origin : Origin) (image : List ℕ) (course : Course) →
-    (is : IsImagedPlay core_work play origin image course) →
-    (play.lines.log ≡ false → text_of core_work play.lines is.first is.events ≡ sources.play_text play) →
-    IsLogged play (text_of core_work play.lines is.first is.events) →
-    files_kept (imaged_from core_work play.lines (key_for play origin) image is.first is.events)
-    ≡ images_of (key_for play origin) image
-    (source_run (sources.job_of play.machines play.draws play.program play.graph)) →
-    IsSourceImaged play origin image course
-imaged_source play origin image course is told logged images =
-    let text = ap course_text is.course_is
-    ∙ imaged_text core_work play.lines (key_for play origin) image is.first is.events in
-    record {
-      stored = imaged_stores core_work play origin image course is;
-      text = λ quiet. text ∙ told quiet;
-      logged = subst (IsLogged play) (sym text) logged;
-      images = ap files_kept is.course_is ∙ images;
-    }
-
 module _ (sound : State → Type 0) (complete : PlainRunsAreComplete core_work sound)
     (restarts : IsRestartLawful core_work sound) (play : Play) (split : Split)
     (program_is : split.program.program ≡ play.program) (fits : IsFitting split.program.program)

@@ -22,10 +22,10 @@
 -- text settles its machines and events; over links, and of texts of any form, FormTasks and
 -- LinkedTasks. That for cores they are the source's: CoreRuns, and over links LinkedCores. ShowLaws:
 -- the rounds that the demonstration counts, and its lines. RowsTold: the rows of all vertices,
--- gathered. Images: what machines tell of such runs (ImagedRuns), that cores tell the source's
--- images (`images_told`, in ImagesTold), how far a run comes that was cut off (`came_to`, in
--- InterruptedLaws). HeadLaws takes the status, the note and the answer of `free` from what the order
--- leaves; ResultLaws hands facts of results on.
+-- gathered. Images: what machines tell of such runs (ImagedRuns), that cores take the source's course
+-- (`course_told`, in ImagedCourses) and tell its images (`images_told`, in ImagesTold), how far a run
+-- comes that was cut off (`came_to`, in InterruptedLaws). HeadLaws takes the status, the note and the
+-- answer of `free` from what the order leaves; ResultLaws hands facts of results on.
 pub mod ContinuedLaws
 pub mod CoreRuns
 pub mod CoreTasks
@@ -34,6 +34,7 @@ pub mod FollowLaws
 pub mod FormTasks
 pub mod HeadLaws
 pub mod ImageLaws
+pub mod ImagedCourses
 pub mod ImagedRuns
 pub mod ImagesTold
 pub mod InterruptedLaws

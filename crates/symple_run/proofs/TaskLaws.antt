@@ -21,7 +21,7 @@ use Rattle.symple_run.specs.SourceRuns.{IsPrinted, IsSourcePlay, IsSourceRun}
 use Rattle.symple_run.specs.KeptImages.{StoresImages}
 use Rattle.symple_run.proofs.CoreRuns.{plain_printed}
 use Rattle.symple_run.proofs.ShowLaws.{show_printed, source_show_printed}
-use Rattle.symple_run.proofs.ImagedRuns.{imaged_stores, resumed_printed}
+use Rattle.symple_run.proofs.ImagedRuns.{imaged_stores, resumed_printed, source_stores}
 
 module _ (courses : Task → Course → Type 0) where
   printed_quiet : (course : Course) → IsPrinted course → IsQuiet courses (follows course)
@@ -193,7 +193,8 @@ told_must (Plain play) files input outcome (course, is, comes) = λ other same.
     printed_alike IsSourceRun course other (source_printed play course is) (source_printed play other same) files
     input outcome comes
 told_must (Imaged play origin image) files input outcome (course, is, comes) = λ other same.
-    stores_alike image IsSourceRun course other is.stored same.stored files input outcome comes
+    stores_alike image IsSourceRun course other (source_stores play origin image course is)
+    (source_stores play origin image other same) files input outcome comes
 told_must (Resumed play origin even odd) files input outcome (course, is, comes) = λ other same.
     printed_alike IsSourceRun course other is.printed same.printed files input outcome comes
 told_must (Drawn play seed schedule) files input outcome (course, is, comes) = λ other same.
@@ -222,8 +223,8 @@ told_must (Served part rows) files input outcome each = λ course is.
 told_spares : (task : Task) (course : Course) → IsSourceRun task course → (name : List ℕ) →
     IsNoneOf name (names_of task) → Spares IsSourceRun name (follows course)
 told_spares (Plain play) course is = λ name none. printed_spares IsSourceRun name course (source_printed play course is)
-told_spares (Imaged play origin image) course is = λ name none. stores_spares image IsSourceRun name course is.stored
-    none
+told_spares (Imaged play origin image) course is = λ name none.
+    stores_spares image IsSourceRun name course (source_stores play origin image course is) none
 told_spares (Resumed play origin even odd) course is = λ name none. printed_spares IsSourceRun name course is.printed
 told_spares (Drawn play seed schedule) course is = λ name none.
     record_spares play seed schedule IsSourceRun name none.0 course is

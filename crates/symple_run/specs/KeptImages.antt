@@ -9,11 +9,11 @@ use Rattle.command_steps.specs.Leaves.{Leaves}
 use Rattle.command_steps.specs.Notes.{Fault}
 use Rattle.command_steps.specs.Orders.{Course, Fails, IsOver, Keeps, NoTask, Origin, Play, Prints, Takes, follows}
 use Rattle.command_steps.specs.States.{Held, Kept, Left, outside}
-use Rattle.schedule_laws.specs.Layout.{round_lines, table_of}
 use Rattle.schedule_laws.specs.Starts.{start_told}
 use Rattle.symple_face.specs.Cluster.{IsPlainRun, World, step}
 use Rattle.symple_face.specs.Work.{PlainStart, Work}
-use Rattle.machine_runs.specs.PlainPlays.{IsFirstWorld, ends_round, log_line}
+use Rattle.machine_runs.specs.PlainPlays.{IsFirstWorld, ends_round}
+use Rattle.machine_runs.specs.Tellings.{Telling, by_worlds, told_end, told_event}
 use Rattle.symple_words.specs.declared.line.GraphForm.{GraphForm}
 use Rattle.symple_words.specs.declared.line.Lines.{Lines}
 use Rattle.vert_base.specs.declared.message.Event.{Event}
@@ -40,12 +40,17 @@ with_image key image None rest = rest
 with_image key image (Some start) rest =
     Keeps (image_name image (start.round - 1)) (image_bytes key start) rest
 
--- the lines of the events from a world on, each image behind those of its round, and then the table
+-- As a telling has it, the lines of the events, an image behind those of each event that leaves a start, and then the
+-- table.
+abbrev pub imaged_as : {X : Type 0} → Telling X Event → (X → Event → Option PlainStart) → List ℕ → List ℕ → X →
+    List Event → Course
+imaged_as t left key image x [] = told_end t x
+imaged_as t left key image x (e ∷ es) =
+    told_event t x e (with_image key image (left x e) (imaged_as t left key image (t.behind x e) es))
+
+-- as machines tell it by their states, from a world on
 abbrev pub imaged_from : Work → Lines → List ℕ → List ℕ → World → List Event → Course
-imaged_from work lines key image w [] = Prints (table_of work w) IsOver
-imaged_from work lines key image w (e ∷ es) =
-    Prints (log_line lines w e) (Prints (round_lines work lines w e)
-    (with_image key image (start_behind work w e) (imaged_from work lines key image (step work w e) es)))
+imaged_from work lines key image w es = imaged_as (by_worlds work lines) (start_behind work) key image w es
 
 -- The run is the plain one of machines of a kind, and its images are made of what their states tell.
 pub record IsImagedPlay (work : Work) (play : Play) (origin : Origin) (image : List ℕ) (course : Course) : Type 0 where

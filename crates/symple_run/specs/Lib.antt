@@ -16,4 +16,5 @@ pub mod Shows
 pub mod SourceImages
 pub mod SourceRuns
 pub mod SourceSchedules
+pub mod SourceStores
 pub mod SourceTexts

@@ -12,12 +12,14 @@ use Rattle.symple_run.specs.Followed.{IsRenewed}
 use Rattle.symple_run.specs.SourceSchedules.{IsSourceLossy, IsSourceRecord, IsSourceReplay}
 use Rattle.symple_run.specs.Shows.{IsSourceShow}
 use Rattle.symple_run.specs.SourceTexts.{HasParts, first_order, job_of, later_order, play_text, source_from, source_on}
-use Rattle.symple_run.specs.KeptImages.{StoresImages, key_for}
+use Rattle.symple_run.specs.KeptImages.{key_for}
 use Rattle.symple_run.specs.Resumes.{Tells, later_of}
 use Rattle.symple_run.specs.SourceImages.{begun_text, files_kept, images_of}
+use Rattle.symple_run.specs.SourceStores.{imaged_by_source}
 use Rattle.machine_runs.specs.SourceTellings.{IsPlainOrder}
 use Rattle.vert_base.specs.declared.message.Event.{Event}
 use Rattle.vert_eval.specs.SourceRun.{source_run}
+use Rattle.word_kinds.specs.Fits.{IsFitting}
 
 -- the run puts texts, and then it is over
 abbrev pub IsPrinted : Course → Type 0
@@ -40,11 +42,15 @@ pub record IsSourcePlay (play : Play) (course : Course) : Type 0 where
   pub text : play.lines.log ≡ false → course_text course ≡ play_text play
   pub logged : IsLogged play (course_text course)
 
--- The run puts the same text, and stores the images of the source's run.
+-- The run puts the same text, and stores the images of the source's run, each in its turn.
 pub record IsSourceImaged (play : Play) (origin : Origin) (image : List ℕ) (course : Course) : Type 0 where
-  pub stored : StoresImages image course
+  pub on : HasParts play
+  pub fits : IsFitting on.split.program.program
+  pub events : List Event
+  pub plain : IsPlainOrder (source_on play on) (first_order play on) events
+  pub course_is : course ≡ imaged_by_source play.lines (source_on play on) (key_for play origin) image
+      (first_order play on) events
   pub text : play.lines.log ≡ false → course_text course ≡ play_text play
-  pub logged : IsLogged play (course_text course)
   pub images : files_kept course ≡ images_of (key_for play origin) image
       (source_run (job_of play.machines play.draws play.program play.graph))
 

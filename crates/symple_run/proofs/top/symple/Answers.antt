@@ -1,7 +1,7 @@
 use Rattle.std.proofs.Common.{None, Some, refl}
 use Rattle.command_steps.specs.Faults.{fault_of}
 use Rattle.command_steps.specs.Notes.{note_text}
-use Rattle.symple_run.proofs.ImagedRuns.{imaged_stores}
+use Rattle.symple_run.proofs.ImagedRuns.{imaged_stores, source_stores}
 use Rattle.symple_run.proofs.LeftImages.{tells_images}
 use Rattle.command_steps.proofs.LeavesLaws.{weaker}
 use Rattle.command_steps.proofs.OrderLaws.{nothing_stored, others_stay}
@@ -176,7 +176,7 @@ returns-in-Err-clause-images g c =
 
 pub returns-in-Ok-clause-kept : goal.returns-in-Ok-clause-kept
 returns-in-Ok-clause-kept g c = λ core.
-    tells_images IsSourceRun (λ play origin image course is. is.stored) (words_of c.args.words.now) _ _ None _
+    tells_images IsSourceRun source_stores (words_of c.args.words.now) _ _ None _
     (weaker (IsPlayed g.S.Site.work) IsSourceRun
     (core_runs g.S.Site.work g.S.Site.sound (g.met.S.Site.core core) (record {
       plain = c.chosen_runs_are_complete.ensures.plain;
@@ -190,7 +190,7 @@ returns-in-Ok-clause-kept g c = λ core.
 
 pub returns-in-Err-clause-kept : goal.returns-in-Err-clause-kept
 returns-in-Err-clause-kept g c = λ core.
-    tells_images IsSourceRun (λ play origin image course is. is.stored) (words_of c.args.words.now) _ _
+    tells_images IsSourceRun source_stores (words_of c.args.words.now) _ _
     (Some (fault_of c.in-Err.failure)) _
     (weaker (IsPlayed g.S.Site.work) IsSourceRun
     (core_runs g.S.Site.work g.S.Site.sound (g.met.S.Site.core core) (record {
