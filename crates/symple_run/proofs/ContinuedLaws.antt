@@ -8,13 +8,17 @@ use Rattle.command_steps.specs.Courses.{course_text}
 use Rattle.command_steps.specs.Orders.{Play}
 use Rattle.instrument.specs.declared.split.Split.{Split}
 use Rattle.plain_run.specs.Told.{told_played}
+use Rattle.schedule_laws.specs.OutputText.{schedule_lines}
 use Rattle.schedule_laws.specs.Texts.{text_of_run, told_lines}
+use Rattle.symple_face.specs.Source as face
 use Rattle.symple_face.specs.Work.{PlainStart}
-use Rattle.symple_run.specs.Continued.{EveryStopGoesOn, IsOfRun, IsTheRest, LeavesStart, rounds_text, run_played}
+use Rattle.symple_run.specs.Continued.{EveryStopGoesOn, HasItsTable, IsOfRun, IsTheRest, LeavesStart, rounds_text, run_played}
 use Rattle.symple_run.specs.KeptImages.{key_for}
 use Rattle.symple_run.specs.Resumes.{Tells, later_of}
 use Rattle.symple_run.specs.SourceImages.{begun_text, standing_of}
-use Rattle.symple_run.specs.SourceTexts.{job_of, play_text}
+use Rattle.symple_run.specs.SourceRuns.{IsBegunLog, IsLogged, IsLoggedFrom}
+use Rattle.symple_run.specs.SourceTexts.{HasParts, first_order, job_of, later_order, play_text, source_from, source_on}
+use Rattle.symple_run.proofs.CoreRuns.{same_job}
 use Rattle.symple_words.specs.declared.line.Lines.{Lines}
 use Rattle.vert_base.specs.declared.value.Ruling.{Ruling}
 use Rattle.vert_base.specs.declared.value.Ruling.TheVariants.{Stop, Dense, Sparse}
@@ -187,9 +191,47 @@ module _ (play : Play) where
   rest_by None leaves text is = whole_rest text is
   rest_by (Some start) leaves text is = later_rest start (leaves start refl) text is
 
+  -- ---- under `--log`
+  pub job_on : (on : HasParts play) →
+      face.job_of on.split on.of_graph.one.ends on.of_graph.one.draws on.of_graph.one.edges ≡ job
+  job_on on = same_job on.split.program.program play.program _ play.graph.vertices on.of_graph.one.ends _
+      on.of_graph.one.edges play.graph.list on.of_graph.one.draws play.draws on.program_is on.of_graph.sized
+      on.of_graph.ends_are on.of_graph.edges_are on.of_graph.draws_are
+
+  whole_table : (text : List ℕ) → IsLogged play text → HasItsTable play text
+  whole_table text is =
+      let front = schedule_lines play.lines (source_on play is.on) (first_order play is.on) is.events in
+      record {
+        front = front;
+        text_is = is.is ∙ ap (λ (j : Job). front ++ table_text j.program (source_run j).last.rows) (job_on is.on);
+      }
+
+  later_table : (start : PlainStart) → LeavesStart (run_played play) start → (text : List ℕ) →
+      IsLoggedFrom play start text → HasItsTable play text
+  later_table start leaves text is =
+      let front = schedule_lines play.lines (source_from play is.on start) (later_order play is.on start) is.events in
+      let from = begins_at job (leaves.first ∷ leaves.others) leaves.at leaves.behind leaves.rounds_are in
+      record {
+        front = front;
+        text_is = is.is
+            ∙ ap (λ (j : Job). front
+            ++ table_text j.program (resumed_run j start.round (standing_of start)).last.rows) (job_on is.on)
+            ∙ ap (λ (s : PlainStart). front
+            ++ table_text play.program (resumed_run job s.round (standing_of s)).last.rows) leaves.start_is
+            ∙ ap (λ (s : Standing). front ++ table_text play.program s.rows) from.1;
+      }
+
+  table_by : (found : Option PlainStart) →
+      ((start : PlainStart) → found ≡ Some start → LeavesStart (run_played play) start) → (text : List ℕ) →
+      IsBegunLog play found text → HasItsTable play text
+  table_by None leaves text is = whole_table text is
+  table_by (Some start) leaves text is = later_table start (leaves start refl) text is
+
 pub every_stop_goes_on : EveryStopGoesOn
-every_stop_goes_on play origin even odd course is quiet of_even of_odd =
-    rest_by play (later_of is.first is.second)
-    (found_left play is.split (key_for play origin) even odd is.first is.second is.first_told is.second_told of_even
-    of_odd)
-    (course_text course) (is.text quiet)
+every_stop_goes_on play origin even odd course is of_even of_odd =
+    let found = later_of is.first is.second in
+    let left = found_left play is.split (key_for play origin) even odd is.first is.second is.first_told is.second_told
+    of_even of_odd in (
+      λ quiet. rest_by play found left (course_text course) (is.text quiet),
+      table_by play found left (course_text course) is.logged,
+    )

@@ -87,15 +87,15 @@ none_lacks (Some e) none = cc
 
 -- ---- cores
 -- the job on these parts is the one on the graph
-abbrev job_with : Program → ℕ → List ℕ → List Edge → ℕ → Job
+abbrev pub job_with : Program → ℕ → List ℕ → List Edge → ℕ → Job
 job_with program n ends edges draws = record {
   program = program;
   graph = record { vertices = n; ends = ends; edges = edges };
   draws = draws;
 }
 
-same_job : (p q : Program) (n k : ℕ) (ends others : List ℕ) (edges list : List Edge) (draws told : ℕ) → p ≡ q → n ≡ k →
-    ends ≡ others → edges ≡ list → draws ≡ told → job_with p n ends edges draws ≡ job_with q k others list told
+pub same_job : (p q : Program) (n k : ℕ) (ends others : List ℕ) (edges list : List Edge) (draws told : ℕ) → p ≡ q →
+    n ≡ k → ends ≡ others → edges ≡ list → draws ≡ told → job_with p n ends edges draws ≡ job_with q k others list told
 same_job p q n k ends others edges list draws told a b c d e =
     ap (λ (x : Program). job_with x n ends edges draws) a
     ∙ ap (λ (x : ℕ). job_with q x ends edges draws) b

@@ -1,5 +1,6 @@
 -- A run that was stopped and is gone on with puts the rest of what the whole run puts.
 use Rattle.std.specs.Prelude.{◌≡◌, false, ℕ, List, [], ◌∷◌, ◌++◌, Option, None, Some, flat_map, map}
+use Rattle.array_text.specs.Tables.{table_text}
 use Rattle.check_point.specs.Laws.{told_start}
 use Rattle.command_steps.specs.Courses.{course_text}
 use Rattle.command_steps.specs.Orders.{Course, Origin, Play}
@@ -51,11 +52,18 @@ pub record IsTheRest (play : Play) (found : Option PlainStart) (text : List ℕ)
   pub begin : BeginWith found before behind
   pub text_is : rounds_text play.lines before ++ text ≡ play_text play
 
+-- the text ends with the table of the whole run
+pub record HasItsTable (play : Play) (text : List ℕ) : Type 0 where
+  pub front : List ℕ
+  pub text_is : text ≡ front ++ table_text play.program (run_played play).last.rows
+
 -- What `resume` puts where each of its two files that is an image at all is one of this run: exactly the lines of the
--- rounds from the found start on and the table, so that with the lines before it is the text of the whole run.
+-- rounds from the found start on and the table, so that with the lines before it is the text of the whole run. Under
+-- `--log`, where the lines of events stand between these, the table is that of the whole run too.
 abbrev pub EveryStopGoesOn : Type 0
 EveryStopGoesOn =
     (play : Play) (origin : Origin) (even odd : Option (List ℕ)) (course : Course)
-    (is : IsSourceResumed play origin even odd course) → play.lines.log ≡ false →
+    (is : IsSourceResumed play origin even odd course) →
     IsOfRun play is.split (key_for play origin) even → IsOfRun play is.split (key_for play origin) odd →
-    IsTheRest play (later_of is.first is.second) (course_text course)
+    (play.lines.log ≡ false → IsTheRest play (later_of is.first is.second) (course_text course))
+    × HasItsTable play (course_text course)
