@@ -76,7 +76,7 @@ first_passes p [] x all at = cc
 first_passes p (y ∷ ys) x all at =
     ap p (sym (same_Some y x at)) ∙ (and_parts (p y) (list_all p ys) all).0
 
-not_below : (a b : ℕ) → b < a → nat_le a b ≡ false
+pub not_below : (a b : ℕ) → b < a → nat_le a b ≡ false
 not_below a b lt = grind (arith, nat_tests)
 
 is_within : (a b : ℕ) → nat_le a b ≡ true → a ≤ b

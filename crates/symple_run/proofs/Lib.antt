@@ -23,9 +23,10 @@
 -- LinkedTasks. That for cores they are the source's: CoreRuns, and over links LinkedCores. ShowLaws:
 -- the rounds that the demonstration counts, and its lines. RowsTold: the rows of all vertices,
 -- gathered. Images: what machines tell of such runs (ImagedRuns), that cores take the source's course
--- (`course_told`, in ImagedCourses) and tell its images (`images_told`, in ImagesTold), how far a run
--- comes that was cut off (`came_to`, in InterruptedLaws). HeadLaws takes the status, the note and the
--- answer of `free` from what the order leaves; ResultLaws hands facts of results on.
+-- (`course_told`, in ImagedCourses) and tell its images (`images_told`, in ImagesTold), that each is
+-- read as a start of the run (`every_stored_image_is_read`, in StoredLaws, over StartLaws), how far a
+-- run comes that was cut off (`came_to`, in InterruptedLaws). HeadLaws takes the status, the note and
+-- the answer of `free` from what the order leaves; ResultLaws hands facts of results on.
 pub mod ContinuedLaws
 pub mod CoreRuns
 pub mod CoreTasks
@@ -51,5 +52,7 @@ pub mod ResumeLaws
 pub mod ShowLaws
 pub mod RowsTold
 pub mod SourceTasks
+pub mod StartLaws
+pub mod StoredLaws
 pub mod TaskLaws
 pub mod TextTasks

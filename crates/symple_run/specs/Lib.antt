@@ -18,3 +18,4 @@ pub mod SourceRuns
 pub mod SourceSchedules
 pub mod SourceStores
 pub mod SourceTexts
+pub mod StoredImages

@@ -11,6 +11,7 @@ ghost use Rattle.symple_run.specs.KeptImages.{key_for};
 ghost use Rattle.symple_run.specs.Resumes.{FindsStart, IsReady, Tells, begun_world, later_of};
 ghost use Rattle.machine_runs.specs.RunParts.{IsRunOf};
 ghost use Rattle.symple_run.specs.RunWalks.{DoesTask};
+ghost use Rattle.symple_run.specs.StoredImages.{EveryStoredImageIsRead};
 ghost use Rattle.symple_words.specs.Ranges.{AreMachines};
 ghost use Rattle.symple_words.specs.Views.{job_view};
 ghost use Rattle.word_kinds.specs.Fits.{IsFitting};
@@ -133,3 +134,10 @@ pub(crate) fn play_resumed<S: Restart, O: Sink>(
 pub(crate) fn stopped_runs_go_on()
     ensures { EveryStopGoesOn }
 {}
+
+/// The law that each image which a run stores is read as what stands before one of its rounds. It does nothing.
+pub(crate) fn stored_images_are_read()
+    ensures { EveryStoredImageIsRead }
+{
+    images_read_back();
+}

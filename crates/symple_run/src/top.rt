@@ -16,6 +16,7 @@ ghost use Rattle.symple_run.specs.Played.{IsPlayed};
 ghost use Rattle.symple_run.specs.Replays.{LinkReplaysGainTheSame, ReplaysGainTheSame};
 ghost use Rattle.symple_run.specs.RunWalks.{DoesTask};
 ghost use Rattle.symple_run.specs.SourceRuns.{IsSourceRun};
+ghost use Rattle.symple_run.specs.StoredImages.{EveryStoredImageIsRead};
 ghost use Rattle.symple_words.specs.Lines.{RecordOf, RunOf};
 ghost use Rattle.symple_words.specs.Ranges.{AreMachines, IsGraphForm, IsWithin};
 ghost use Rattle.symple_words.specs.Views.{job_view, line_view, words_of};
@@ -25,7 +26,9 @@ ghost use Rattle.worker_stream.specs.Prompt.{PlainRunsArePrompt, PromptRunsAreSe
 use crate::following::replay;
 use crate::images::{load_keyed, play_imaged};
 use crate::recording::{record, record_over_links, renew};
-use crate::resumes::{find_start, later_of, play_resumed, stopped_runs_go_on};
+use crate::resumes::{
+    find_start, later_of, play_resumed, stopped_runs_go_on, stored_images_are_read,
+};
 use crate::shown::show;
 use check_point::images_read_back;
 use cluster_run::{choices_are_in_order, worlds_are_in_order};
@@ -339,7 +342,9 @@ pub fn symple<S: Restart, H: Shelf, I: Source, O: Sink, N: Sink>(
         (sink_state O.held O.faults O.spare out.new) (input_state I.left I.faults input.new))
         result }
 
-    // And what goes on from them puts the rest of what the whole run puts.
+    // Each is read by the same words as what stands before a round of that run, and what goes on from there puts the
+    // rest of what the whole run puts.
+    ensures read { EveryStoredImageIsRead }
     ensures stopped { EveryStopGoesOn }
 
     // A machine that is served what it took in a complete run does what it did there, where it acted before it took; as
@@ -362,6 +367,7 @@ pub fn symple<S: Restart, H: Shelf, I: Source, O: Sink, N: Sink>(
 {
     order_free_programs();
     images_read_back();
+    stored_images_are_read();
     stopped_runs_go_on();
     chosen_runs_are_complete::<S>();
     drawn_links_are_possible::<S>();
