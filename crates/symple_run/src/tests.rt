@@ -380,10 +380,13 @@ fn check_notes(
 #[test]
 fn puts_that_fail(rt: HostRuntime) -> Result<(), Fail> {
     let alloc = rt.alloc();
-    let mut shelf = calls::stored(&rt, alloc, "bfs", Vec::new(alloc))?;
-    for line in rows::FAILING.lines() {
-        check_puts(&rt, alloc, line, &mut shelf)?;
+    for (name, lines) in [("first0", rows::FAILING_LOGS), ("bfs", rows::FAILING)] {
+        let mut shelf = calls::stored(&rt, alloc, name, Vec::new(alloc))?;
+        for line in lines.lines() {
+            check_puts(&rt, alloc, line, &mut shelf)?;
+        }
     }
+    let mut shelf = calls::stored(&rt, alloc, "bfs", Vec::new(alloc))?;
     assert_eq!(&rt; shelf.store("s", schedules::STOPPED.as_bytes()), Ok(()));
     for line in rows::NOTED.lines() {
         check_notes(&rt, alloc, line, &mut shelf)?;

@@ -425,16 +425,20 @@ symple: program: Y1 at 8:12
 /// Lines whose puts fail in turn. What one stores is there for those behind it.
 pub(super) static FAILING: &str = "run p g --machines 1 --rounds
 run p g --machines 1 --reads
-run p g --machines 2 --rounds --reads --log
 run p g --machines 2 --rounds --image i
 resume p g i --machines 2 --rounds
-record p g s --machines 2 --seed 7 --log
-replay p g s --log --reads
-record p g s --machines 2 --seed 7 --lossy --log
-replay p g s --log
+record p g s --machines 2 --seed 7 --rounds
+replay p g s --reads
 plan g --machines 2
 show p
 free p";
+
+/// The same of a program without a round, whose runs have few events.
+pub(super) static FAILING_LOGS: &str = "run p g --machines 2 --log
+record p g s --machines 2 --seed 7 --log
+replay p g s --log
+record p g s --machines 2 --seed 7 --lossy --log
+replay p g s --log";
 
 /// Lines that are refused, each with a note of another form, whose puts fail in turn.
 pub(super) static NOTED: &str = "fly
