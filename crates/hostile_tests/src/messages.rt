@@ -1,5 +1,4 @@
 //! Changed messages: the machine that reads them is over, or ends with a refusal at one of them.
-ghost use Rattle.std.specs.Prelude.{◌<◌, IfSome};
 
 use crate::counts::Counts;
 use crate::mutator::{CASES, Mutator};
@@ -31,9 +30,7 @@ static TAKEN: &str = "\
 06040000000000000101000000 00";
 
 /// What a digit of base 16 stands for.
-fn sixteenth(digit: u8) -> Option<u8>
-    ensures { IfSome result (λ value. value < 16) }
-{
+fn sixteenth(digit: u8) -> Option<u8> {
     match digit {
         b'0'..=b'9' => Some(digit - b'0'),
         b'a'..=b'f' => Some(digit - b'a' + 10),

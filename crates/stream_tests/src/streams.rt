@@ -182,6 +182,10 @@ fn streams_whole_and_in_pieces(rt: HostRuntime) -> Result<(), Fail> {
     Ok(())
 }
 
+/// How many takes a whole run has whose input comes in pieces of five bytes: each one ends where a piece, a header or a
+/// body does.
+const TAKES: u64 = 14;
+
 /// Serves a whole run where a take and a put fail, 0 for none, and tells the end.
 fn serve_failing(alloc: Global, take: u64, put: u64) -> Result<(String, usize), Fail> {
     let mut bytes = Vec::new(alloc);
@@ -203,10 +207,12 @@ fn serve_failing(alloc: Global, take: u64, put: u64) -> Result<(String, usize), 
 #[test]
 fn streams_that_fail(rt: HostRuntime) -> Result<(), Fail> {
     let alloc = rt.alloc();
-    for call in 1..10u64 {
+    for call in 1..=TAKES {
         let (end, _) = serve_failing(alloc, call, 0)?;
         assert_eq!(rt; end.as_str(), "source", "{call}");
     }
+    let (end, _) = serve_failing(alloc, TAKES + 1, 0)?;
+    assert_eq!(rt; end.as_str(), "over 0");
     for (put, written) in [(1u64, 0usize), (2, 37), (3, 50)] {
         let (end, len) = serve_failing(alloc, 0, put)?;
         assert_eq!(rt; end.as_str(), "sink", "{put}");
