@@ -30,7 +30,7 @@ use Rattle.symple_face.specs.State.{State}
 use Rattle.symple_face.specs.Work.{Work}
 use Rattle.cluster_run.specs.Choices.{AreChoices, IsLeast}
 use Rattle.cluster_run.proofs.ChoiceLists.{ready_by}
-use Rattle.cluster_run.proofs.Letters.{names_of, ordered_names}
+use Rattle.cluster_run.proofs.LetterLists.{names_of, ordered_names}
 use Rattle.cluster_run.proofs.PartsAt.{parts_few}
 use Rattle.cluster_run.proofs.ReachedWorlds.{IsTied}
 use Rattle.cluster_run.proofs.Worlds.{goes_ready, ready_goes}

@@ -28,10 +28,10 @@ use Rattle.symple_face.specs.State.{State}
 use Rattle.symple_face.specs.Work.{Work}
 use Rattle.cluster_run.specs.Driven.{IsRestarted}
 use Rattle.cluster_run.proofs.GoWorlds.{same_from}
-use Rattle.cluster_run.proofs.Letters.{has_letter}
+use Rattle.cluster_run.proofs.LetterLists.{has_letter}
 use Rattle.skeleton_laws.proofs.LeastLaws.{same_bool}
 use Rattle.cluster_run.proofs.PartsAt.{part_at, parts_count, parts_some}
-use Rattle.cluster_run.proofs.Sites.{map_get_back}
+use Rattle.cluster_run.proofs.SiteLists.{map_get_back}
 use Rattle.cluster_run.proofs.Worlds.{IsMachine, IsSkeletonOf, Knows, is_for, is_for_it}
 
 pub all_at : {X : Type 0} → (P : X → Type 0) (xs : List X) (m : ℕ) (x : X) → All P xs → slice_get xs m ≡ Some x → P x

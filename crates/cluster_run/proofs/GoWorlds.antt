@@ -40,11 +40,11 @@ use Rattle.symple_face.specs.Shapes.{shape_of}
 use Rattle.symple_face.specs.State.{State, action_of, p_of, ruling_read}
 use Rattle.symple_face.specs.Work.{Work}
 use Rattle.cluster_run.specs.Sends.{AreNew}
-use Rattle.cluster_run.proofs.Letters.{all_placed_ascends, all_placed_is, all_placed_length, are_new, has_all_placed, has_letter, names_of, once_from_each}
-use Rattle.cluster_run.proofs.Onward.{begins, ends, onward, stays}
+use Rattle.cluster_run.proofs.LetterLists.{all_placed_ascends, all_placed_is, all_placed_length, are_new, has_all_placed, has_letter, names_of, once_from_each}
+use Rattle.cluster_run.proofs.NextStandings.{begins, ends, onward, stays}
 use Rattle.cluster_run.proofs.PartsAt.{fits_along}
-use Rattle.cluster_run.proofs.Sites.{same, other, map_set, set_cases, set_length}
-use Rattle.cluster_run.proofs.Tables.{ActsAlike, acts_alike, gift_from, rules_by, stays_by, zero_begins}
+use Rattle.cluster_run.proofs.SiteLists.{same, other, map_set, set_cases, set_length}
+use Rattle.cluster_run.proofs.ActionTables.{ActsAlike, acts_alike, gift_from, rules_by, stays_by, zero_begins}
 use Rattle.cluster_run.proofs.Worlds.{IsMachine, IsSkeletonOf, Knows, is_for, it_is, it_keeps, it_stands, knows_judged, ready_goes, ready_going, ready_holds}
 use Rattle.state_laws.proofs.Letters.{name_append}
 use Rattle.state_laws.proofs.Rulings.{judged_on}

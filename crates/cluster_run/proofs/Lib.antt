@@ -19,33 +19,34 @@
 -- proves of such skeletons holds so of the world. Of a kind of machine nothing is used but
 -- `IsLawful` of symple_face, and `IsRestartLawful` where a run goes on from a start.
 --
--- The chain. Letters, Sites, Tables, Onward, PartsAt: messages among others, a machine put in a
--- list, what the table of actions says of the names at a spot, which standing comes behind an
--- action, the part of each place. Both first worlds stand as their skeletons do (`first_tied`,
--- `restarted_tied`, in FirstWorlds; `is_restarted`, in Restarted, by parts as PartLists has them).
--- An action keeps it (`gone_tied`, in GoWorlds), and so does a take (`gone_tied`, in TakeWorlds).
--- So each reached world is tied (`reached_ties`, in ReachedWorlds). Results draws the laws of
--- worlds from it; ChoicesAlike and Chosen those of choices (`are_choices`, `goes_on`,
--- `plain_ends`).
+-- The chain. LetterLists, SiteLists, ActionTables, NextStandings, PartsAt: messages among others, a
+-- machine put in a list, what the table of actions says of the names at a spot, which standing
+-- comes behind an action, the part of each place. Both first worlds stand as their skeletons do
+-- (`first_tied`, `restarted_tied`, in FirstWorlds; `is_restarted`, in Restarted, by parts as
+-- PartLists has them). An action keeps it (`gone_tied`, in GoWorlds), and so does a take
+-- (`gone_tied`, in TakeWorlds). So each reached world is tied (`reached_ties`, in ReachedWorlds).
+-- ReachedWorldLaws draws the laws of worlds from it; ChoicesAlike and WorldChoices those of choices
+-- (`are_choices`, `goes_on`, `plain_ends`).
 --
--- The code. Moves: what one event does to a list of machines. Done: what it leaves is the step,
--- reached, and nearer to the end (`go_done`, `take_done`). ChoiceLists: the goes and behind them
--- the takes, by their places; the flags kept beside the machines are those of the ready ones.
-pub mod Letters
-pub mod Tables
-pub mod Sites
-pub mod Onward
+-- The code. MachineMoves: what one event does to a list of machines. PlayedEvents: what it leaves
+-- is the step, reached, and nearer to the end (`go_done`, `take_done`). ChoiceLists: the goes and
+-- behind them the takes, by their places; the flags kept beside the machines are those of the ready
+-- ones.
+pub mod LetterLists
+pub mod ActionTables
+pub mod SiteLists
+pub mod NextStandings
 pub mod Worlds
 pub mod PartsAt
 pub mod GoWorlds
 pub mod TakeWorlds
 pub mod FirstWorlds
 pub mod ReachedWorlds
-pub mod Results
-pub mod Moves
-pub mod Done
+pub mod ReachedWorldLaws
+pub mod MachineMoves
+pub mod PlayedEvents
 pub mod Restarted
 pub mod PartLists
 pub mod ChoiceLists
 pub mod ChoicesAlike
-pub mod Chosen
+pub mod WorldChoices

@@ -12,7 +12,7 @@ use Rattle.symple_face.specs.Parts.{PlainPart}
 use Rattle.symple_face.specs.PartsOf.{part_of}
 use Rattle.symple_face.specs.Shapes.{shape_of}
 use Rattle.symple_face.proofs.ShapeLaws.{shapes_agree}
-use Rattle.cluster_run.proofs.Sites.{map_get_back}
+use Rattle.cluster_run.proofs.SiteLists.{map_get_back}
 
 range_at : (a n m x : ℕ) → slice_get (range_with_len a n) m ≡ Some x → (x ≡ a + m) × (m < n)
 range_at a zero m x e = cc

@@ -22,7 +22,7 @@ use Rattle.symple_face.specs.Work.{PlainStart, Work}
 use Rattle.cluster_run.specs.Driven.{BeginsRound, IsRestarted}
 use Rattle.cluster_run.proofs.FirstWorlds.{all_at}
 use Rattle.cluster_run.proofs.PartsAt.{part_at, parts_some}
-use Rattle.cluster_run.proofs.Sites.{map_get_back}
+use Rattle.cluster_run.proofs.SiteLists.{map_get_back}
 
 within : (a b : ℕ) → a ≤ b → nat_le a b ≡ true
 within a b le = grind (arith, nat_tests)

@@ -30,8 +30,8 @@ use Rattle.symple_face.specs.State.{State, machine, ruling_read, shape_at}
 use Rattle.symple_face.specs.State as face
 use Rattle.symple_face.specs.Work.{Work}
 use Rattle.cluster_run.proofs.GoWorlds.{same_from}
-use Rattle.cluster_run.proofs.Letters.{has_letter, has_without, length_without, name_but_for, not_found, once_from_each, same_swap, without_is}
-use Rattle.cluster_run.proofs.Sites.{map_get_back, map_set, other, same, set_cases, set_length}
+use Rattle.cluster_run.proofs.LetterLists.{has_letter, has_without, length_without, name_but_for, not_found, once_from_each, same_swap, without_is}
+use Rattle.cluster_run.proofs.SiteLists.{map_get_back, map_set, other, same, set_cases, set_length}
 use Rattle.skeleton_laws.proofs.RoundLaws.{kind_cases}
 use Rattle.cluster_run.proofs.Worlds.{IsMachine, IsSkeletonOf, Knows, is_for, is_for_it}
 use Rattle.state_laws.proofs.Letters.{apart_names}

@@ -27,9 +27,9 @@ use Rattle.symple_face.specs.Parts.{PlainPart}
 use Rattle.symple_face.specs.Plans.{blocks_of, ring_of}
 use Rattle.symple_face.specs.State.{State, first_missing, machine, needs, p_of, ruling_read, waiting_for}
 use Rattle.symple_face.specs.Work.{Work}
-use Rattle.cluster_run.proofs.Letters.{has_letter}
-use Rattle.cluster_run.proofs.Sites.{map_get}
-use Rattle.cluster_run.proofs.Tables.{need_here}
+use Rattle.cluster_run.proofs.LetterLists.{has_letter}
+use Rattle.cluster_run.proofs.SiteLists.{map_get}
+use Rattle.cluster_run.proofs.ActionTables.{need_here}
 use Rattle.state_laws.specs.Letters.{FitsForm}
 
 -- machine m of a run, with its part and its program

@@ -22,10 +22,10 @@ use Rattle.symple_face.specs.State.{State}
 use Rattle.symple_face.specs.Work.{Work}
 use Rattle.cluster_run.specs.Sends.{AreNew, sent_with}
 use Rattle.cluster_run.proofs.GoWorlds as go
-use Rattle.cluster_run.proofs.Letters.{all_placed_is, names_of, without_is}
+use Rattle.cluster_run.proofs.LetterLists.{all_placed_is, names_of, without_is}
 use Rattle.cluster_run.proofs.PartsAt.{parts_few}
 use Rattle.cluster_run.proofs.ReachedWorlds.{IsTied}
-use Rattle.cluster_run.proofs.Results.{empty}
+use Rattle.cluster_run.proofs.ReachedWorldLaws.{empty}
 use Rattle.cluster_run.proofs.TakeWorlds as take
 use Rattle.link_core.specs.LinkOrder.{IsDeliveredOnce, sent_in, taken_at, taken_in}
 use Rattle.link_core.proofs.TrafficLaws.{not_either}

@@ -13,7 +13,7 @@ use Rattle.symple_face.specs.Plans.{ring_of}
 use Rattle.symple_face.specs.State.{State, machine, p_of}
 use Rattle.symple_face.specs.Work.{Work}
 use Rattle.cluster_run.specs.Driven.{IsReached}
-use Rattle.cluster_run.proofs.Sites.{other, same, set_cases}
+use Rattle.cluster_run.proofs.SiteLists.{other, same, set_cases}
 use Rattle.link_core.specs.declared.wire.Wire.{Wire}
 use Rattle.link_core.specs.Links.{sent_by}
 use Rattle.link_core.specs.Sending.{ruling_behind}

@@ -28,12 +28,12 @@
 -- The code. The names that can be sent again are kept beside the counts, so that the k-th is found
 -- at once; one event changes one name of them, which is settled again (WireLaws). A cluster tells
 -- what a machine sent by its names, which the table of actions gives at the spot where it stood
--- (SendLaws, GoMoves). EventMoves: an event that was played. LookLaws, WireChoiceLaws: the choices
--- by their places. Texts: Feeds, Lines, and Fronts, by which the events read so far are the first
--- ones of every run that the text says.
-pub mod Feeds
-pub mod Lines
-pub mod Fronts
+-- (SendLaws, GoMoves). EventMoves: an event that was played. LinkChoicePlaces, WireChoiceLaws: the
+-- choices by their places. Texts: StrippedWords, PlainLines, and ReadEvents, by which the events
+-- read so far are the first ones of every run that the text says.
+pub mod StrippedWords
+pub mod PlainLines
+pub mod ReadEvents
 pub mod PileLaws
 pub mod PilePlaceLaws
 pub mod PileMoves
@@ -48,5 +48,5 @@ pub mod DeliveredLaws
 pub mod GoMoves
 pub mod LinkOrderLaws
 pub mod WireChoiceLaws
-pub mod LookLaws
+pub mod LinkChoicePlaces
 pub mod EventMoves

@@ -18,7 +18,7 @@ use Rattle.cluster_run.specs.declared.fault.EventFault.{EventFault}
 use Rattle.cluster_run.specs.declared.fault.EventFault.TheVariants.{NotUnderWay, RunOver}
 use Rattle.cluster_run.specs.Choices.{AreChoices, GoesOn}
 use Rattle.cluster_run.specs.Faults.{event_fault}
-use Rattle.cluster_run.proofs.Letters.{same_swap}
+use Rattle.cluster_run.proofs.LetterLists.{same_swap}
 use Rattle.link_core.specs.declared.event.LinkEvent.{LinkEvent}
 use Rattle.link_core.specs.declared.event.LinkEvent.TheVariants.{Go, Take, Lose, Again, Ack, Drop}
 use Rattle.link_core.specs.declared.fault.LinkFault.{LinkFault}

@@ -20,7 +20,7 @@ use Rattle.symple_face.specs.Plans.{blocks_of, ring_of}
 use Rattle.symple_face.specs.State.{State, machine, p_of}
 use Rattle.symple_face.specs.Work.{Work}
 use Rattle.cluster_run.proofs.GoWorlds as go
-use Rattle.cluster_run.proofs.Letters.{has_all_placed, has_letter, name_but_for, names_of}
+use Rattle.cluster_run.proofs.LetterLists.{has_all_placed, has_letter, name_but_for, names_of}
 use Rattle.cluster_run.proofs.PartsAt.{parts_few}
 use Rattle.cluster_run.proofs.ReachedWorlds.{IsTied}
 use Rattle.cluster_run.proofs.TakeWorlds as take

@@ -9,7 +9,7 @@ use Rattle.symple_face.specs.Cluster.{World, finished}
 use Rattle.symple_face.specs.Lawful.{IsLawful}
 use Rattle.symple_face.specs.State.{State}
 use Rattle.symple_face.specs.Work.{Work}
-use Rattle.cluster_run.proofs.Chosen.{choices_there, goes_on}
+use Rattle.cluster_run.proofs.WorldChoices.{choices_there, goes_on}
 use Rattle.cluster_run.proofs.ReachedWorlds.{reached_ties}
 use Rattle.link_core.specs.declared.event.LinkEvent.{LinkEvent}
 use Rattle.link_core.specs.LinkChoices.{link_choices}

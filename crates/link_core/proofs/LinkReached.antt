@@ -13,9 +13,9 @@ use Rattle.symple_face.specs.Lawful.{IsLawful}
 use Rattle.symple_face.specs.State.{State}
 use Rattle.symple_face.specs.Work.{Work}
 use Rattle.cluster_run.specs.Driven.{IsReached}
-use Rattle.cluster_run.proofs.Letters.{has_letter}
+use Rattle.cluster_run.proofs.LetterLists.{has_letter}
 use Rattle.cluster_run.proofs.ReachedWorlds.{reached_ties}
-use Rattle.cluster_run.proofs.Results.{reached_moves, steps_on}
+use Rattle.cluster_run.proofs.ReachedWorldLaws.{reached_moves, steps_on}
 use Rattle.link_core.specs.declared.event.LinkEvent.{LinkEvent}
 use Rattle.link_core.specs.declared.event.LinkEvent.TheVariants.{Go, Take, Lose, Again, Ack, Drop}
 use Rattle.link_core.specs.LinkChoosers.{NameFits, NumbersFit}

@@ -10,8 +10,8 @@ use Rattle.circulant_plan.specs.Skeleton.{has_name}
 use Rattle.circulant_plan.proofs.Members.{Has}
 use Rattle.circulant_plan.proofs.NameLists.{Once, has_from_name, name_from_has, same_as_self}
 use Rattle.cluster_run.specs.Sends.{AreNew}
-use Rattle.cluster_run.proofs.Letters as letters
-use Rattle.cluster_run.proofs.Letters.{has_letter, has_placed, same_swap}
+use Rattle.cluster_run.proofs.LetterLists as letters
+use Rattle.cluster_run.proofs.LetterLists.{has_letter, has_placed, same_swap}
 use Rattle.link_core.specs.declared.pile.Pile.{Pile}
 use Rattle.link_core.specs.Piles.{ArePiles, count_of, fewer, more}
 use Rattle.link_core.specs.Traffic.{Traffic, all_sent, sent}

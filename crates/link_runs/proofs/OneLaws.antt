@@ -13,7 +13,7 @@ use Rattle.delivery_log.proofs.OneLaws.{one_event}
 use Rattle.delivery_log.specs.Choosers.{behind_word}
 use Rattle.delivery_log.specs.declared.form.Form.TheVariants.{Whole}
 use Rattle.delivery_log.specs.ScheduleTexts.{text_of}
-use Rattle.link_core.proofs.Lines.{event_plain, header_plain}
+use Rattle.link_core.proofs.PlainLines.{event_plain, header_plain}
 use Rattle.link_core.specs.declared.event.LinkEvent.{LinkEvent}
 use Rattle.link_core.specs.declared.event.LinkEvent.TheVariants.{Go, Take, Lose, Again, Ack, Drop}
 use Rattle.link_core.specs.LinkSays.{HasBadLinkLine, HasNoLinkHeader, SaysLinks}

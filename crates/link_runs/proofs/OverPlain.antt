@@ -3,7 +3,7 @@ use Rattle.std.proofs.Common.{◌≡◌, ℕ, ◌+◌, Bool, true, false, List, 
 use Rattle.std.specs.Prelude.{◌&&◌, if◌then◌else◌, not, option_map}
 use Rattle.std.proofs.lemmas.Bool.{and_from, and_parts}
 use Rattle.array_text.specs.Events.{event_line as machine_line}
-use Rattle.cluster_run.proofs.Chosen.{not_refused}
+use Rattle.cluster_run.proofs.WorldChoices.{not_refused}
 use Rattle.cluster_run.specs.declared.fault.EventFault.{EventFault}
 use Rattle.cluster_run.specs.declared.fault.EventFault.TheVariants.{NotUnderWay, RunOver}
 use Rattle.cluster_run.specs.declared.fault.Missing.{Missing}

@@ -15,10 +15,10 @@ use Rattle.circulant_plan.proofs.Members.{Has}
 use Rattle.circulant_plan.proofs.StandingLaws.{not_zero}
 use Rattle.cluster_run.specs.declared.fault.EventFault.TheVariants.{NotUnderWay, RunOver}
 use Rattle.cluster_run.specs.Faults.{event_fault, lacking}
-use Rattle.cluster_run.proofs.Chosen.{goes_on, nothing_lacks}
-use Rattle.cluster_run.proofs.Letters.{has_letter}
-use Rattle.cluster_run.proofs.Results.{finished_alike, some_site}
-use Rattle.cluster_run.proofs.Tables.{acts_alike}
+use Rattle.cluster_run.proofs.WorldChoices.{goes_on, nothing_lacks}
+use Rattle.cluster_run.proofs.LetterLists.{has_letter}
+use Rattle.cluster_run.proofs.ReachedWorldLaws.{finished_alike, some_site}
+use Rattle.cluster_run.proofs.ActionTables.{acts_alike}
 use Rattle.cluster_run.proofs.Worlds.{IsMachine, Knows, it_is, it_keeps, ready_going, ready_holds}
 use Rattle.command_steps.specs.Notes.{LongSchedule}
 use Rattle.command_steps.specs.Orders.{Fails, IsOver, Keeps, Prints}

@@ -5,7 +5,7 @@ use Rattle.std.proofs.lemmas.Bool.{eqb-true, false≢true}
 use Rattle.array_text.specs.Writes.{Writes}
 use Rattle.circulant_plan.specs.declared.spot.Spot.{Spot}
 use Rattle.circulant_plan.specs.declared.spot.Spot.TheVariants.{Tell, Judge, Begin, Scan, Close, Over}
-use Rattle.cluster_run.proofs.Sites.{set_here}
+use Rattle.cluster_run.proofs.SiteLists.{set_here}
 use Rattle.outside.specs.declared.sink.SinkFault.{SinkFault}
 use Rattle.schedule_laws.specs.Layout.{gone_lines, judged_lines, round_lines, table_of, told_in}
 use Rattle.schedule_laws.specs.Texts.{told_lines}

@@ -17,10 +17,10 @@ use Rattle.cluster_run.specs.declared.fault.EventFault.TheVariants as fault
 use Rattle.cluster_run.specs.Driven.{IsReached, anew}
 use Rattle.cluster_run.specs.Faults.{action_fault, event_fault, fault_of, go_fault, lacking, lacks}
 use Rattle.cluster_run.proofs.ChoicesAlike.{missing_alike, next_alike}
-use Rattle.cluster_run.proofs.Chosen.{goes_on as on_from, not_refused, nothing_lacks}
-use Rattle.cluster_run.proofs.Letters.{has_letter}
+use Rattle.cluster_run.proofs.WorldChoices.{goes_on as on_from, not_refused, nothing_lacks}
+use Rattle.cluster_run.proofs.LetterLists.{has_letter}
 use Rattle.cluster_run.proofs.ReachedWorlds.{IsTied}
-use Rattle.cluster_run.proofs.Results.{finished_alike, steps_on}
+use Rattle.cluster_run.proofs.ReachedWorldLaws.{finished_alike, steps_on}
 use Rattle.cluster_run.proofs.Worlds.{holds_need, needs_are}
 use Rattle.delivery_log.specs.Choosers.{IsDrawnRun, behind_word, word_of}
 use Rattle.delivery_log.specs.declared.form.Form.{Form}

@@ -29,7 +29,7 @@ use Rattle.cluster_run.proofs.TakeWorlds as take
 use Rattle.cluster_run.proofs.Worlds.{IsSkeletonOf}
 use Rattle.schedule_laws.specs.CountedRuns.{CompleteRunsAreCounted, HasCounts, ruled_events, ruling_at, ruling_of}
 use Rattle.state_laws.proofs.Options.{some_of}
-use Rattle.cluster_run.proofs.Results.{some_site}
+use Rattle.cluster_run.proofs.ReachedWorldLaws.{some_site}
 
 events_are : (work : Work) (w : World) (es : List Event) → map (λ e. e.0) (ruled_events work w es) ≡ es
 events_are work w [] = refl

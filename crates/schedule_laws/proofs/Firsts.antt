@@ -24,7 +24,7 @@ use Rattle.cluster_run.specs.Driven.{IsRestarted}
 use Rattle.cluster_run.proofs.FirstWorlds.{first_tied, restarted_tied}
 use Rattle.cluster_run.proofs.PartsAt.{part_at, parts_few, parts_some}
 use Rattle.cluster_run.proofs.Restarted.{is_restarted}
-use Rattle.cluster_run.proofs.Sites.{map_get_back}
+use Rattle.cluster_run.proofs.SiteLists.{map_get_back}
 use Rattle.schedule_laws.specs.Events.{IsTrue}
 use Rattle.schedule_laws.specs.Runs.{IsSourceRun}
 use Rattle.schedule_laws.proofs.FirstStates.{first_is_true, restarted_is_true}

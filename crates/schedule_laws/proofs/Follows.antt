@@ -40,7 +40,7 @@ use Rattle.work_laws.proofs.Whole.{core_lawful}
 use Rattle.cluster_run.proofs.GoWorlds as go
 use Rattle.cluster_run.proofs.GoWorlds.{ready_is}
 use Rattle.cluster_run.proofs.PartsAt.{parts_count, parts_few}
-use Rattle.cluster_run.proofs.Sites.{get_one, same, other, set_cases, set_here, set_length, set_other}
+use Rattle.cluster_run.proofs.SiteLists.{get_one, same, other, set_cases, set_here, set_length, set_other}
 use Rattle.cluster_run.proofs.TakeWorlds as take
 use Rattle.cluster_run.proofs.Worlds.{IsMachine, IsSkeletonOf, it_keeps, it_stands, ready_going}
 use Rattle.round_laws.proofs.FoldCloses.{at_most}

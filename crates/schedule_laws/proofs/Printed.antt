@@ -33,7 +33,7 @@ use Rattle.symple_face.specs.Source.{Source, scene, stand}
 use Rattle.symple_face.specs.State.{State}
 use Rattle.work_laws.specs.Sound.{FitsSpot, core_sound}
 use Rattle.work_laws.proofs.Whole.{core_lawful}
-use Rattle.cluster_run.proofs.Sites.{get_one, same, other, set_cases, set_here, set_other}
+use Rattle.cluster_run.proofs.SiteLists.{get_one, same, other, set_cases, set_here, set_other}
 use Rattle.cluster_run.proofs.Worlds.{it_keeps, it_stands}
 use Rattle.round_laws.specs.IsIdeal.{rows_before, rows_round}
 use Rattle.round_laws.specs.Tallies.{source_count}
@@ -49,7 +49,7 @@ use Rattle.schedule_laws.proofs.Follows.{Follows, count, few, gone_follows, gone
 use Rattle.schedule_laws.proofs.RunLaws.{rest, rest_on}
 use Rattle.schedule_laws.proofs.Shown.{HasParts, reads_shown}
 use Rattle.state_laws.proofs.Options.{some_of}
-use Rattle.cluster_run.proofs.Results.{some_site}
+use Rattle.cluster_run.proofs.ReachedWorldLaws.{some_site}
 use Rattle.state_laws.proofs.Rulings.{judged_on}
 
 not_below : (a b : ℕ) → b < a → nat_le a b ≡ false

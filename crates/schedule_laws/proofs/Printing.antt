@@ -42,7 +42,7 @@ use Rattle.schedule_laws.proofs.Printed.{event_prints, has_parts, to_come}
 use Rattle.schedule_laws.proofs.RunLaws.{rest, rest_over}
 use Rattle.schedule_laws.proofs.Shown.{table_shown, there_at}
 use Rattle.state_laws.proofs.Options.{some_of}
-use Rattle.cluster_run.proofs.Results.{some_site}
+use Rattle.cluster_run.proofs.ReachedWorldLaws.{some_site}
 
 -- what each of a list passes its element at a place passes
 pub all_pass : {X : Type 0} → (p : X → Bool) (xs : List X) (m : ℕ) (x : X) → list_all p xs ≡ true →

@@ -35,7 +35,7 @@ use Rattle.schedule_laws.proofs.Printed.{judge_says, to_come}
 use Rattle.schedule_laws.proofs.Printing.{all_print, next_follows}
 use Rattle.schedule_laws.proofs.RunLaws.{rest, run_at}
 use Rattle.state_laws.proofs.Options.{some_of}
-use Rattle.cluster_run.proofs.Results.{some_site}
+use Rattle.cluster_run.proofs.ReachedWorldLaws.{some_site}
 
 -- ---- where no lines are asked for
 quiet_told : (b : Bool) (t : Told) → (if b then told_lines no_lines t else []) ≡ []

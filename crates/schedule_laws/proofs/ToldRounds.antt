@@ -21,7 +21,7 @@ use Rattle.symple_face.specs.CoreWork.{core_go, core_work}
 use Rattle.symple_face.specs.Parts.{PlainPart}
 use Rattle.symple_face.specs.Source.{Source, stand}
 use Rattle.symple_face.specs.State.{State}
-use Rattle.cluster_run.proofs.Sites.{get_one, set_here, set_other}
+use Rattle.cluster_run.proofs.SiteLists.{get_one, set_here, set_other}
 use Rattle.round_laws.proofs.FoldCloses.{at_most}
 use Rattle.schedule_laws.specs.Laws.{EveryRoundIsTold, EveryTableIsTold, whole_run}
 use Rattle.schedule_laws.specs.Layout.{told_in}
@@ -35,7 +35,7 @@ use Rattle.schedule_laws.proofs.RunLaws.{run_at, run_on, run_over}
 use Rattle.schedule_laws.proofs.Saying.{first_run, table_says}
 use Rattle.schedule_laws.proofs.Whole.{first_site, whole_follows, whole_is_a_run}
 use Rattle.state_laws.proofs.Options.{some_of}
-use Rattle.cluster_run.proofs.Results.{some_site}
+use Rattle.cluster_run.proofs.ReachedWorldLaws.{some_site}
 use Rattle.schedule_laws.specs.Texts.{no_lines}
 
 abbrev keeps : Bool → Lines

@@ -19,7 +19,7 @@ use Rattle.symple_face.specs.State.{State}
 use Rattle.symple_face.specs.Work.{PlainStart}
 use Rattle.cluster_run.proofs.FirstWorlds.{all_at}
 use Rattle.cluster_run.proofs.PartsAt.{part_at, parts_some}
-use Rattle.cluster_run.proofs.Sites.{map_get}
+use Rattle.cluster_run.proofs.SiteLists.{map_get}
 use Rattle.schedule_laws.specs.Runs.{IsSourceRun}
 use Rattle.schedule_laws.proofs.Runs.{fresh_is_a_run, resumed_is_a_run}
 use Rattle.schedule_laws.specs.Laws.{EveryLaterLog, EveryLaterSchedule, EveryLaterWorldIsTrue, EveryLog, EverySchedule, EveryWorldIsTrue, later_run, whole_run}

@@ -9,7 +9,7 @@ use Rattle.cluster_run.specs.declared.fault.EventFault.{EventFault}
 use Rattle.cluster_run.specs.declared.fault.Missing.{Missing}
 use Rattle.cluster_run.specs.Driven.{IsReached, anew}
 use Rattle.cluster_run.specs.Faults.{fault_of, lacking, lacks}
-use Rattle.cluster_run.proofs.Chosen.{not_refused}
+use Rattle.cluster_run.proofs.WorldChoices.{not_refused}
 use Rattle.cluster_run.specs.Laws.{StepsReach, UnfinishedGoesOn}
 use Rattle.command_steps.specs.Notes.{LongSchedule}
 use Rattle.delivery_log.specs.declared.form.Form.{Form}

@@ -8,7 +8,7 @@ use Rattle.circulant_plan.specs.declared.spot.Spot.TheVariants.{Tell, Judge, Beg
 use Rattle.circulant_plan.specs.Skeleton.{acting_ruling}
 use Rattle.circulant_plan.specs.Standing.{Standing}
 use Rattle.circulant_plan.specs.Table.{after_judge, next_spot}
-use Rattle.cluster_run.proofs.Sites.{set_here}
+use Rattle.cluster_run.proofs.SiteLists.{set_here}
 use Rattle.command_steps.specs.declared.failure.Failure.{Failure}
 use Rattle.command_steps.specs.Faults.{fault_of}
 use Rattle.command_steps.specs.Leaves.{Gained, Leaves, NotPut, Ran}

@@ -7,7 +7,7 @@ use Rattle.array_text.specs.Tables.{table_text}
 use Rattle.circulant_plan.specs.declared.spot.Spot.{Spot}
 use Rattle.circulant_plan.specs.declared.spot.Spot.TheVariants.{Tell, Judge, Begin, Scan, Close, Over}
 use Rattle.circulant_plan.specs.Skeleton.{Skeleton, first_skeleton}
-use Rattle.cluster_run.proofs.Results.{some_site}
+use Rattle.cluster_run.proofs.ReachedWorldLaws.{some_site}
 use Rattle.cluster_run.proofs.Worlds.{it_stands}
 use Rattle.command_steps.specs.Orders.{IsOver, Prints}
 use Rattle.instrument.specs.declared.split.Split.{Split}

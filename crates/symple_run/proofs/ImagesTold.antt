@@ -19,7 +19,7 @@ use Rattle.skeleton_laws.proofs.ReachedSettles.{reached}
 use Rattle.skeleton_laws.proofs.Settled.{SettledState}
 use Rattle.skeleton_laws.proofs.Standings.{got, standing_of}
 use Rattle.cluster_run.proofs.PartsAt.{parts_some}
-use Rattle.cluster_run.proofs.Sites.{get_one, map_get, set_here, set_other}
+use Rattle.cluster_run.proofs.SiteLists.{get_one, map_get, set_here, set_other}
 use Rattle.cluster_run.proofs.Worlds.{it_keeps, it_stands}
 use Rattle.edge_reader.specs.EdgeList.{Graph}
 use Rattle.instrument.specs.declared.split.Split.{Split}
@@ -59,7 +59,7 @@ use Rattle.vert_eval.specs.SourceRun.{Job, Played, Run, source_run}
 use Rattle.vert_tree.specs.declared.program.Program.{Program}
 use Rattle.word_kinds.specs.Fits.{IsFitting}
 use Rattle.state_laws.proofs.Options.{some_of}
-use Rattle.cluster_run.proofs.Results.{some_site}
+use Rattle.cluster_run.proofs.ReachedWorldLaws.{some_site}
 use Rattle.schedule_laws.specs.OutputText.{next_by}
 use Rattle.state_laws.proofs.Rulings.{judged_on}
 

@@ -22,9 +22,9 @@ use Rattle.symple_face.specs.State.{State, action_of}
 use Rattle.work_laws.specs.Sound.{core_sound}
 use Rattle.work_laws.proofs.Whole.{core_lawful}
 use Rattle.cluster_run.proofs.GoWorlds.{same_from}
-use Rattle.cluster_run.proofs.Letters.{has_letter}
-use Rattle.cluster_run.proofs.Onward.{IsOnward, begins, ends, onward, stays}
-use Rattle.cluster_run.proofs.Tables.{need_here}
+use Rattle.cluster_run.proofs.LetterLists.{has_letter}
+use Rattle.cluster_run.proofs.NextStandings.{IsOnward, begins, ends, onward, stays}
+use Rattle.cluster_run.proofs.ActionTables.{need_here}
 use Rattle.cluster_run.proofs.Worlds.{is_for, is_for_it}
 use Rattle.schedule_laws.specs.Events.{IsTrue, ring_in}
 use Rattle.schedule_laws.specs.OutputText.{rulings_of}

@@ -30,7 +30,7 @@ use Rattle.symple_face.specs.Source.{Source, stand}
 use Rattle.symple_face.specs.State.{State, action_of, first_missing, machine, needs, p_of, waiting_for}
 use Rattle.work_laws.specs.Sound.{FitsSpot, core_sound}
 use Rattle.work_laws.proofs.Whole.{core_lawful}
-use Rattle.cluster_run.proofs.Tables.{ActsAlike, acts_alike}
+use Rattle.cluster_run.proofs.ActionTables.{ActsAlike, acts_alike}
 use Rattle.schedule_laws.specs.Events.{IsTrue, ring_in}
 use Rattle.schedule_laws.specs.OutputText.{rulings_of}
 use Rattle.schedule_laws.specs.Runs.{IsSourceRun}

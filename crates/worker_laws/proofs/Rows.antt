@@ -28,7 +28,7 @@ use Rattle.symple_face.specs.Source.{Source, stand}
 use Rattle.symple_face.specs.State.{State}
 use Rattle.work_laws.specs.Sound.{core_sound}
 use Rattle.work_laws.proofs.Whole.{core_lawful}
-use Rattle.cluster_run.proofs.Sites.{get_one, set_here, set_other}
+use Rattle.cluster_run.proofs.SiteLists.{get_one, set_here, set_other}
 use Rattle.cluster_run.proofs.Worlds.{it_keeps, it_stands}
 use Rattle.round_laws.specs.IsIdeal.{rows_round}
 use Rattle.round_laws.proofs.FoldCloses.{at_most}
@@ -39,7 +39,7 @@ use Rattle.schedule_laws.proofs.Printed.{first_prints, late, mode, round_behind,
 use Rattle.schedule_laws.proofs.Printing.{all_pass, late as begun_by, next_follows, over_rows, stops, zero_site}
 use Rattle.schedule_laws.proofs.RunLaws.{run_at, run_on, run_over}
 use Rattle.schedule_laws.specs.OutputText.{next_by}
-use Rattle.cluster_run.proofs.Results.{some_site}
+use Rattle.cluster_run.proofs.ReachedWorldLaws.{some_site}
 use Rattle.state_laws.proofs.Options.{some_of}
 use Rattle.schedule_laws.specs.Texts.{no_lines}
 

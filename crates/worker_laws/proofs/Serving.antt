@@ -30,8 +30,8 @@ use Rattle.symple_face.specs.State.{IsTakeable, State, action_of, first_missing,
 use Rattle.work_laws.specs.Sound.{core_sound}
 use Rattle.work_laws.proofs.Whole.{core_lawful}
 use Rattle.cluster_run.proofs.GoWorlds.{ready_is}
-use Rattle.cluster_run.proofs.Letters.{has_letter}
-use Rattle.cluster_run.proofs.Sites.{get_one, set_here, set_other}
+use Rattle.cluster_run.proofs.LetterLists.{has_letter}
+use Rattle.cluster_run.proofs.SiteLists.{get_one, set_here, set_other}
 use Rattle.cluster_run.proofs.TakeWorlds as take
 use Rattle.cluster_run.proofs.Worlds.{holds_need, it_stands}
 use Rattle.schedule_laws.specs.Events.{IsTrue, ring_in}

@@ -32,8 +32,8 @@ use Rattle.symple_face.specs.Source.{Source, stand}
 use Rattle.symple_face.specs.State.{IsTakeable, State, ruling_read}
 use Rattle.work_laws.specs.Sound.{core_sound}
 use Rattle.work_laws.proofs.Whole.{core_lawful}
-use Rattle.cluster_run.proofs.Letters.{has_letter, same_swap}
-use Rattle.cluster_run.proofs.Sites.{get_one}
+use Rattle.cluster_run.proofs.LetterLists.{has_letter, same_swap}
+use Rattle.cluster_run.proofs.SiteLists.{get_one}
 use Rattle.cluster_run.proofs.TakeWorlds as take
 use Rattle.cluster_run.proofs.Worlds.{is_for, it_stands}
 use Rattle.round_laws.proofs.FoldScanHeld.{found_holds}

@@ -23,7 +23,7 @@ use Rattle.symple_face.specs.State.{State}
 use Rattle.work_laws.specs.Sound.{core_sound}
 use Rattle.work_laws.proofs.Whole.{core_lawful}
 use Rattle.cluster_run.proofs.PartsAt.{part_at}
-use Rattle.cluster_run.proofs.Sites.{map_get}
+use Rattle.cluster_run.proofs.SiteLists.{map_get}
 use Rattle.round_laws.proofs.Sights.{row_of_own}
 use Rattle.schedule_laws.specs.Laws.{whole_run}
 use Rattle.schedule_laws.specs.OutputText.{run_of}

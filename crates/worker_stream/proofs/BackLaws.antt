@@ -26,9 +26,9 @@ use Rattle.worker_stream.specs.Answers.{Begins, ReadsPart, ReadsSections}
 use Rattle.worker_stream.specs.Back.{IsReadBack, IsWritable}
 use Rattle.worker_stream.specs.PartFiles.{IsSound, PartFile, behind_count, degree_bytes, degree_of_unit, edge_bytes, edge_in, eight_bytes, file_of, head_bytes, part_in, spelled_part}
 use Rattle.worker_stream.specs.Sections.{Sections, cut_at, counted, end_count, sections_of, with_degrees, with_ends, with_program, with_push, with_scan}
-use Rattle.worker_stream.proofs.CountLaws.{degrees_few}
-use Rattle.worker_stream.proofs.FrameLaws.{same_part}
-use Rattle.worker_stream.proofs.OrderLaws.{IsInPlace, placed_below}
+use Rattle.worker_stream.proofs.FewDegrees.{degrees_few}
+use Rattle.worker_stream.proofs.PartMaking.{same_part}
+use Rattle.worker_stream.proofs.EdgeOrderLaws.{IsInPlace, placed_below}
 use Rattle.worker_stream.proofs.SoundLaws.{scan_below}
 use Rattle.worker_stream.proofs.SpelledLaws.{counted_front, cut_front, degree_again, degree_length, edge_again, edge_length, eight_drop, eight_read, four_again, four_length, four_read, units_back, units_long}
 use Rattle.std.proofs.lemmas.Option.{same_Some}

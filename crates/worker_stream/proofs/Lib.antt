@@ -5,11 +5,11 @@
 -- is read back (`read_back`, in BackLaws). The sections are cut by their counts (CutLaws), and the
 -- spelling is cut into them again (SpelledLaws). The numbers are sound exactly where each has its
 -- form (`sound_from_forms`, in SoundLaws): each test reads an edge or a degree once, and decides
--- whether they have the order and the chunk of a part (`in_place`, `in_place_passes`, in OrderLaws)
--- and whether the degrees are those of its vertices (`known_says`, `counted_says`, in DegreeLaws).
--- The lists of vertices follow from the edges, so the part made step by step is the one that the
--- file says (`part_is`, in FrameLaws). AnswerLaws, CountLaws, UnitLaws and StepLaws: answers handed
--- on, few degrees, and loops over units and tests.
+-- whether they have the order and the chunk of a part (`in_place`, `in_place_passes`, in
+-- EdgeOrderLaws) and whether the degrees are those of its vertices (`known_says`, `counted_says`,
+-- in DegreeLaws). The lists of vertices follow from the edges, so the part made step by step is the
+-- one that the file says (`part_is`, in PartMaking). SectionAnswers, FewDegrees, UnitLaws and
+-- TestLaws: answers handed on, few degrees, and loops over units and tests.
 --
 -- One machine over a stream. The claim: `serve` writes, uses and answers what `worker`
 -- (specs/Worker) makes of the part and of the bytes that came, however they were cut. It ends over,
@@ -36,13 +36,13 @@
 -- steps together (`along_goes`, `along_fails`, `along_ends`).
 pub mod CutLaws
 pub mod UnitLaws
-pub mod StepLaws
-pub mod OrderLaws
+pub mod TestLaws
+pub mod EdgeOrderLaws
 pub mod DegreeLaws
 pub mod SoundLaws
-pub mod FrameLaws
-pub mod CountLaws
-pub mod AnswerLaws
+pub mod PartMaking
+pub mod FewDegrees
+pub mod SectionAnswers
 pub mod SpelledLaws
 pub mod BackLaws
 pub mod FillLaws

@@ -29,8 +29,8 @@ use Rattle.symple_face.specs.Plans.{blocks_of, goes_by_plan, is_in_range, is_who
 use Rattle.symple_face.specs.State.{IsTakeable, State, action_of, first_missing, machine, needs, p_of, shape_at, waiting_for}
 use Rattle.symple_face.specs.Work.{Work}
 use Rattle.cluster_run.specs.Driven.{IsReached, anew}
-use Rattle.cluster_run.proofs.Results.{reached_takes, steps_on}
-use Rattle.cluster_run.proofs.Sites.{get_one, map_get, set_other}
+use Rattle.cluster_run.proofs.ReachedWorldLaws.{reached_takes, steps_on}
+use Rattle.cluster_run.proofs.SiteLists.{get_one, map_get, set_other}
 use Rattle.worker_stream.specs.Fronts.{AtFront, IsRead, front_of, front_with_body, front_with_form, front_with_name, read_with_form, read_with_name}
 use Rattle.worker_stream.specs.Prompt.{IsPrompt, PlainRunsArePrompt, PromptRunsAreServed, handed, sent_at, sent_by, taken_at, taken_by}
 use Rattle.worker_stream.specs.Sent.{spelled_letter, spelled_letters}

@@ -21,7 +21,7 @@ use Rattle.worker_stream.specs.Answers.{AreDegrees, AreEdges, Finds, IsFrame}
 use Rattle.worker_stream.specs.Numbers.{IsFrameOf}
 use Rattle.worker_stream.specs.PartFiles.{IsSound, PartFile}
 use Rattle.worker_stream.proofs.DegreeLaws.{counted_passes, counted_says, known_passes, known_says}
-use Rattle.worker_stream.proofs.OrderLaws.{IsInPlace, in_place, in_place_passes, placed_below}
+use Rattle.worker_stream.proofs.EdgeOrderLaws.{IsInPlace, in_place, in_place_passes, placed_below}
 
 -- a fault of one part of the numbers is one of the whole
 failed : {X Y : Type 0} (A B : Type 0) (is : X → Type 0) (is' : Y → Type 0) (fault : PartFault) → (B → A) →

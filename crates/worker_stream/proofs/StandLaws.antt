@@ -24,7 +24,7 @@ use Rattle.symple_face.specs.Parts.{PlainPart}
 use Rattle.symple_face.specs.Plans.{ring_of}
 use Rattle.symple_face.specs.State.{IsTakeable, State, action_of, has_taken, machine, p_of, ruling_read}
 use Rattle.symple_face.specs.Work.{Work}
-use Rattle.cluster_run.proofs.Onward.{IsOnward, begins, ends, onward, stays}
+use Rattle.cluster_run.proofs.NextStandings.{IsOnward, begins, ends, onward, stays}
 use Rattle.round_laws.proofs.Planned.{planned_can_be_taken}
 use Rattle.worker_stream.specs.Walks.{AreTaken, IsLow, Stands, chances, names_from, no_names}
 use Rattle.worker_stream.proofs.StateWalks.{first_walks, go_walks, planned, ready_on, take_walks}

@@ -3,8 +3,8 @@ use Rattle.std.specs.Prelude.{slice_set}
 use Rattle.std.proofs.lemmas.Result.{on_ok_weaker}
 use Rattle.symple_face.specs.Cluster.{all_placed, can_act}
 use Rattle.cluster_run.specs.Ready.{flags_of}
-use Rattle.cluster_run.proofs.Sites.{map_set}
-use Rattle.cluster_run.proofs.Moves.{replaced, sent_by, state_at}
+use Rattle.cluster_run.proofs.SiteLists.{map_set}
+use Rattle.cluster_run.proofs.MachineMoves.{replaced, sent_by, state_at}
 use Rattle.cluster_run.proofs.acts.go_site.Goals as goal
 
 pub returns-clause-sites : goal.returns-clause-sites

@@ -1,6 +1,6 @@
 use Rattle.std.proofs.Common.{◌∙◌}
 use mathlib.Core.List.{reverse}
-use Rattle.cluster_run.proofs.Moves.{popped, shifted}
+use Rattle.cluster_run.proofs.MachineMoves.{popped, shifted}
 use Rattle.cluster_run.proofs.acts.send_all.Goals as goal
 
 pub loop-message-preserved : goal.loop-message-preserved

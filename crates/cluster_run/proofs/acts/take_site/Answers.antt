@@ -3,8 +3,8 @@ use Rattle.std.specs.Prelude.{slice_set}
 use Rattle.vert_base.specs.Letters.{letter_of}
 use Rattle.symple_face.specs.Cluster.{can_act}
 use Rattle.cluster_run.specs.Ready.{flags_of}
-use Rattle.cluster_run.proofs.Sites.{map_set}
-use Rattle.cluster_run.proofs.Moves.{replaced, state_at}
+use Rattle.cluster_run.proofs.SiteLists.{map_set}
+use Rattle.cluster_run.proofs.MachineMoves.{replaced, state_at}
 use Rattle.cluster_run.proofs.acts.take_site.Goals as goal
 
 pub take-requires : goal.take-requires

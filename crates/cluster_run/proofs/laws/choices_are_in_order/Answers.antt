@@ -1,4 +1,4 @@
-use Rattle.cluster_run.proofs.Chosen.{choices_there, goes_on, missing_there, plain_ends}
+use Rattle.cluster_run.proofs.WorldChoices.{choices_there, goes_on, missing_there, plain_ends}
 use Rattle.cluster_run.proofs.laws.choices_are_in_order.Goals as goal
 
 pub returns : goal.returns

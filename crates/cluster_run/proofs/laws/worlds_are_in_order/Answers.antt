@@ -1,4 +1,4 @@
-use Rattle.cluster_run.proofs.Results.{reached_empty, reached_moves, reached_nearer, reached_sends, reached_still, reached_takes, steps_on}
+use Rattle.cluster_run.proofs.ReachedWorldLaws.{reached_empty, reached_moves, reached_nearer, reached_sends, reached_still, reached_takes, steps_on}
 use Rattle.cluster_run.proofs.laws.worlds_are_in_order.Goals as goal
 
 pub returns : goal.returns

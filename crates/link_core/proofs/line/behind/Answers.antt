@@ -1,6 +1,6 @@
 use Rattle.std.proofs.lemmas.Bool.Decides.{Decides-eqb}
 use Rattle.std.proofs.lemmas.Slice.Eq.{strip_prefix_is}
-use Rattle.link_core.proofs.Feeds.{stripped, stripped_found}
+use Rattle.link_core.proofs.StrippedWords.{stripped, stripped_found}
 use Rattle.link_core.proofs.line.behind.Goals as goal
 
 pub returns-clause-spelled : goal.returns-clause-spelled

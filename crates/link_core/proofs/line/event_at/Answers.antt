@@ -1,7 +1,7 @@
 use Rattle.std.proofs.Common.{[], ◌∷◌, ◌∙◌, append_assoc}
 use Rattle.std.proofs.lemmas.Option.{same_Some}
 use Rattle.link_core.specs.LinkTexts.{event_front}
-use Rattle.link_core.proofs.Lines.{event_plain}
+use Rattle.link_core.proofs.PlainLines.{event_plain}
 use Rattle.link_core.proofs.line.event_at.Goals as goal
 
 pub returns-in_err-line-clause-found : goal.returns-in_err-line-clause-found

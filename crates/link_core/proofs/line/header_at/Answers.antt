@@ -1,7 +1,7 @@
 use Rattle.std.proofs.Common.{◌≡◌, ◌<◌, [], ◌∷◌, ◌++◌, ◌∙◌, append_assoc, arith}
 use Rattle.std.specs.Prelude.{codes, decimal}
 use Rattle.std.proofs.lemmas.Option.{same_Some}
-use Rattle.link_core.proofs.Lines.{header_plain}
+use Rattle.link_core.proofs.PlainLines.{header_plain}
 use Rattle.link_core.proofs.line.header_at.Goals as goal
 
 pub returns-in_err-line-clause-found : goal.returns-in_err-line-clause-found

@@ -2,7 +2,7 @@ use Rattle.std.proofs.Common.{◌≡◌, ◌<◌, ◌++◌, [], ◌∷◌, lengt
 use Rattle.std.specs.Prelude.{flat_map}
 use Rattle.std.proofs.lemmas.Bool.Decides.{nat_tests}
 use Rattle.link_core.specs.LinkTexts.{event_line}
-use Rattle.link_core.proofs.Fronts.{begun, begun_is, front_bad, front_done, front_more, left_few, more, more_is}
+use Rattle.link_core.proofs.ReadEvents.{begun, begun_is, front_bad, front_done, front_more, left_few, more, more_is}
 use Rattle.link_core.proofs.read.read_links.Goals as goal
 
 pub returns-in_default-clause-again : goal.returns-in_default-clause-again

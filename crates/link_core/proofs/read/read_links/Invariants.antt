@@ -2,7 +2,7 @@ use Rattle.std.proofs.Common.{◌≡◌, ◌+◌, ◌≤◌, ◌++◌, ℕ, List
 use Rattle.link_core.specs.declared.event.LinkEvent.{LinkEvent}
 use Rattle.link_core.specs.LinkSays.{SaysLinks}
 use Rattle.link_core.specs.LinkTexts.{IsLinkSchedule, links_text}
-use Rattle.link_core.proofs.Fronts.{IsFront}
+use Rattle.link_core.proofs.ReadEvents.{IsFront}
 use Rattle.link_core.proofs.read.read_links.Given as goal
 
 abbrev pub invariant-events : goal.invariant-events

@@ -1,7 +1,7 @@
 -- One degree decides, or the others do.
 use Rattle.std.proofs.Common.{◌∙◌, sym}
 use Rattle.worker_stream.specs.Degrees.{is_counted}
-use Rattle.worker_stream.proofs.StepLaws.{all_fails, all_goes_on}
+use Rattle.worker_stream.proofs.TestLaws.{all_fails, all_goes_on}
 use Rattle.worker_stream.proofs.counts.are_counted.Goals as goal
 
 pub returns-then-not-is_counted : goal.returns-then-not-is_counted

@@ -1,6 +1,6 @@
 -- A degree for which no vertex is left.
 use Rattle.std.proofs.Common.{◌∙◌, sym}
-use Rattle.worker_stream.proofs.StepLaws.{none_left}
+use Rattle.worker_stream.proofs.TestLaws.{none_left}
 use Rattle.worker_stream.proofs.known.are_known.Goals as goal
 
 pub returns-in-empty : goal.returns-in-empty

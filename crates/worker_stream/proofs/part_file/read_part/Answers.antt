@@ -3,7 +3,7 @@ use Rattle.std.proofs.Common.{◌∙◌, Err, sym}
 use Rattle.worker_stream.specs.declared.fault.PartFault.TheVariants.{Length}
 use Rattle.worker_stream.specs.Answers.{ReadsPart}
 use Rattle.worker_stream.specs.Numbers.{plain_sections}
-use Rattle.worker_stream.proofs.AnswerLaws.{read_sections}
+use Rattle.worker_stream.proofs.SectionAnswers.{read_sections}
 use Rattle.worker_stream.proofs.BackLaws.{read_back}
 use Rattle.worker_stream.proofs.part_file.read_part.Goals as goal
 

@@ -13,7 +13,7 @@ use Rattle.mirror_table.proofs.PartsMade.{others_length}
 use Rattle.worker_stream.specs.Answers.{AreDegrees, AreEdges}
 use Rattle.worker_stream.specs.Numbers.{plain_numbers, plain_sections}
 use Rattle.worker_stream.specs.PartFiles.{IsSound, file_of, part_in}
-use Rattle.worker_stream.proofs.FrameLaws.{FromPush, FromScan, degrees_asked, is_sound, part_is, push_asked, push_low, push_order, scan_asked, scan_low, scan_order}
+use Rattle.worker_stream.proofs.PartMaking.{FromPush, FromScan, degrees_asked, is_sound, part_is, push_asked, push_low, push_order, scan_asked, scan_low, scan_order}
 use Rattle.worker_stream.proofs.SoundLaws.{fails}
 use Rattle.worker_stream.proofs.part_numbers.numbers_of.Goals as goal
 

@@ -2,7 +2,7 @@
 use Rattle.std.proofs.Common.{List, ℕ, arith, subst}
 use Rattle.chunk_split.specs.Chunks.{AreEnds}
 use Rattle.symple_face.specs.PartViews.{plain_of}
-use Rattle.worker_stream.proofs.CountLaws.{degrees_few}
+use Rattle.worker_stream.proofs.FewDegrees.{degrees_few}
 use Rattle.worker_stream.proofs.spelling.file_len.Goals as goal
 
 pub overflow_mul-result-2 : goal.overflow_mul-result-2

@@ -2,7 +2,7 @@
 use Rattle.std.proofs.Common.{List, ℕ, ap, arith, length, subst}
 use Rattle.chunk_split.specs.Chunks.{AreEnds}
 use Rattle.symple_face.specs.PartViews.{plain_of}
-use Rattle.worker_stream.proofs.CountLaws.{degrees_few}
+use Rattle.worker_stream.proofs.FewDegrees.{degrees_few}
 use Rattle.worker_stream.proofs.spelling.push_part.Goals as goal
 
 pub push_counted_degrees-requires : goal.push_counted_degrees-requires

@@ -2,7 +2,7 @@ use Rattle.std.proofs.Common.{◌≡◌, ◌∙◌, false, ap, sym, slice_get}
 use Rattle.cluster_run.specs.Driven.{Driven}
 use Rattle.cluster_run.specs.Ready.{flags_of}
 use Rattle.symple_face.specs.Cluster.{choices_of}
-use Rattle.cluster_run.proofs.Chosen.{first_choice, nth_played, reached_in, seen}
+use Rattle.cluster_run.proofs.WorldChoices.{first_choice, nth_played, reached_in, seen}
 use Rattle.cluster_run.proofs.cluster.Cluster.choice.Goals as goal
 
 pub returns-clause-first : goal.returns-clause-first

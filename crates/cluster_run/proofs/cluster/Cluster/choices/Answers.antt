@@ -2,7 +2,7 @@ use Rattle.std.proofs.Common.{◌≡◌, ◌∙◌, false, ap, length, sym}
 use Rattle.cluster_run.specs.Driven.{Driven}
 use Rattle.cluster_run.specs.Ready.{flags_of}
 use Rattle.symple_face.specs.Cluster.{choices_of}
-use Rattle.cluster_run.proofs.Chosen.{goes_on, reached_in, seen}
+use Rattle.cluster_run.proofs.WorldChoices.{goes_on, reached_in, seen}
 use Rattle.cluster_run.proofs.cluster.Cluster.choices.Goals as goal
 
 pub returns-clause-none : goal.returns-clause-none

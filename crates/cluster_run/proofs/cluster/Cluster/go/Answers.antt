@@ -3,7 +3,7 @@ use Rattle.vert_base.specs.declared.message.Event.TheVariants.{Go}
 use Rattle.symple_face.specs.Cluster.{events_left, step}
 use Rattle.cluster_run.specs.Driven.{Driven, world_of}
 use Rattle.cluster_run.specs.Faults.{event_fault}
-use Rattle.cluster_run.proofs.Done.{go_done, ready_there, room_there}
+use Rattle.cluster_run.proofs.PlayedEvents.{go_done, ready_there, room_there}
 use Rattle.cluster_run.proofs.cluster.Cluster.go.Goals as goal
 
 pub invariant_of-self : goal.invariant_of-self

@@ -1,7 +1,7 @@
 use Rattle.std.proofs.Common.{◌≡◌, ◌≤◌, ◌∙◌, length, false, ap, arith}
 use Rattle.std.proofs.lemmas.List.{length-map}
 use Rattle.cluster_run.specs.Driven.{Driven, world_of}
-use Rattle.cluster_run.proofs.Results.{reached_some}
+use Rattle.cluster_run.proofs.ReachedWorldLaws.{reached_some}
 use Rattle.cluster_run.proofs.cluster.Cluster.machines.Goals as goal
 
 pub returns-clause-some : goal.returns-clause-some

@@ -2,7 +2,7 @@ use Rattle.std.proofs.Common.{◌≡◌, ◌∙◌, false, ap, sym}
 use Rattle.cluster_run.specs.Driven.{Driven}
 use Rattle.cluster_run.specs.Ready.{flags_of}
 use Rattle.cluster_run.specs.Faults.{lacking}
-use Rattle.cluster_run.proofs.Chosen.{nothing_lacks, reached_in, seen}
+use Rattle.cluster_run.proofs.WorldChoices.{nothing_lacks, reached_in, seen}
 use Rattle.cluster_run.proofs.cluster.Cluster.missing.Goals as goal
 
 pub returns-clause-none : goal.returns-clause-none

@@ -1,6 +1,6 @@
 use Rattle.std.proofs.Common.{◌≡◌, ◌∙◌, sym}
 use Rattle.symple_face.specs.Cluster.{possible}
-use Rattle.cluster_run.proofs.Chosen.{goes_on, reached_in, seen}
+use Rattle.cluster_run.proofs.WorldChoices.{goes_on, reached_in, seen}
 use Rattle.cluster_run.proofs.cluster.Cluster.possible.Goals as goal
 
 pub returns-clause-played : goal.returns-clause-played

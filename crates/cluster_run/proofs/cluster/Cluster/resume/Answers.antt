@@ -8,9 +8,9 @@ use Rattle.symple_face.specs.Work.{plain_start}
 use Rattle.cluster_run.specs.Driven.{Driven, world_of}
 use Rattle.cluster_run.specs.Ready.{flags_of}
 use mathlib.Core.List.{reverse}
-use Rattle.cluster_run.proofs.Moves.{popped}
+use Rattle.cluster_run.proofs.MachineMoves.{popped}
 use Rattle.cluster_run.proofs.PartLists.{RunsOn, again_reached, begins, first_holds, one_made, rest_holds}
-use Rattle.cluster_run.proofs.Results.{reached_few}
+use Rattle.cluster_run.proofs.ReachedWorldLaws.{reached_few}
 use Rattle.cluster_run.proofs.cluster.Cluster.resume.Goals as goal
 
 pub make_at-requires : goal.make_at-requires

@@ -4,7 +4,7 @@ use Rattle.symple_face.specs.Cluster.{World}
 use Rattle.cluster_run.specs.Driven.{Driven}
 use Rattle.cluster_run.specs.Ready.{flags_of}
 use Rattle.cluster_run.proofs.PartLists.{RunsOn, anew_reached, begins}
-use Rattle.cluster_run.proofs.Results.{reached_few}
+use Rattle.cluster_run.proofs.ReachedWorldLaws.{reached_few}
 use Rattle.cluster_run.proofs.cluster.Cluster.start.Goals as goal
 
 pub invariant_of-result : goal.invariant_of-result

@@ -7,7 +7,7 @@ use Rattle.symple_face.specs.Cluster.{events_left, step}
 use Rattle.cluster_run.specs.declared.fault.EventFault.TheVariants.{NotUnderWay}
 use Rattle.cluster_run.specs.Driven.{Driven, IsReached, world_of}
 use Rattle.cluster_run.specs.Faults.{event_fault}
-use Rattle.cluster_run.proofs.Done.{none_taken, take_done, take_fits, take_within}
+use Rattle.cluster_run.proofs.PlayedEvents.{none_taken, take_done, take_fits, take_within}
 use Rattle.cluster_run.proofs.cluster.Cluster.take.Goals as goal
 
 pub invariant_of-self : goal.invariant_of-self

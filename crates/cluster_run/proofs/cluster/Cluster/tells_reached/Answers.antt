@@ -1,4 +1,4 @@
-use Rattle.cluster_run.proofs.Chosen.{reached_in}
+use Rattle.cluster_run.proofs.WorldChoices.{reached_in}
 use Rattle.cluster_run.proofs.cluster.Cluster.tells_reached.Goals as goal
 
 pub returns : goal.returns

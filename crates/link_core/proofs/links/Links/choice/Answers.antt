@@ -5,7 +5,7 @@ use Rattle.link_core.specs.LinkChoices.{link_choices, wire_choices}
 use Rattle.link_core.specs.LinkRuns.{DrivenLinks, linked_of}
 use Rattle.link_core.specs.Links.{Linked}
 use Rattle.link_core.proofs.LinkOrderLaws.{none_past, nth_free}
-use Rattle.link_core.proofs.LookLaws.{nth_go, nth_wire}
+use Rattle.link_core.proofs.LinkChoicePlaces.{nth_go, nth_wire}
 use Rattle.link_core.proofs.links.Links.choice.Goals as goal
 
 pub returns-in-Ok-clause-played : goal.returns-in-Ok-clause-played

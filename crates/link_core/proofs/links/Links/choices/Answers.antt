@@ -5,7 +5,7 @@ use Rattle.link_core.specs.LinkChoices.{wire_choices}
 use Rattle.link_core.specs.LinkRuns.{DrivenLinks, linked_of}
 use Rattle.link_core.specs.Links.{Linked}
 use Rattle.link_core.proofs.LinkOrderLaws.{counted}
-use Rattle.link_core.proofs.LookLaws.{count_is}
+use Rattle.link_core.proofs.LinkChoicePlaces.{count_is}
 use Rattle.link_core.proofs.links.Links.choices.Goals as goal
 
 pub returns-clause-none : goal.returns-clause-none

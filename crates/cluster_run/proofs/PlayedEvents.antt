@@ -17,9 +17,9 @@ use Rattle.cluster_run.specs.declared.fault.EventFault.TheVariants.{NotUnderWay}
 use Rattle.cluster_run.specs.Driven.{IsReached, world_of}
 use Rattle.cluster_run.specs.Faults.{action_fault, event_fault, go_fault}
 use Rattle.cluster_run.specs.Sends.{CanSend}
-use Rattle.cluster_run.proofs.Moves.{state_at}
-use Rattle.cluster_run.proofs.Results.{reached_few, reached_nearer, reached_sends, reached_takes, steps_on}
-use Rattle.cluster_run.proofs.Sites.{get_one}
+use Rattle.cluster_run.proofs.MachineMoves.{state_at}
+use Rattle.cluster_run.proofs.ReachedWorldLaws.{reached_few, reached_nearer, reached_sends, reached_takes, steps_on}
+use Rattle.cluster_run.proofs.SiteLists.{get_one}
 
 pub record IsDone (work : Work) (sound : State → Type 0) (old new : World) (e : Event) : Type 0 where
   pub free : event_fault old e ≡ None

@@ -11,7 +11,7 @@ use Rattle.symple_face.specs.Cluster.{all_placed}
 use Rattle.symple_face.specs.State.{State}
 use Rattle.symple_face.specs.Work.{Work}
 use Rattle.cluster_run.specs.Sends.{CanSend}
-use Rattle.cluster_run.proofs.Sites.{map_get, map_set, get_one}
+use Rattle.cluster_run.proofs.SiteLists.{map_get, map_set, get_one}
 
 -- what is popped off the end of a list is the first of its reverse
 pub popped : {X : Type 0} → (xs rest : List X) (x : X) → xs ≡ rest ++ x ∷ [] → reverse xs ≡ x ∷ reverse rest

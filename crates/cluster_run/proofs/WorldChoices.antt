@@ -22,7 +22,7 @@ use Rattle.cluster_run.specs.declared.fault.Missing.{Missing}
 use Rattle.cluster_run.specs.Faults.{action_fault, event_fault, fault_of, go_fault, lacking, lacks}
 use Rattle.cluster_run.proofs.ChoicesAlike.{are_choices, least_is_missing}
 use Rattle.cluster_run.proofs.ReachedWorlds.{reached_ties}
-use Rattle.cluster_run.proofs.Results.{reached_moves, reached_nearer, reached_still, steps_on}
+use Rattle.cluster_run.proofs.ReachedWorldLaws.{reached_moves, reached_nearer, reached_still, steps_on}
 
 -- ---- the first of a list
 none_there : (es : List Event) → ((e : Event) → Contains es e → ⊥) → length es ≡ 0

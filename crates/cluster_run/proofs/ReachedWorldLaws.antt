@@ -28,10 +28,10 @@ use Rattle.symple_face.specs.Work.{Work}
 use Rattle.cluster_run.specs.Driven.{IsReached}
 use Rattle.cluster_run.specs.Sends.{CanSend}
 use Rattle.cluster_run.proofs.GoWorlds as go
-use Rattle.cluster_run.proofs.Letters.{all_placed_length}
+use Rattle.cluster_run.proofs.LetterLists.{all_placed_length}
 use Rattle.cluster_run.proofs.PartsAt.{parts_few, parts_some}
 use Rattle.cluster_run.proofs.ReachedWorlds.{IsTied, reached_ties}
-use Rattle.cluster_run.proofs.Sites.{map_get_back}
+use Rattle.cluster_run.proofs.SiteLists.{map_get_back}
 use Rattle.cluster_run.proofs.TakeWorlds as take
 use Rattle.cluster_run.proofs.Worlds.{goes_ready}
 use Rattle.state_laws.proofs.Options.{some_of}

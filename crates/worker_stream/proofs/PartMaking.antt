@@ -14,7 +14,7 @@ use Rattle.worker_stream.specs.declared.part_numbers.Frame.{Frame}
 use Rattle.worker_stream.specs.Answers.{AreDegrees, AreEdges, IsFrame}
 use Rattle.worker_stream.specs.Numbers.{IsFrameOf}
 use Rattle.worker_stream.specs.PartFiles.{IsSound, PartFile, part_in}
-use Rattle.worker_stream.proofs.OrderLaws.{IsInPlace, in_place}
+use Rattle.worker_stream.proofs.EdgeOrderLaws.{IsInPlace, in_place}
 use Rattle.worker_stream.proofs.SoundLaws.{degrees_form, machine_here, of_file, of_frame, push_below, push_form, push_itself, push_of_is, push_to_is, refresh_of_is, refresh_to_is, scan_below, scan_form, scan_itself, scan_place, sound_from_forms}
 
 -- parts that are alike in each field
