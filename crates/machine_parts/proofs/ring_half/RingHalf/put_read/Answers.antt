@@ -2,8 +2,9 @@
 use Rattle.std.proofs.Common.{◌<◌, [], length, set, ap, ◌∙◌, arith}
 use Rattle.dep_layout.proofs.WordLaws.{length-words_in}
 use Rattle.dep_layout.specs.Judgement.{words_in}
+use Rattle.dep_layout.proofs.LoopLaws.{state_made}
 use Rattle.machine_parts.specs.Flat.{StateTable}
-use Rattle.machine_parts.proofs.FlatLaws.{put_laid, put_still, state_put, state_with, states_count}
+use Rattle.machine_parts.proofs.FlatLaws.{put_laid, put_still, state_put, states_count}
 use Rattle.machine_parts.proofs.ring_half.RingHalf.put_read.Goals as goal
 
 pub index_mut-requires : goal.index_mut-requires
@@ -58,5 +59,5 @@ returns c =
     state_put t r.width r.marks.items r.words c.self.view_is c.self.invariant.0 c.args.place c.args.mark words
     c.lay_words.new.words c.lay_words.ensures
     ∙ ap (λ w. let u : StateTable = record t {
-      states = set t.states c.args.place (state_with c.args.mark (words_in w c.args.bytes.now));
+      states = set t.states c.args.place (state_made c.args.mark (words_in w c.args.bytes.now));
     } in u) (ap (λ (u : StateTable). u.width) c.self.view_is)
