@@ -14,14 +14,17 @@ mod worked;
 
 use crate::top::symple;
 use command_steps::Status;
+use demo_program::demo_program;
 use lying_site::Lying;
 use machine_core::Core;
 use outside::{DripSink, FirmSink, MemShelf, MemSink, MemSource, Shelf};
+use program_reader::read_program;
 use sample_programs::{DIAMOND, edited, graph_named, program_named};
 use std::alloc::{AllocError, Global};
 use std::process::Abort;
 use std::test::Fail;
 use symple_face::Restart;
+use vert_tree::print_program;
 
 /// The words of a line, which spaces part.
 fn words(alloc: Global, line: &str) -> Result<Vec<String>, AllocError> {
@@ -319,6 +322,24 @@ fn documents_are_true(rt: HostRuntime) -> Result<(), Fail> {
 #[test]
 fn demonstrations(rt: HostRuntime) -> Result<(), Fail> {
     check_rows(&rt, rt.alloc(), demos::DEMOS)
+}
+
+/// The demonstration runs the example of breadth-first search.
+#[test]
+fn demonstrated_program(rt: HostRuntime) -> Result<(), Fail> {
+    let alloc = rt.alloc();
+    let example = text_of(documents::FILES, "examples/bfs.vp");
+    let (Ok(wanted), Ok(typed)) = (read_program(alloc, example.as_bytes()), demo_program(alloc))
+    else {
+        return Err(Fail::from("no program"));
+    };
+    let wanted = print_program(alloc, &wanted.program);
+    let told = print_program(alloc, &typed.program);
+    let (Ok(wanted), Ok(told)) = (wanted, told) else {
+        return Err(Fail::from("no text"));
+    };
+    assert_eq!(rt; told.as_str(), wanted.as_str());
+    Ok(())
 }
 
 /// A sink that fails at one put leaves a first part, at each put until the run ends well; one that takes
