@@ -30,7 +30,8 @@
 -- what a machine sent by its names, which the table of actions gives at the spot where it stood
 -- (SendLaws, GoMoves). EventMoves: an event that was played. LinkChoicePlaces, WireChoiceLaws: the
 -- choices by their places. Texts: StrippedWords, PlainLines, and ReadEvents, by which the events
--- read so far are the first ones of every run that the text says.
+-- read so far are the first ones of every run that the text says. LinkTextLaws: a text stands for one run
+-- (`tells_one`), or has one fault (`one_link_fault`).
 pub mod StrippedWords
 pub mod PlainLines
 pub mod ReadEvents
@@ -43,6 +44,7 @@ pub mod TrafficLaws
 pub mod GiftNames
 pub mod LinkHolds
 pub mod LinkReached
+pub mod LinkTextLaws
 pub mod LinkChoiceLaws
 pub mod DeliveredLaws
 pub mod GoMoves

@@ -1,14 +1,17 @@
 ghost use Rattle.link_core.specs.LinkChoosers.{DrawnLinksArePossible, LinkRunsAreComplete, LinkRunsAreOne, SomeLinkIsDrawn};
-ghost use Rattle.link_core.specs.LinkLaws.{LinkRecordSays, LinksHaveOneText, LinksHaveText};
+ghost use Rattle.link_core.specs.LinkLaws.{LinkRecordSays, LinksHaveOneFault, LinksHaveOneText, LinksHaveText, LinksStandForOne};
 ghost use Rattle.link_core.specs.LinkOrder.{EventsAreOverPlain, LinkChoicesArePossible, LinksAreReached, LinkStepsReach, MessagesAreDeliveredOnce, SomeLinkMoves};
 
 use symple_face::Site;
 
-/// A run over links has one text, if it isn't too long, and a recorder holds it. It does nothing.
+/// A text of form 3 stands for one run over links, or has one fault. Such a run has one text, if it isn't too
+/// long, and a recorder holds it. It does nothing.
 pub fn links_have_one_text()
+    ensures pair { LinksStandForOne }
     ensures text { LinksHaveText }
     ensures alone { LinksHaveOneText }
     ensures recorded { LinkRecordSays }
+    ensures fault { LinksHaveOneFault }
 {}
 
 /// The laws of runs over links by machines of a kind, which its clauses say: possible events are over their

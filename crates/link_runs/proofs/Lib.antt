@@ -14,8 +14,8 @@
 --
 -- The chain. LinkedLaws: what an event puts is by definition (`link_round_is`), and so are
 -- recordings and followed texts as wholes (`lossy_runs`, `linked_follows`). WantLaws: memory may be
--- wanting before the first event. OneLaws: what a seed draws goes one way (`one_drawn`), and a text
--- of form 3 tells one run or has one fault (`tells_one`, `one_bad_line`). OverPlain: where no line
+-- wanting before the first event. OneLaws: what a seed draws goes one way (`one_drawn`); that a
+-- text of form 3 tells one run or has one fault is LinkTextLaws of link_core. OverPlain: where no line
 -- of an event is asked for, what is put is what the plain part puts (`recorded_over_plain`,
 -- `followed_over_plain`). SourceLinkLaws: of cores it is what the source's run tells.
 pub mod FarLaws
