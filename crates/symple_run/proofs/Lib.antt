@@ -26,7 +26,9 @@
 -- (`course_told`, in ImagedCourses) and tell its images (`images_told`, in ImagesTold), that each is
 -- read as a start of the run (`every_stored_image_is_read`, in StoredLaws, over StartLaws), how far a
 -- run comes that was cut off (`came_to`, in InterruptedLaws). HeadLaws takes the status, the note and
--- the answer of `free` from what the order leaves; ResultLaws hands facts of results on.
+-- the answer of `free` from what the order leaves; ResultLaws hands facts of results on. SpelledEvents: each event
+-- that is possible has a name by the plan, with numbers that fit, so a text can tell it (`events_told`, and over
+-- links `links_told`); ReplayLaws and LinkReplayLaws rest on it.
 pub mod ContinuedLaws
 pub mod CoreRuns
 pub mod CoreTasks
@@ -54,5 +56,6 @@ pub mod RowsTold
 pub mod SourceTasks
 pub mod StartLaws
 pub mod StoredLaws
+pub mod SpelledEvents
 pub mod TaskLaws
 pub mod TextTasks

@@ -23,11 +23,13 @@ use Rattle.machine_runs.proofs.FirstLaws.{first_same}
 use Rattle.machine_runs.specs.PlainPlays.{IsFirstWorld}
 use Rattle.machine_runs.specs.Tellings.{followed_as, lack_of, recorded_as, told_end, told_event, unless_lacking, unless_refused}
 use Rattle.symple_face.specs.Cluster.{World, finished}
+use Rattle.symple_face.specs.Lawful.{IsLawful}
 use Rattle.symple_face.specs.State.{State}
 use Rattle.symple_face.specs.Work.{Work}
 use Rattle.symple_run.specs.Followed.{ByEvents, ByLinkText, ByLinks, IsFollowed, LinksAreFaulty, TellsLinks}
 use Rattle.symple_run.specs.Replays.{GainsTheSame, LinkReplaysGainTheSame, kept_bytes}
 use Rattle.symple_run.proofs.CoreRuns.{ChosenWell}
+use Rattle.symple_run.proofs.SpelledEvents.{links_told}
 use Rattle.symple_run.proofs.FormTasks.{no_link_fault, no_other_header}
 use Rattle.symple_run.proofs.LinkedCores.{links_begin}
 use Rattle.symple_words.specs.declared.line.Lines.{Lines}
@@ -122,9 +124,9 @@ module _ (work : Work) (sound : State → Type 0) (laws : ChosenWell work sound)
           (append_assoc added (e ∷ []) es) (more (ltb-false _ _ is) kept)
 
 -- ---- the law
-module _ (work : Work) (sound : State → Type 0) (laws : ChosenWell work sound) (play : Play) (seed : ℕ)
-    (name bytes : List ℕ) (course other : Course) (is : IsLossyPlay work play seed name course)
-    (each : AllByRecursion IsLinkEvent is.events) (kept : kept_bytes course ≡ Some bytes) where
+module _ (work : Work) (sound : State → Type 0) (lawful : IsLawful work sound) (laws : ChosenWell work sound)
+    (play : Play) (seed : ℕ) (name bytes : List ℕ) (course other : Course)
+    (is : IsLossyPlay work play seed name course) (kept : kept_bytes course ≡ Some bytes) where
   abbrev begun : Linked
   begun = linked_anew is.first
 
@@ -133,6 +135,12 @@ module _ (work : Work) (sound : State → Type 0) (laws : ChosenWell work sound)
 
   r : IsLinkReached work sound begun
   r = links_begin work sound play is.first is.is_first
+
+  can : links_possible work begun is.events ≡ true
+  can = laws.linked begun (generator_of seed) is.events r is.drawn.0
+
+  each : AllByRecursion IsLinkEvent is.events
+  each = links_told work sound lawful begun is.events r can
 
   keeps : kept_bytes recorded ≡ Some bytes
   keeps = ap kept_bytes (sym is.course_is) ∙ kept
@@ -152,7 +160,7 @@ module _ (work : Work) (sound : State → Type 0) (laws : ChosenWell work sound)
   all : KeptAll (course_text recorded) bytes play.machines is.events
       (followed_as (by_links work play.lines) begun (listed_links 1 is.events))
   all = kept_all work sound laws play.lines name play.machines bytes [] begun is.events 1 r
-      (header_short play.machines is.few.1) (laws.linked begun (generator_of seed) is.events r is.drawn.0) over keeps
+      (header_short play.machines is.few.1) can over keeps
 
   says : SaysLinks bytes play.machines is.events
   says = record {
@@ -184,7 +192,7 @@ module _ (work : Work) (sound : State → Type 0) (laws : ChosenWell work sound)
   by_text (ByEvents some way) = absurd (some (no_other_header bytes play.machines is.events says))
   by_text (ByLinks none way) = by_links_text way
 
-pub link_replays_gain_the_same : (work : Work) (sound : State → Type 0) → ChosenWell work sound →
-    LinkReplaysGainTheSame work
-link_replays_gain_the_same work sound laws play seed name bytes course other is each kept =
-    by_text work sound laws play seed name bytes course other is each kept
+pub link_replays_gain_the_same : (work : Work) (sound : State → Type 0) → IsLawful work sound →
+    ChosenWell work sound → LinkReplaysGainTheSame work
+link_replays_gain_the_same work sound lawful laws play seed name bytes course other is kept =
+    by_text work sound lawful laws play seed name bytes course other is kept

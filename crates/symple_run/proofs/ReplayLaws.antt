@@ -3,6 +3,8 @@ use Rattle.std.proofs.Common.{◌≡◌, ℕ, ◌+◌, ◌≤◌, Bool, true, fa
 use Rattle.std.specs.Prelude.{if◌then◌else◌, option_map}
 use Rattle.std.specs.List.{AllByRecursion}
 use Rattle.std.proofs.lemmas.Bool.{and_parts, ltb-false}
+use Rattle.chunk_split.specs.Bounds.{costs_of}
+use Rattle.chunk_split.proofs.EndLaws.{ends_length}
 use Rattle.cluster_run.specs.declared.fault.EventFault.{EventFault}
 use Rattle.cluster_run.specs.declared.fault.Missing.{Missing}
 use Rattle.cluster_run.specs.Driven.{IsReached}
@@ -20,6 +22,7 @@ use Rattle.delivery_log.proofs.PairLaws.{stands_for_one}
 use Rattle.delivery_log.proofs.RecordLaws.{begun_small}
 use Rattle.schedule_laws.specs.Layout.{round_lines}
 use Rattle.symple_face.specs.Cluster.{World, after, all_possible, finished, possible, step}
+use Rattle.symple_face.specs.Lawful.{IsLawful}
 use Rattle.symple_face.specs.State.{State}
 use Rattle.symple_face.specs.Work.{Work}
 use Rattle.symple_run.specs.Followed.{ByEvents, ByLinks, ByText, IsFaulty, IsFollowed, IsFollowedPlay, Tells}
@@ -28,6 +31,7 @@ use Rattle.symple_run.specs.Recorded.{IsDrawnPlay}
 use Rattle.symple_run.specs.Replays.{GainsTheSame, ReplaysGainTheSame, kept_bytes}
 use Rattle.machine_runs.specs.Tellings.{by_worlds, followed, lack_of, recorded, told_end, told_event, unless_lacking, unless_refused, why_of}
 use Rattle.symple_run.proofs.CoreRuns.{ChosenWell, first_reached}
+use Rattle.symple_run.proofs.SpelledEvents.{events_told}
 use Rattle.machine_runs.proofs.FirstLaws.{first_same}
 use Rattle.symple_run.proofs.TextTasks.{no_fault, one_form}
 use Rattle.symple_words.specs.declared.line.Lines.{Lines}
@@ -95,16 +99,26 @@ module _ (work : Work) (sound : State → Type 0) (laws : ChosenWell work sound)
       (ltb-false _ _ short) c.1 over) refl kept)
 
 -- ---- the law
-module _ (work : Work) (sound : State → Type 0) (laws : ChosenWell work sound) (play : Play) (seed : ℕ)
-    (name bytes : List ℕ) (course other : Course) (few : AreMachines play.machines)
-    (is : IsDrawnPlay work play seed name course) (each : AllByRecursion IsEvent is.events)
-    (kept : kept_bytes course ≡ Some bytes) where
+module _ (work : Work) (sound : State → Type 0) (lawful : IsLawful work sound) (laws : ChosenWell work sound)
+    (play : Play) (seed : ℕ) (name bytes : List ℕ) (course other : Course)
+    (is : IsDrawnPlay work play seed name course) (kept : kept_bytes course ≡ Some bytes) where
   r : IsReached work sound is.first
   r = first_reached work sound play.program play.graph play.machines play.draws is.first is.is_first
+
+  few : AreMachines play.machines
+  few =
+      let graph = play.graph in
+      let run = is.is_first.of_graph in
+      let count : length run.one.ends ≡ play.machines = ap length run.ends_are
+      ∙ ends_length play.machines 0 (costs_of play.machines graph.vertices graph.list) in
+      (subst (λ n. 1 ≤ n) count run.one.chunks.0, subst (λ n. n ≤ 64) count run.one.chunks.1)
 
   complete : (all_possible work is.first is.events ≡ true) × (finished (after work is.first is.events) ≡ true)
   complete = and_parts (all_possible work is.first is.events) (finished (after work is.first is.events))
       (laws.drawn is.first (generator_of seed) is.events r is.drawn)
+
+  each : AllByRecursion IsEvent is.events
+  each = events_told work sound lawful laws.reach is.first is.events r complete.0
 
   all : KeptAll (course_text (recorded (by_worlds work play.lines) name play.machines [] is.first is.events)) bytes
       play.machines is.events (followed (by_worlds work play.lines) Roundless 0 1 is.first is.events)
@@ -145,6 +159,7 @@ module _ (work : Work) (sound : State → Type 0) (laws : ChosenWell work sound)
   by_text (ByEvents some way) = by_events way
   by_text (ByLinks none way) = absurd (no_fault bytes play.machines is.events says Header (λ e. cc) none)
 
-pub replays_gain_the_same : (work : Work) (sound : State → Type 0) → ChosenWell work sound → ReplaysGainTheSame work
-replays_gain_the_same work sound laws play seed name bytes course other few is each kept =
-    by_text work sound laws play seed name bytes course other few is each kept
+pub replays_gain_the_same : (work : Work) (sound : State → Type 0) → IsLawful work sound → ChosenWell work sound →
+    ReplaysGainTheSame work
+replays_gain_the_same work sound lawful laws play seed name bytes course other is kept =
+    by_text work sound lawful laws play seed name bytes course other is kept

@@ -128,40 +128,44 @@ returns-in-Err-clause-quiet g c =
     c.in-Err.ensures.order
 
 pub returns-in-Ok-clause-replays : goal.returns-in-Ok-clause-replays
-returns-in-Ok-clause-replays g c = replays_gain_the_same g.S.Site.work g.S.Site.sound (record {
-  plain = c.chosen_runs_are_complete.ensures.plain;
-  drawn = c.chosen_runs_are_complete.ensures.drawn;
-  linked = c.drawn_links_are_possible.ensures.possible;
-  reach = c.worlds_are_in_order.ensures.reach;
-  goes = c.choices_are_in_order.ensures.unfinished;
-})
+returns-in-Ok-clause-replays g c =
+    replays_gain_the_same g.S.Site.work g.S.Site.sound g.met.S.Site.lawful (record {
+      plain = c.chosen_runs_are_complete.ensures.plain;
+      drawn = c.chosen_runs_are_complete.ensures.drawn;
+      linked = c.drawn_links_are_possible.ensures.possible;
+      reach = c.worlds_are_in_order.ensures.reach;
+      goes = c.choices_are_in_order.ensures.unfinished;
+    })
 
 pub returns-in-Err-clause-replays : goal.returns-in-Err-clause-replays
-returns-in-Err-clause-replays g c = replays_gain_the_same g.S.Site.work g.S.Site.sound (record {
-  plain = c.chosen_runs_are_complete.ensures.plain;
-  drawn = c.chosen_runs_are_complete.ensures.drawn;
-  linked = c.drawn_links_are_possible.ensures.possible;
-  reach = c.worlds_are_in_order.ensures.reach;
-  goes = c.choices_are_in_order.ensures.unfinished;
-})
+returns-in-Err-clause-replays g c =
+    replays_gain_the_same g.S.Site.work g.S.Site.sound g.met.S.Site.lawful (record {
+      plain = c.chosen_runs_are_complete.ensures.plain;
+      drawn = c.chosen_runs_are_complete.ensures.drawn;
+      linked = c.drawn_links_are_possible.ensures.possible;
+      reach = c.worlds_are_in_order.ensures.reach;
+      goes = c.choices_are_in_order.ensures.unfinished;
+    })
 
 pub returns-in-Ok-clause-links_replay : goal.returns-in-Ok-clause-links_replay
-returns-in-Ok-clause-links_replay g c = link_replays_gain_the_same g.S.Site.work g.S.Site.sound (record {
-  plain = c.chosen_runs_are_complete.ensures.plain;
-  drawn = c.chosen_runs_are_complete.ensures.drawn;
-  linked = c.drawn_links_are_possible.ensures.possible;
-  reach = c.worlds_are_in_order.ensures.reach;
-  goes = c.choices_are_in_order.ensures.unfinished;
-})
+returns-in-Ok-clause-links_replay g c =
+    link_replays_gain_the_same g.S.Site.work g.S.Site.sound g.met.S.Site.lawful (record {
+      plain = c.chosen_runs_are_complete.ensures.plain;
+      drawn = c.chosen_runs_are_complete.ensures.drawn;
+      linked = c.drawn_links_are_possible.ensures.possible;
+      reach = c.worlds_are_in_order.ensures.reach;
+      goes = c.choices_are_in_order.ensures.unfinished;
+    })
 
 pub returns-in-Err-clause-links_replay : goal.returns-in-Err-clause-links_replay
-returns-in-Err-clause-links_replay g c = link_replays_gain_the_same g.S.Site.work g.S.Site.sound (record {
-  plain = c.chosen_runs_are_complete.ensures.plain;
-  drawn = c.chosen_runs_are_complete.ensures.drawn;
-  linked = c.drawn_links_are_possible.ensures.possible;
-  reach = c.worlds_are_in_order.ensures.reach;
-  goes = c.choices_are_in_order.ensures.unfinished;
-})
+returns-in-Err-clause-links_replay g c =
+    link_replays_gain_the_same g.S.Site.work g.S.Site.sound g.met.S.Site.lawful (record {
+      plain = c.chosen_runs_are_complete.ensures.plain;
+      drawn = c.chosen_runs_are_complete.ensures.drawn;
+      linked = c.drawn_links_are_possible.ensures.possible;
+      reach = c.worlds_are_in_order.ensures.reach;
+      goes = c.choices_are_in_order.ensures.unfinished;
+    })
 
 pub returns-in-Ok-clause-images : goal.returns-in-Ok-clause-images
 returns-in-Ok-clause-images g c =
