@@ -24,3 +24,4 @@ pub mod OneLaws
 pub mod OverPlain
 pub mod SourceLinkLaws
 pub mod WantLaws
+pub mod WritingLaws

@@ -2,3 +2,4 @@ pub mod LinkedEvents
 pub mod LinkedPlays
 pub mod LinkTellings
 pub mod SourceLinks
+pub mod Writing

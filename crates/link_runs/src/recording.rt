@@ -12,6 +12,7 @@ ghost use Rattle.link_core.specs.LinkRecords.{RecordsLinks};
 ghost use Rattle.link_core.specs.LinkTexts.{links_text};
 ghost use Rattle.link_runs.specs.LinkedPlays.{Goes, IsDrawnFar, IsLossyPlay};
 ghost use Rattle.link_runs.specs.LinkTellings.{by_links};
+ghost use Rattle.link_runs.specs.Writing.{ChangesByWriting};
 ghost use Rattle.machine_runs.specs.RecordWalks.{HasRecorded, StopsRecording};
 ghost use Rattle.rand_pcg.specs.Lcg.{Lcg};
 ghost use Rattle.symple_face.specs.Cluster.{finished};
@@ -54,6 +55,7 @@ pub fn record_lossy<S: Site, H: Shelf, O: Sink>(
         (outside (shelf_state H.files H.loads H.stores shelf.new)
         (sink_state O.held O.faults O.spare out.new) input) (fault_after result) }
     ensures later { H.loads shelf.old ≤ H.loads shelf.new }
+    ensures written { ChangesByWriting (H.files shelf.old) (H.files shelf.new) result }
 {
     let (typed, edges) = read;
     let mut links = started_links::<S>(alloc, typed, edges, machines, job.draws)?;

@@ -16,6 +16,7 @@ use Rattle.order_free.specs.Free.{freedom_of, is_free}
 use Rattle.order_laws.specs.OrderFree.{RunsAlike}
 use Rattle.outside.specs.declared.sink.SinkFault.{SinkFault}
 use Rattle.outside.specs.Bytes.{gained}
+use Rattle.outside.specs.Files.{File}
 use Rattle.program_reader.specs.Accepted.{Says}
 use Rattle.symple_run.specs.Headline.{AlikeAtAllCounts, FreeAnswer, IsComplete, status_after}
 use Rattle.symple_run.specs.SourceTexts.{job_of}
@@ -40,6 +41,13 @@ completes courses are texts w after outcome result leaves is = λ files expected
     by_outcome result outcome expected is
     (comes_or_wants courses are texts w after outcome leaves files expected told comes nothing.no_load nothing.no_store
     nothing.no_take nothing.no_put)
+
+-- a write that failed gives its status
+pub written_by : (old new : Option (List File)) (fault : note.Fault) (result : Status) →
+    (fault ≡ note.NoWrite) ⊎ (new ≡ old) → result ≡ note.status_of fault →
+    (result ≡ status.Done) ⊎ ((result ≡ status.WriteFault) ⊎ (new ≡ old))
+written_by old new fault result (inl blamed) is = inr (inl (is ∙ ap note.status_of blamed))
+written_by old new fault result (inr same) is = inr (inr same)
 
 -- ---- notes
 

@@ -7,6 +7,7 @@ pub mod Interrupted
 pub mod KeptImages
 pub mod Played
 pub mod Recorded
+pub mod RecordLines
 pub mod RecordWalks
 pub mod Replays
 pub mod Resumes

@@ -12,6 +12,7 @@ ghost use Rattle.delivery_log.specs.Records.{Records};
 ghost use Rattle.delivery_log.specs.ScheduleTexts.{schedule_text};
 ghost use Rattle.delivery_log.specs.declared.form.Form.TheVariants.{Roundless};
 ghost use Rattle.edge_reader.specs.Gives.{graph_of_edges};
+ghost use Rattle.link_runs.specs.Writing.{ChangesByWriting};
 ghost use Rattle.rand_pcg.specs.Lcg.{Lcg};
 ghost use Rattle.symple_face.specs.Cluster.{finished};
 ghost use Rattle.symple_face.specs.Work.{Work};
@@ -53,6 +54,7 @@ pub(crate) fn record<S: Site, H: Shelf, O: Sink>(
         (IsPlayed S.work) (record_order (job_view job.now) schedule.now machines seed)
         shelf.old shelf.new out.old out.new result }
     ensures later { H.loads shelf.old ≤ H.loads shelf.new }
+    ensures written { ChangesByWriting (H.files shelf.old) (H.files shelf.new) result }
 {
     let read = load_both(alloc, shelf, &job.program, &job.form, &job.graph)?;
     play_drawn::<S, H, O>(alloc, job, schedule, machines, seed, read, shelf, out)
@@ -74,6 +76,7 @@ pub(crate) fn record_over_links<S: Site, H: Shelf, O: Sink>(
         (IsPlayed S.work) (lossy_order (job_view job.now) schedule.now machines seed)
         shelf.old shelf.new out.old out.new result }
     ensures later { H.loads shelf.old ≤ H.loads shelf.new }
+    ensures written { ChangesByWriting (H.files shelf.old) (H.files shelf.new) result }
 {
     let read = load_both(alloc, shelf, &job.program, &job.form, &job.graph)?;
     record_lossy::<S, H, O>(alloc, job, schedule, machines, seed, read, shelf, out)
@@ -96,6 +99,7 @@ fn play_drawn<S: Site, H: Shelf, O: Sink>(
         (graph_of_edges read.1)) seed schedule.now) follows)
         shelf.old shelf.new out.old out.new result }
     ensures later { H.loads shelf.old ≤ H.loads shelf.new }
+    ensures written { ChangesByWriting (H.files shelf.old) (H.files shelf.new) result }
 {
     let (typed, edges) = read;
     let mut cluster = started::<S>(alloc, typed, edges, machines, job.draws)?;

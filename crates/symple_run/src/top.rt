@@ -1,18 +1,21 @@
-ghost use Rattle.std.specs.Prelude.{◌≡◌, ◌≤◌, [], None, false, option_map};
+ghost use Rattle.std.specs.Prelude.{◌≡◌, ◌≤◌, ◌⊎◌, [], None, false, option_map, true};
 ghost use Rattle.std.specs.String.{string_bytes};
 ghost use Rattle.command_steps.specs.Commands.{asked, image_order, is_worker, names_stored, order_of, play_of, resume_order, run_order, takes_input};
 ghost use Rattle.command_steps.specs.Leaves.{Leaves};
 ghost use Rattle.command_steps.specs.Orders.{Plain};
 ghost use Rattle.command_steps.specs.Quiet.{KeepsOthers};
+ghost use Rattle.command_steps.specs.declared.status.Status.TheVariants.{Done, WriteFault};
 ghost use Rattle.command_steps.specs.States.{input_state, outside, shelf_state, sink_state};
 ghost use Rattle.command_steps.specs.Walks.{Performs, fault_after};
 ghost use Rattle.edge_reader.specs.Gives.{graph_of_edges};
 ghost use Rattle.link_core.specs.LinkOrder.{MessagesAreDeliveredOnce, SomeLinkMoves};
+ghost use Rattle.link_runs.specs.Writing.{ChangesByWriting};
 ghost use Rattle.part_runs.specs.CoreServing.{CompleteRunsAreServed};
 ghost use Rattle.symple_run.specs.Continued.{EveryStopGoesOn};
 ghost use Rattle.symple_run.specs.Headline.{Answers, IsComplete, TellsFreedom};
 ghost use Rattle.symple_run.specs.Interrupted.{TellsImages};
 ghost use Rattle.symple_run.specs.Played.{IsPlayed};
+ghost use Rattle.symple_run.specs.RecordLines.{is_record, records};
 ghost use Rattle.symple_run.specs.Replays.{LinkReplaysGainTheSame, ReplaysGainTheSame};
 ghost use Rattle.symple_run.specs.RunWalks.{DoesTask};
 ghost use Rattle.symple_run.specs.SourceRuns.{IsSourceRun};
@@ -177,6 +180,7 @@ fn record_line<S: Site, H: Shelf, O: Sink>(
         (IsPlayed S.work) (asked (RecordOf (job_view job.now) schedule.now machines seed lossy))
         shelf.old shelf.new out.old out.new result }
     ensures later { H.loads shelf.old ≤ H.loads shelf.new }
+    ensures written { ChangesByWriting (H.files shelf.old) (H.files shelf.new) result }
 {
     if lossy {
         return record_over_links::<S, H, O>(alloc, job, schedule, machines, seed, shelf, out);
@@ -201,6 +205,8 @@ fn perform<S: Restart, H: Shelf, I: Source, O: Sink>(
         (fault_after result) }
     ensures input { is_worker (line_view line.now) ≡ false → input.new ≡ input.old }
     ensures later { H.loads shelf.old ≤ H.loads shelf.new }
+    ensures written { is_record (line_view line.now) ≡ true →
+        ChangesByWriting (H.files shelf.old) (H.files shelf.new) result }
 {
     match line {
         Line::RunLine {
@@ -262,6 +268,8 @@ fn obey<S: Restart, H: Shelf, I: Source, O: Sink>(
         (fault_after result) }
     ensures input { takes_input (words_of words.now) ≡ false → input.new ≡ input.old }
     ensures later { H.loads shelf.old ≤ H.loads shelf.new }
+    ensures written { records (words_of words.now) ≡ true →
+        ChangesByWriting (H.files shelf.old) (H.files shelf.new) result }
 {
     let line = read_words(alloc, words)?;
     perform::<S, H, I, O>(alloc, &line, shelf, input, out)
@@ -362,6 +370,10 @@ pub fn symple<S: Restart, H: Shelf, I: Source, O: Sink, N: Sink>(
         (H.files shelf.new) }
     ensures quiet { names_stored (words_of words.now) ≡ []
         → (H.files shelf.new ≡ H.files shelf.old) × (H.stores shelf.new ≡ H.stores shelf.old) }
+
+    // And `record` changes one only where all is done, or a write failed.
+    ensures written { records (words_of words.now) ≡ true → (result ≡ Done)
+        ⊎ ((result ≡ WriteFault) ⊎ (H.files shelf.new ≡ H.files shelf.old)) }
     ensures input { takes_input (words_of words.now) ≡ false → input.new ≡ input.old }
     ensures loads { H.loads shelf.old ≤ H.loads shelf.new }
 {

@@ -1,4 +1,4 @@
-use Rattle.std.proofs.Common.{◌∙◌, Err, Ok, inl, subst}
+use Rattle.std.proofs.Common.{◌∙◌, Err, Ok, inl, inr, refl, subst}
 use Rattle.std.proofs.lemmas.Result.{err_from_is_err_and}
 use Rattle.command_steps.specs.Commands.{play_of}
 use Rattle.delivery_log.specs.Choosers.{generator_of}
@@ -8,6 +8,7 @@ use Rattle.link_core.specs.LinkTexts.{links_text}
 use Rattle.link_runs.specs.LinkedPlays.{IsDrawnFar}
 use Rattle.link_runs.specs.LinkTellings.{by_links}
 use Rattle.link_runs.proofs.LinkedLaws.{lossy_runs}
+use Rattle.link_runs.proofs.WritingLaws.{store_written}
 use Rattle.machine_runs.proofs.RecordLaws.{kept_put, kept_unput, unkept}
 use Rattle.command_steps.specs.States.{sink_state}
 use Rattle.command_steps.specs.Walks.{HandsOn}
@@ -77,3 +78,23 @@ returns-clause-order g c =
     (sink_state g.O.Sink.held g.O.Sink.faults g.O.Sink.spare c.record_events.new.out)
     (sink_state g.O.Sink.held g.O.Sink.faults g.O.Sink.spare c.put_table.new.out) (Ok tt))
     c.cluster.ensures.world c.in_ok-put_table.ensures))
+
+pub returns-in_err-links-clause-written : goal.returns-in_err-links-clause-written
+returns-in_err-links-clause-written g c =
+    let p = err_from_is_err_and c.from_residual.result c.from_residual.ensures.1 in
+    rw p.1 (inr refl)
+
+pub returns-in_err-recorder-clause-written : goal.returns-in_err-recorder-clause-written
+returns-in_err-recorder-clause-written g c =
+    let p = err_from_is_err_and c.from_residual-in_err-recorder.result c.from_residual-in_err-recorder.ensures.1 in
+    rw p.1 (inr refl)
+
+pub returns-in_err-store_file-clause-written : goal.returns-in_err-store_file-clause-written
+returns-in_err-store_file-clause-written g c =
+    let p = err_from_is_err_and c.from_residual-in_err-store_file.result c.from_residual-in_err-store_file.ensures.1 in
+    rw (p.1, p.2) (store_written _ _ _ _ c.in_err-store_file.ensures.stored)
+
+pub returns-in_err-put_table-clause-written : goal.returns-in_err-put_table-clause-written
+returns-in_err-put_table-clause-written g c =
+    let p = err_from_is_err_and c.from_residual-in_err-put_table.result c.from_residual-in_err-put_table.ensures.1 in
+    rw (p.1, p.2) (inl refl)

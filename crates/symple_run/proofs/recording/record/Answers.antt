@@ -1,13 +1,16 @@
-use Rattle.std.proofs.Common.{List, ℕ, subst}
+use Rattle.std.proofs.Common.{List, Option, ap, inr, subst, ℕ}
 use Rattle.std.proofs.lemmas.Result.{err_from_is_err_and}
 use Rattle.command_steps.specs.Commands.{play_of}
 use Rattle.command_steps.specs.Faults.{fault_of}
 use Rattle.command_steps.specs.Orders.{Drawn, Order, Runs, follows}
-use Rattle.command_steps.specs.States.{shelf_state, sink_state}
+use Rattle.command_steps.specs.States.{Kept, shelf_state, sink_state}
 use Rattle.command_steps.specs.Walks.{HasBoth, NoBoth}
 use Rattle.command_steps.proofs.WalkLaws.{both_go, both_stop}
 use Rattle.edge_reader.specs.EdgeList.{Graph}
 use Rattle.edge_reader.specs.Gives.{graph_of_edges}
+use Rattle.link_runs.specs.Writing.{ChangesByWriting}
+use Rattle.link_runs.proofs.WritingLaws.{both_same}
+use Rattle.outside.specs.Files.{File}
 use Rattle.symple_run.specs.Played.{IsPlayed}
 use Rattle.symple_words.specs.Views.{job_view}
 use Rattle.vert_tree.specs.declared.program.Program.{Program}
@@ -42,3 +45,13 @@ returns-clause-order g c =
     λ input. both_go (IsPlayed g.S.Site.work) old new job.program job.form job.graph typed graph
     (subst Q c.deref-2.ensures (subst P c.deref.ensures c.in_ok-read.ensures.both)) next out input _ _
     (c.play_drawn.ensures.order input)
+
+pub returns-in_err-read-clause-written : goal.returns-in_err-read-clause-written
+returns-in_err-read-clause-written g c =
+    let p = err_from_is_err_and c.from_residual.result c.from_residual.ensures.1 in
+    rw (p.1, p.2) (inr (both_same _ _ _ _ _ _ c.in_err-read.ensures.both))
+
+pub returns-clause-written : goal.returns-clause-written
+returns-clause-written g c =
+    subst (λ (files : Option (List File)). ChangesByWriting files _ c.play_drawn.result)
+    (ap (λ (k : Kept). k.files) c.in_ok-read.ensures.both.has_graph.same) c.play_drawn.ensures.written

@@ -1,4 +1,4 @@
-use Rattle.std.proofs.Common.{None, Some, refl}
+use Rattle.std.proofs.Common.{None, Some, inl, refl}
 use Rattle.command_steps.specs.Faults.{fault_of}
 use Rattle.command_steps.specs.Notes.{note_text}
 use Rattle.symple_run.proofs.ImagedRuns.{imaged_stores, source_stores}
@@ -8,7 +8,7 @@ use Rattle.command_steps.proofs.OrderLaws.{nothing_stored, others_stay}
 use Rattle.symple_run.specs.Played.{IsPlayed}
 use Rattle.symple_run.specs.SourceRuns.{IsSourceRun}
 use Rattle.symple_run.proofs.CoreTasks.{core_runs}
-use Rattle.symple_run.proofs.HeadLaws.{alike_by, completes, free_answer, noted_by}
+use Rattle.symple_run.proofs.HeadLaws.{alike_by, completes, free_answer, noted_by, written_by}
 use Rattle.symple_run.proofs.LinkReplayLaws.{link_replays_gain_the_same}
 use Rattle.symple_run.proofs.ReplayLaws.{replays_gain_the_same}
 use Rattle.symple_run.proofs.TaskLaws.{played_are, told_are}
@@ -66,6 +66,13 @@ pub returns-in-Ok-clause-quiet : goal.returns-in-Ok-clause-quiet
 returns-in-Ok-clause-quiet g c =
     nothing_stored (IsPlayed g.S.Site.work) (played_are g.S.Site.work) (words_of c.args.words.now) _ _ None
     c.in-Ok.ensures.order
+
+pub returns-in-Ok-clause-written : goal.returns-in-Ok-clause-written
+returns-in-Ok-clause-written g c = λ asks. inl refl
+
+pub returns-in-Err-clause-written : goal.returns-in-Err-clause-written
+returns-in-Err-clause-written g c = λ asks.
+    written_by _ _ (fault_of c.in-Err.failure) _ (c.in-Err.ensures.written asks) c.status.ensures
 
 pub returns-in-Ok-clause-free : goal.returns-in-Ok-clause-free
 returns-in-Ok-clause-free g c =
