@@ -3,4 +3,4 @@ use Rattle.run_tests.proofs.alone.letters_of.Given as goal
 
 -- no want of memory has ended the machines
 abbrev pub invariant-events : goal.invariant-events
-invariant-events g l = l.cluster.ended ≡ false
+invariant-events l = l.cluster.ended ≡ false
