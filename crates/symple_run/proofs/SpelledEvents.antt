@@ -219,7 +219,7 @@ module _ (work : Work) (sound : State → Type 0) (lawful : IsLawful work sound)
 
   -- ---- and over links
   no_count : (n : ℕ) → nat_le 1 n ≡ true → n ≡ 0 → ⊥
-  no_count n e zero = false≢true (sym (ap (nat_le 1) zero) ∙ e)
+  no_count n e none = false≢true (sym (ap (nat_le 1) none) ∙ e)
 
   module _ (l : Linked) (r : IsLinkReached work sound l) where
     at : HoldsAt work sound lawful r.reached.split r.reached.parts r.reached.one_run l.world l.traffic

@@ -53,5 +53,6 @@ returns-in_err-read-clause-written g c =
 
 pub returns-clause-written : goal.returns-clause-written
 returns-clause-written g c =
-    subst (λ (files : Option (List File)). ChangesByWriting files _ c.play_drawn.result)
+    let new = g.H.Shelf.files c.play_drawn.new.shelf in
+    subst (λ (files : Option (List File)). ChangesByWriting files new c.play_drawn.result)
     (ap (λ (k : Kept). k.files) c.in_ok-read.ensures.both.has_graph.same) c.play_drawn.ensures.written

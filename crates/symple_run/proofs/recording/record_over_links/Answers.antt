@@ -57,5 +57,6 @@ returns-in_err-read-clause-written g c =
 
 pub returns-clause-written : goal.returns-clause-written
 returns-clause-written g c =
-    subst (λ (files : Option (List File)). ChangesByWriting files _ c.record_lossy.result)
+    let new = g.H.Shelf.files c.record_lossy.new.shelf in
+    subst (λ (files : Option (List File)). ChangesByWriting files new c.record_lossy.result)
     (ap (λ (k : Kept). k.files) c.in_ok-read.ensures.both.has_graph.same) c.record_lossy.ensures.written
