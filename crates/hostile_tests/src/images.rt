@@ -1,6 +1,5 @@
 //! Changed images: one that is read is written to the same bytes, also where its digest is made anew.
 
-use crate::counts::Counts;
 use crate::mutator::{CASES, Mutator};
 use arrayvec::ArrayVec;
 use check_point::{ImageFault, read_image, write_image};
@@ -63,56 +62,32 @@ fn sealed(alloc: Global, bytes: &[u8]) -> Result<Vec<u8>, AllocError> {
     Ok(sealed)
 }
 
-/// Counts what comes of an image of these bytes. One that is read must be written to the same bytes.
-fn count(counts: &mut Counts, alloc: Global, bytes: &[u8], split: &Split) -> Result<(), Fail> {
+/// Whether an image of these bytes is read. One that is read must be written to the same bytes.
+fn is_read(alloc: Global, bytes: &[u8], split: &Split) -> Result<bool, Fail> {
     match read_image(alloc, bytes, &KEY, split, 4) {
-        Ok(start) if image(alloc, &start)?.as_slice() == bytes => counts.add_read(),
-        Ok(_) => return Err(Fail::from("another image")),
-        Err(ImageFault::Torn) => counts.add_refused("I", 1)?,
-        Err(ImageFault::Other) => counts.add_refused("I", 2)?,
-        Err(ImageFault::Want) => return Err(Fail::from("want")),
+        Ok(start) if image(alloc, &start)?.as_slice() == bytes => Ok(true),
+        Ok(_) => Err(Fail::from("another image")),
+        Err(ImageFault::Want) => Err(Fail::from("want")),
+        Err(_) => Ok(false),
     }
-    Ok(())
-}
-
-/// The answers to so many images that the seed changed, with their old digest or with one that is made anew. With the old
-/// one none is read but the image itself.
-pub(crate) fn try_images(
-    rt: &impl Abort,
-    alloc: Global,
-    cases: u32,
-    seed: u64,
-    anew: bool,
-) -> Result<Counts, Fail> {
-    let split = split(alloc)?;
-    let whole = image(alloc, &start(alloc)?)?;
-    let (mut mutator, mut counts) = (Mutator::new(seed), Counts::new(alloc));
-    let mut same = 0u32;
-    for _ in 0..cases {
-        let mut bytes = mutator.case(alloc, whole.as_slice(), whole.as_slice())?;
-        if anew {
-            bytes = sealed(alloc, bytes.as_slice())?;
-        } else if bytes.as_slice() == whole.as_slice() {
-            same = same.saturating_add(1);
-        }
-        count(&mut counts, alloc, bytes.as_slice(), &split)?;
-    }
-    assert!(rt; anew || counts.read() == same);
-    Ok(counts)
 }
 
 #[test]
 fn changed_images(rt: HostRuntime) -> Result<(), Fail> {
     let alloc = rt.alloc();
-    let torn = try_images(&rt, alloc, CASES * 2, 7, false)?;
-    let told = torn.told(alloc)?;
-    assert!(rt; torn.refused() > CASES, "{}", told.as_str());
-    let anew = try_images(&rt, alloc, CASES * 2, 7, true)?;
-    let told = anew.told(alloc)?;
-    assert!(rt;
-        anew.read() > 20 && anew.read() < CASES,
-        "{}",
-        told.as_str()
-    );
+    let split = split(alloc)?;
+    let whole = image(alloc, &start(alloc)?)?;
+    let (mut mutator, mut read) = (Mutator::new(7), 0u32);
+    for number in 0..CASES * 2 {
+        let torn = mutator.case(alloc, whole.as_slice(), whole.as_slice())?;
+        let bytes = torn.as_slice();
+        let same = bytes == whole.as_slice();
+        assert!(rt; is_read(alloc, bytes, &split)? == same, "{number}");
+        let anew = sealed(alloc, bytes)?;
+        if is_read(alloc, anew.as_slice(), &split)? {
+            read = read.saturating_add(1);
+        }
+    }
+    assert!(rt; read > 20 && read < CASES, "{read} read");
     Ok(())
 }

@@ -3,13 +3,9 @@
 #![tactic(auto)]
 
 #[cfg(test)]
-mod counts;
-#[cfg(test)]
 mod graphs;
 #[cfg(test)]
 mod images;
-#[cfg(test)]
-mod messages;
 #[cfg(test)]
 mod mutator;
 #[cfg(test)]

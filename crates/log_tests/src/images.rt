@@ -5,7 +5,7 @@ use check_point::{ImageFault, images_read_back, key, read_image, write_image};
 use instrument::{Split, split_of};
 use program_reader::read_program;
 use sample_programs::program_named;
-use std::alloc::{AllocError, Global};
+use std::alloc::Global;
 use std::test::Fail;
 use symple_face::Start;
 use vert_base::{Row, Ruling};
@@ -126,31 +126,5 @@ fn torn_and_other(rt: HostRuntime) -> Result<(), Fail> {
         told(alloc, bytes.as_slice(), &key, 4)?,
         Some(ImageFault::Other)
     );
-    Ok(())
-}
-
-/// The bytes with another one at a place.
-fn changed(alloc: Global, bytes: &[u8], place: usize, by: u8) -> Result<Vec<u8>, AllocError> {
-    let mut copy = Vec::new(alloc);
-    for (at, byte) in bytes.iter().enumerate() {
-        copy.push(if at == place { *byte ^ by } else { *byte })?;
-    }
-    Ok(copy)
-}
-
-/// Whatever is changed in one byte of an image tears it.
-#[test]
-fn torn_at_each_byte(rt: HostRuntime) -> Result<(), Fail> {
-    let alloc = rt.alloc();
-    let key = key_with(None);
-    let split = split(alloc)?;
-    let whole = image(alloc, &key, &start(alloc)?)?;
-    for place in 0..whole.len() {
-        for by in [1, 128, 255] {
-            let torn = changed(alloc, &whole, place, by)?;
-            let read = read_image(alloc, &torn, &key, &split, 4);
-            assert_eq!(rt; read.err(), Some(ImageFault::Torn), "at {place}");
-        }
-    }
     Ok(())
 }

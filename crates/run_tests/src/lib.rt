@@ -1,9 +1,7 @@
 //! Tests of machines and the messages between them: every order of events comes to the plain run of its program, as a
-//! schedule, over links and from images too, and so does each machine alone. Cases are lines of text, which one loop reads.
+//! schedule, over links and from images too. Cases are lines of text, which one loop reads.
 #![tactic(auto)]
 
-#[cfg(test)]
-mod alone;
 #[cfg(test)]
 mod cases;
 #[cfg(test)]

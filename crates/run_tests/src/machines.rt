@@ -78,7 +78,7 @@ pub(crate) fn started<S: Site>(
 }
 
 /// The vertex of a number.
-pub(crate) fn vertex(number: usize) -> Result<VertexId, Fail> {
+fn vertex(number: usize) -> Result<VertexId, Fail> {
     match u32::try_from(number) {
         Ok(id) => Ok(VertexId(id)),
         Err(_) => Err(Fail::from("no such vertex")),
@@ -97,7 +97,7 @@ fn owns(part: &Part, v: VertexId) -> bool
 }
 
 /// The row of a vertex, where it is an own one of a machine.
-pub(crate) fn own_row<S: Site>(site: &S, v: VertexId) -> Option<Row> {
+fn own_row<S: Site>(site: &S, v: VertexId) -> Option<Row> {
     let mut row = Row {
         words: ArrayVec::new(),
         active: false,

@@ -1,21 +1,16 @@
 ghost use Rattle.std.specs.Prelude.{◌<◌};
 
-mod calls;
 mod demos;
 mod documents;
 mod links;
 mod real;
 mod rows;
-mod schedules;
 mod shows;
-mod stops;
 mod texts;
-mod worked;
 
 use crate::top::symple;
 use command_steps::Status;
 use demo_program::demo_program;
-use lying_site::Lying;
 use machine_core::Core;
 use outside::{DripSink, FirmSink, MemShelf, MemSink, MemSource, Shelf};
 use program_reader::read_program;
@@ -23,7 +18,6 @@ use sample_programs::{DIAMOND, edited, graph_named, program_named};
 use std::alloc::{AllocError, Global};
 use std::process::Abort;
 use std::test::Fail;
-use symple_face::Restart;
 use vert_tree::print_program;
 
 /// The words of a line, which spaces part.
@@ -118,8 +112,8 @@ struct Outcome {
     noted: MemSink,
 }
 
-/// Performs a line by machines of a kind, over sinks that fail at these puts.
-fn performed_by<S: Restart>(
+/// Performs a line over sinks that fail at these puts.
+fn performed(
     alloc: Global,
     line: &str,
     shelf: &mut MemShelf,
@@ -130,7 +124,7 @@ fn performed_by<S: Restart>(
     let mut input = MemSource::new(Vec::new(alloc), Vec::new(alloc));
     let mut printed = MemSink::new(alloc, 40_000, fails)?;
     let mut noted = MemSink::new(alloc, 4000, note_fails)?;
-    let status = symple::<S, _, _, _, _>(
+    let status = symple::<Core, _, _, _, _>(
         alloc,
         &words,
         shelf,
@@ -143,35 +137,6 @@ fn performed_by<S: Restart>(
         printed,
         noted,
     })
-}
-
-/// Performs a line over sinks that fail at these puts.
-fn performed(
-    alloc: Global,
-    line: &str,
-    shelf: &mut MemShelf,
-    fails: Vec<u64>,
-    note_fails: Vec<u64>,
-) -> Result<Outcome, Fail> {
-    performed_by::<Core>(alloc, line, shelf, fails, note_fails)
-}
-
-/// Performs a line where nothing fails but these calls of the shelf.
-fn undisturbed(alloc: Global, line: &str, shelf: &mut MemShelf) -> Result<Outcome, Fail> {
-    performed(alloc, line, shelf, Vec::new(alloc), Vec::new(alloc))
-}
-
-/// What a line prints that ends well.
-fn printed(
-    rt: &impl Abort,
-    alloc: Global,
-    line: &str,
-    shelf: &mut MemShelf,
-) -> Result<String, Fail> {
-    let outcome = undisturbed(alloc, line, shelf)?;
-    assert_eq!(rt; outcome.status, Status::Done, "{line}");
-    let text = std::str::from_utf8(outcome.printed.bytes()).unwrap_or("");
-    Ok(String::from_str(alloc, text)?)
 }
 
 /// Performs a line where nothing fails but these calls of the shelf, and compares what comes of it.
@@ -286,19 +251,6 @@ fn rows_of_words(rt: HostRuntime) -> Result<(), Fail> {
     check_cuts(&rt, alloc, "run p g --machines 1 --binary", "units")
 }
 
-/// A run by machines whose rows lie prints what they tell.
-#[test]
-fn rows_that_lie(rt: HostRuntime) -> Result<(), Fail> {
-    let alloc = rt.alloc();
-    let mut shelf = calls::stored(&rt, alloc, "bfs", Vec::new(alloc))?;
-    let line = "run p g --machines 1";
-    let (none, no_note) = (Vec::new(alloc), Vec::new(alloc));
-    let outcome = performed_by::<Lying<Core>>(alloc, line, &mut shelf, none, no_note)?;
-    assert_eq!(rt; outcome.status, Status::Done);
-    assert_eq!(rt; outcome.printed.bytes(), rows::LYING.as_bytes());
-    Ok(())
-}
-
 /// The commands that README and the guide print, each over the files that those before it left.
 #[test]
 fn documents_are_true(rt: HostRuntime) -> Result<(), Fail> {
@@ -344,23 +296,20 @@ fn demonstrated_program(rt: HostRuntime) -> Result<(), Fail> {
 
 /// A sink that fails at one put leaves a first part, at each put until the run ends well; one that takes
 /// single bytes leaves the whole.
-fn check_puts(
-    rt: &impl Abort,
-    alloc: Global,
-    line: &str,
-    shelf: &mut MemShelf,
-) -> Result<(), Fail> {
+fn check_puts(rt: &impl Abort, alloc: Global, line: &str) -> Result<(), Fail> {
+    let text = program(alloc, "bfs")?;
+    let mut shelf = shelf(rt, alloc, &text, DIAMOND.as_bytes(), Vec::new(alloc))?;
     let words = words(alloc, line)?;
     let mut input = MemSource::new(Vec::new(alloc), Vec::new(alloc));
-    let mut whole = DripSink::new(alloc, 40_000)?;
+    let mut whole = DripSink::new(alloc, 4000)?;
     let mut notes = FirmSink::new(alloc, 100)?;
     let status = symple::<Core, _, _, _, _>(
-        alloc, &words, shelf, &mut input, &mut whole, &mut notes,
+        alloc, &words, &mut shelf, &mut input, &mut whole, &mut notes,
     );
     assert_eq!(rt; status, Status::Done);
-    for put in 1..10_000 {
+    for put in 1..1000 {
         let fails = vec![in alloc; put]?;
-        let outcome = performed(alloc, line, shelf, fails, Vec::new(alloc))?;
+        let outcome = performed(alloc, line, &mut shelf, fails, Vec::new(alloc))?;
         if outcome.status == Status::Done {
             assert_eq!(rt; outcome.printed.bytes(), whole.bytes());
             return Ok(());
@@ -373,46 +322,27 @@ fn check_puts(
     Ok(())
 }
 
-/// Notes that fail at one put, at each put until a note is whole, leave the status as it is and a first part.
-fn check_notes(
-    rt: &impl Abort,
-    alloc: Global,
-    line: &str,
-    shelf: &mut MemShelf,
-) -> Result<(), Fail> {
-    let whole = undisturbed(alloc, line, shelf)?;
-    assert!(rt; whole.status != Status::Done, "{line}");
-    for put in 1..100 {
-        let fails = vec![in alloc; put]?;
-        let outcome = performed(alloc, line, shelf, Vec::new(alloc), fails)?;
-        assert_eq!(rt; outcome.status, whole.status, "{line}");
-        if outcome.noted.bytes() == whole.noted.bytes() {
-            return Ok(());
-        }
-        assert!(rt;
-            whole.noted.bytes().starts_with(outcome.noted.bytes()),
-            "{line}"
-        );
-    }
-    assert!(rt; false, "{line}");
+/// A note that fails leaves the status as it is.
+fn check_note(rt: &impl Abort, alloc: Global) -> Result<(), Fail> {
+    let mut shelf = shelf(rt, alloc, "", b"", Vec::new(alloc))?;
+    let outcome = performed(
+        alloc,
+        "fly",
+        &mut shelf,
+        Vec::new(alloc),
+        vec![in alloc; 1]?,
+    )?;
+    assert_eq!(rt; outcome.status, Status::Usage);
+    assert_eq!(rt; outcome.noted.bytes().len(), 0);
     Ok(())
 }
 
 #[test]
 fn puts_that_fail(rt: HostRuntime) -> Result<(), Fail> {
-    let alloc = rt.alloc();
-    for (name, lines) in [("first0", rows::FAILING_LOGS), ("bfs", rows::FAILING)] {
-        let mut shelf = calls::stored(&rt, alloc, name, Vec::new(alloc))?;
-        for line in lines.lines() {
-            check_puts(&rt, alloc, line, &mut shelf)?;
-        }
+    for line in rows::FAILING.lines() {
+        check_puts(&rt, rt.alloc(), line)?;
     }
-    let mut shelf = calls::stored(&rt, alloc, "bfs", Vec::new(alloc))?;
-    assert_eq!(&rt; shelf.store("s", schedules::STOPPED.as_bytes()), Ok(()));
-    for line in rows::NOTED.lines() {
-        check_notes(&rt, alloc, line, &mut shelf)?;
-    }
-    Ok(())
+    check_note(&rt, rt.alloc())
 }
 
 /// What a line prints but for the lines of events, behind how many goes and takes they are.
@@ -469,7 +399,8 @@ fn logs_of_events(rt: HostRuntime) -> Result<(), Fail> {
 
 /// A shelf with a program whose limit is 0, its graph, and a schedule.
 fn scheduled(rt: &impl Abort, alloc: Global, schedule: &str) -> Result<MemShelf, Fail> {
-    let mut shelf = calls::stored(rt, alloc, "first0", Vec::new(alloc))?;
+    let text = program(alloc, "first0")?;
+    let mut shelf = shelf(rt, alloc, &text, DIAMOND.as_bytes(), Vec::new(alloc))?;
     assert_eq!(rt; shelf.store("s", schedule.as_bytes()), Ok(()));
     Ok(shelf)
 }

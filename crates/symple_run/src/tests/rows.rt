@@ -393,14 +393,6 @@ bfs diamond Usage
 symple: bad arguments
 ";
 
-/// What machines print that tell 77 for the first field of each row.
-pub(super) static LYING: &str = "vertex dist parent
-0 77 -1
-1 77 0
-2 77 0
-3 77 1
-";
-
 /// Loads that fail: behind the status stands the call of the shelf.
 pub(super) static FAILURES: &str = "$ run p g --machines 1
 bfs diamond ReadFault 2
@@ -422,36 +414,12 @@ dust diamond BadProgram 3
 symple: program: Y1 at 8:12
 ";
 
-/// Lines whose puts fail in turn. What one stores is there for those behind it.
+/// Lines whose puts fail in turn.
 pub(super) static FAILING: &str = "run p g --machines 1 --rounds
 run p g --machines 1 --reads
-run p g --machines 2 --rounds --image i
-resume p g i --machines 2 --rounds
-record p g s --machines 2 --seed 7 --rounds
-replay p g s --reads
 plan g --machines 2
 show p
 free p";
-
-/// The same of a program without a round, whose runs have few events.
-pub(super) static FAILING_LOGS: &str = "run p g --machines 2 --log
-record p g s --machines 2 --seed 7 --log
-replay p g s --log
-record p g s --machines 2 --seed 7 --lossy --log
-replay p g s --log";
-
-/// Lines that are refused, each with a note of another form, whose puts fail in turn.
-pub(super) static NOTED: &str = "fly
-run p g
-run p h --machines 1
-run g g --machines 1
-run p p --machines 1
-run p g --machines 1 --vertices 3
-run p g --machines 1 --binary
-replay p g p
-replay p g s
-replay p g t
-renew g t";
 
 /// Runs with `--log`: behind `$` the words; a line with the program under `p`, the graph under `g`, and how many
 /// events of each kind there are; the lines that are among the others, and behind `!` what is in none of them; behind a
