@@ -37,7 +37,7 @@ NOT_THERE = (1, b"symple: unknown command\n")
 def asked(text, *more):
     """The options of a script with this text at its head; each of `more` is a name and what argparse is told of it."""
     parser = argparse.ArgumentParser(description=text, formatter_class=argparse.RawDescriptionHelpFormatter)
-    parser.add_argument("--program", default=str(TOP / "crates/symple_run/out/symple_run"))
+    parser.add_argument("--program", default=str(TOP / "crates/symple/out/symple"))
     for name, told in more:
         parser.add_argument(name, **told)
     found = parser.parse_args()

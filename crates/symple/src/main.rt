@@ -2,28 +2,13 @@
 #![tactic(auto)]
 
 mod arguments;
-mod counts;
-mod files;
-mod following;
-mod images;
-mod pieces;
-mod recording;
-mod resumes;
-mod schedules;
-mod shown;
-mod streams;
-#[cfg(test)]
-mod tests;
-mod top;
 
 use arguments::words_of;
 use command_steps::{Failure, Status, write_note};
-use files::FileShelf;
 use machine_core::Core;
 use std::io::BufWriter;
 use std::process::ExitCode;
-use streams::{InSource, OutSink};
-use top::symple;
+use symple_run::{FileShelf, InSource, OutSink, symple};
 
 /// The most bytes that are held back before they go to standard output.
 const BUFFER: usize = 65_536;

@@ -1,14 +1,6 @@
 ghost use Rattle.std.specs.Prelude.{◌<◌};
 
-mod demos;
-mod documents;
-mod links;
-mod real;
-mod rows;
-mod shows;
-mod texts;
-
-use crate::top::symple;
+use crate::{demos, documents, links, rows, shows, texts};
 use command_steps::Status;
 use demo_program::demo_program;
 use machine_core::Core;
@@ -18,6 +10,7 @@ use sample_programs::{DIAMOND, edited, graph_named, program_named};
 use std::alloc::{AllocError, Global};
 use std::process::Abort;
 use std::test::Fail;
+use symple_run::symple;
 use vert_tree::print_program;
 
 /// The words of a line, which spaces part.

@@ -1,8 +1,7 @@
-use crate::files::FileShelf;
-use crate::streams::InSource;
 use outside::{Shelf, Source};
 use std::fs;
 use std::test::Fail;
+use symple_run::{FileShelf, InSource};
 
 /// Where the test stores a file.
 static NAME: &str = "stored-by-a-test";
