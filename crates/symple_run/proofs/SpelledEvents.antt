@@ -259,7 +259,8 @@ module _ (work : Work) (sound : State → Type 0) (lawful : IsLawful work sound)
     can_told (Take x) can = name_told x (λ none. no_count (count_of x l.traffic.copies) can none.copies)
     can_told (Lose x) can = name_told x (λ none. no_count (count_of x l.traffic.copies) can none.copies)
     can_told (Again x) can =
-        let kept = (and_parts (nat_le 1 (count_of x l.traffic.kept)) (nat_lt (count_of x l.traffic.copies) 255) can).0 in
+        let room = nat_lt (count_of x l.traffic.copies) 255 in
+        let kept = (and_parts (nat_le 1 (count_of x l.traffic.kept)) room can).0 in
         name_told x (λ none. no_count (count_of x l.traffic.kept) kept none.kept)
     can_told (Ack x) can = name_told x (λ none. no_count (count_of x l.traffic.acks) can none.acks)
     can_told (Drop x) can = name_told x (λ none. no_count (count_of x l.traffic.acks) can none.acks)

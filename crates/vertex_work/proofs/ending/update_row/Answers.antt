@@ -51,5 +51,6 @@ returns-clause-rows c =
     let seen = seen_there rows degrees start place env c.read_row_of.new.env c.enter.new.env values 0 _ within read
     c.enter.ensures.entered in
     row_written c.args.rows.now c.write.new.self place _ _ c.write.ensures
-    (update_ran (program_of split) c.args.ending.now.code.now c.enter.new.env c.step_block_over.new.env _ c.requires.can.code
+    (update_ran (program_of split) c.args.ending.now.code.now c.enter.new.env c.step_block_over.new.env _
+    c.requires.can.code
     seen c.step_block_over.ensures.env)
