@@ -22,6 +22,7 @@
 -- alike, one after another (`SameEnd-trans`, `going_ends`, `broke_ends`). SegmentLaws: one turn of
 -- the loop over neighbours (`turn_is`, `going_reads`, `broke_reads`), and one more that the feed
 -- gave (`feeding_more`, `fed_of`).
+pub mod EmitLaws
 pub mod EndLaws
 pub mod NextLaws
 pub mod SegmentLaws

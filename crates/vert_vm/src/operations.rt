@@ -195,8 +195,7 @@ pub(crate) fn emit(i: u8, key: u32, place: usize, stack: &mut Stack, emits: &mut
         ≡ with_emissions key emits.old.slots.items (emission (what.Slot i) (top stack.old)) }
     ensures kept { length emits.new.slots.items ≡ length emits.old.slots.items }
 {
-    let mut partial = emits.slots[usize::from(i)];
-    partial.add(key, stack.pop());
-    put(&mut emits.slots, i, partial);
+    let value = stack.pop();
+    emits.slots[usize::from(i)].add(key, value);
     place + 1
 }
