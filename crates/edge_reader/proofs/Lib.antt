@@ -4,3 +4,4 @@ pub mod EntryLaws
 pub mod GatherLaws
 pub mod UnitLaws
 pub mod PlainLaws
+pub mod ShortLaws

@@ -105,17 +105,15 @@ line_says from to separator a b blank =
     rw (whole, words, plain, a, b) refl
 
 -- and the entries of a text that begins with it
-pub plain_entries : (bytes behind after rest left : List ℕ) (from to separator end : ℕ) (entry : Entry) →
-    BeginsWith bytes from behind → behind ≡ separator ∷ after → is_blank separator ≡ true → BeginsWith after to rest →
-    rest ≡ end ∷ left → end ≡ 10 →
-    entry ≡ entry_of_numbers (Some from) (Some to) (Some one) → map entry_of_line (lines_of bytes) ≡ entry
+pub plain_entries : (bytes after left : List ℕ) (from to separator end : ℕ) (entry : Entry) →
+    BeginsWith bytes from (separator ∷ after) → is_blank separator ≡ true → BeginsWith after to (end ∷ left) →
+    end ≡ 10 → entry ≡ entry_of_numbers (Some from) (Some to) (Some one) → map entry_of_line (lines_of bytes) ≡ entry
     ∷ map entry_of_line (lines_of left)
-plain_entries bytes behind after rest left from to separator end entry first parted blank second ended feed is =
+plain_entries bytes after left from to separator end entry first blank second feed is =
     let line = first.word ++ separator ∷ second.word in
     let text : bytes ≡ line ++ 10 ∷ left =
     first.parts
-    ∙ (ap (λ xs. first.word ++ xs) (parted
-    ∙ ap (λ xs. separator ∷ xs) (second.parts ∙ ap (λ xs. second.word ++ xs) (ended ∙ ap (λ q. q ∷ left) feed)))
+    ∙ (ap (λ xs. first.word ++ separator ∷ xs) (second.parts ∙ ap (λ q. second.word ++ q ∷ left) feed)
     ∙ sym (append_assoc first.word (separator ∷ second.word) (10 ∷ left))) in
     let lines : lines_of bytes ≡ line ∷ lines_of left =
     ap lines_of text ∙ lines_plain line left

@@ -4,7 +4,7 @@ ghost use Rattle.std.specs.Option.{option_map};
 ghost use Rattle.edge_reader.specs.Lines.{is_line_end, lines_of, without_return, weight_of, capped, is_comment, entry_of_line};
 
 use crate::entry::{Entry, Weight};
-use crate::words::{HUGE, blank, leading_number, next_word, number};
+use crate::words::{HUGE, SHORT, blank, next_word, number, short_number};
 
 /// How long the first line is, without its line feed.
 fn line_len(bytes: &[u8]) -> usize
@@ -89,24 +89,26 @@ pub fn read_line(line: &[u8]) -> Entry
     }
 }
 
-/// What a line of two numbers with one blank between them says, as most lines are, and what stands behind
-/// its line feed. Nothing is said of other lines.
+/// What a line of two short numbers with one blank between them says, as most lines are, and what
+/// stands behind its line feed. Nothing is said of other lines, nor of one near the end of the text.
+#[inline]
 fn plain_line(bytes: &[u8]) -> Option<(Entry, &[u8])>
     ensures entries { IfSome result (λ found. map entry_of_line (lines_of bytes.now) ≡ found.0
         ∷ map entry_of_line (lines_of found.1.now)) }
     ensures shorter { IfSome result (λ found. length found.1.now < length bytes.now) }
 {
-    let (from, rest) = leading_number(bytes)?;
-    let (separator, rest) = rest.split_first()?;
-    if !blank(*separator) {
+    if bytes.len() < 2 * SHORT {
         return None;
     }
-    let (to, rest) = leading_number(rest)?;
-    let (end, rest) = rest.split_first()?;
-    if *end != b'\n' {
+    let (from, separator, rest) = short_number(bytes)?;
+    if !blank(separator) {
         return None;
     }
-    let entry = Entry::from_numbers(Some(from), Some(to), Some(Weight::ONE));
+    let (to, end, rest) = short_number(rest)?;
+    if end != b'\n' {
+        return None;
+    }
+    let entry = Entry::from_numbers(Some(from as u64), Some(to as u64), Some(Weight::ONE));
     Some((entry, rest))
 }
 

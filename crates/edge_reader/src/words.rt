@@ -1,6 +1,7 @@
-ghost use Rattle.std.specs.Prelude.{◌≡◌, ◌≤◌, [], ◌∷◌, length, min, IfSome, MatchOption};
+ghost use Rattle.std.specs.Prelude.{◌≡◌, ◌<◌, ◌≤◌, ◌+◌, [], ◌∷◌, length, min, IfSome, MatchOption};
 ghost use Rattle.std.specs.List.{position_or_len};
 ghost use Rattle.std.specs.Option.{option_map};
+ghost use Rattle.edge_reader.specs.declared.words.TheConstants.{SHORT};
 ghost use Rattle.edge_reader.specs.Words.{BeginsWith, is_blank, is_word_byte, words_of, number_of};
 
 /// Above every number that a file may hold. Larger ones are read as this one.
@@ -69,19 +70,28 @@ pub fn number(word: &[u8]) -> Option<u64>
     Some(value)
 }
 
-/// The digits in front, where there are some and a byte behind them, as a number, and what stands behind.
-pub fn leading_number(text: &[u8]) -> Option<(u64, &[u8])>
-    ensures { IfSome result (λ found. BeginsWith text.now found.0 found.1.now) }
+/// How many bytes a short number has at most, with the one behind it.
+pub const SHORT: usize = 8;
+
+/// The digits in front as a number, where there are some and so few that it can't grow too large, the
+/// byte behind them, and what stands behind that byte.
+#[inline]
+pub fn short_number(text: &[u8]) -> Option<(u32, u8, &[u8])>
+    requires { SHORT ≤ length text.now }
+    ensures says { IfSome result (λ found. BeginsWith text.now found.0 (found.1 ∷ found.2.now)) }
+    ensures short { IfSome result (λ found. length text.now ≤ length found.2.now + SHORT) }
+    ensures shorter { IfSome result (λ found. length found.2.now < length text.now) }
 {
-    let mut value = 0u64;
-    for (i, byte) in text.iter().enumerate() {
+    let mut value = 0u32;
+    for i in 0..SHORT {
+        let byte = text[i];
         if !byte.is_ascii_digit() {
             if i == 0 {
                 return None;
             }
-            return Some((value, &text[i..]));
+            return Some((value, byte, &text[i + 1..]));
         }
-        value = (value * 10 + u64::from(*byte - b'0')).min(HUGE);
+        value = value * 10 + u32::from(byte) - u32::from(b'0');
     }
     None
 }
