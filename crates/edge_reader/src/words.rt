@@ -1,8 +1,9 @@
-ghost use Rattle.std.specs.Prelude.{◌≡◌, ◌<◌, ◌≤◌, ◌+◌, [], ◌∷◌, length, min, IfSome, MatchOption};
+ghost use Rattle.std.specs.Prelude.{◌≡◌, ◌<◌, ◌≤◌, ◌+◌, ◌-◌, true, [], ◌∷◌, length, min, IfSome, MatchOption};
 ghost use Rattle.std.specs.List.{position_or_len};
 ghost use Rattle.std.specs.Option.{option_map};
 ghost use Rattle.edge_reader.specs.declared.words.TheConstants.{SHORT};
 ghost use Rattle.edge_reader.specs.Words.{BeginsWith, is_blank, is_word_byte, words_of, number_of};
+ghost use Rattle.vert_base.specs.Digits.{is_digit};
 
 /// Above every number that a file may hold. Larger ones are read as this one.
 pub const HUGE: u64 = 1 << 40;
@@ -70,11 +71,26 @@ pub fn number(word: &[u8]) -> Option<u64>
     Some(value)
 }
 
+/// The value of a digit.
+#[inline]
+fn digit_value(byte: u8) -> Option<u32>
+    ensures digit { IfSome result (λ value. is_digit byte ≡ true) }
+    ensures value { IfSome result (λ value. value ≡ byte - 48) }
+    ensures small { IfSome result (λ value. value < 10) }
+{
+    // The difference alone tells digits from all other bytes: one comparison serves.
+    let value = u32::from(byte).wrapping_sub(u32::from(b'0'));
+    if value > 9 {
+        return None;
+    }
+    Some(value)
+}
+
 /// How many bytes a short number has at most, with the one behind it.
 pub const SHORT: usize = 8;
 
-/// The digits in front as a number, where there are some and so few that it can't grow too large, the
-/// byte behind them, and what stands behind that byte.
+/// The digits in front as a number, where there are some and so few that it can't grow too large,
+/// the byte behind them, and what stands behind that byte.
 #[inline]
 pub fn short_number(text: &[u8]) -> Option<(u32, u8, &[u8])>
     requires { SHORT ≤ length text.now }
@@ -85,13 +101,13 @@ pub fn short_number(text: &[u8]) -> Option<(u32, u8, &[u8])>
     let mut value = 0u32;
     for i in 0..SHORT {
         let byte = text[i];
-        if !byte.is_ascii_digit() {
+        let Some(digit) = digit_value(byte) else {
             if i == 0 {
                 return None;
             }
             return Some((value, byte, &text[i + 1..]));
-        }
-        value = value * 10 + u32::from(byte) - u32::from(b'0');
+        };
+        value = value * 10 + digit;
     }
     None
 }

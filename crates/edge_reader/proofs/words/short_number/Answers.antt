@@ -1,10 +1,9 @@
 use Rattle.std.proofs.Common.{◌<◌, arith, length}
-use Rattle.std.proofs.lemmas.Grind.{common_steps}
 use Rattle.edge_reader.proofs.ShortLaws.{short_bound, begins_short}
 use Rattle.edge_reader.proofs.words.short_number.Goals as goal
 
-pub returns-then-not-is_ascii_digit-clause-says : goal.returns-then-not-is_ascii_digit-clause-says
-returns-then-not-is_ascii_digit-clause-says c =
+pub returns-in_default-clause-says : goal.returns-in_default-clause-says
+returns-in_default-clause-says c =
     let some : 0 < c.loop-i.i = omega (arith, c.if-i-eq0.false) in
     let within : c.loop-i.i < length c.args.text.now = omega (arith, c.requires, c.loop-i-test.true) in
     begins_short c.args.text.now c.loop-i.value c.loop-i.i c.loop-i.invariant.digits c.loop-i.invariant.value
@@ -18,4 +17,4 @@ overflow_mul-value c =
 pub overflow_add-value : goal.overflow_add-value
 overflow_add-value c =
     let most = short_bound c.loop-i.value c.loop-i.i c.loop-i.invariant.small c.loop-i-test.true in
-    grind (arith, common_steps, most, c.from.ensures, c.if-not-is_ascii_digit.ensures.bound)
+    omega (arith, most, c.in-Some.ensures.small)
