@@ -35,9 +35,7 @@ impl<T: Copy> Grid<T> {
     {
         let size = width * count;
         let mut cells = Vec::with_capacity(alloc, size)?;
-        'cells: for _ in 0..size {
-            cells.push(value)?;
-        }
+        cells.resize(size, value)?;
         Ok(Grid {
             width,
             count,

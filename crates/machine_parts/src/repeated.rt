@@ -8,8 +8,6 @@ pub(crate) fn repeated<T: Copy>(alloc: Global, value: T, count: usize) -> Result
     ensures { IfOk result (λ list. list.items ≡ replicate count value) }
 {
     let mut list = Vec::with_capacity(alloc, count)?;
-    'values: for _ in 0..count {
-        list.push(value)?;
-    }
+    list.resize(count, value)?;
     Ok(list)
 }
