@@ -26,14 +26,15 @@ parts piece behind rest n front back =
     ap (λ (t : List ℕ). t ++ behind) front ∙ ap (λ (t : List ℕ). take n rest ++ t) back ∙ take-append-drop n rest
 
 -- what is written, one piece more, and what is left
-pub hex_more : (front piece behind rest bytes : List ℕ) (n : ℕ) → piece ≡ take n rest → behind ≡ drop n rest →
-    front ++ rest ≡ bytes → (encode_lower front ++ encode_lower piece) ++ encode_lower behind ≡ encode_lower bytes
-hex_more front piece behind rest bytes n cut left whole =
-    append_assoc (encode_lower front) (encode_lower piece) (encode_lower behind)
-    ∙ ap (λ (t : List ℕ). encode_lower front ++ t) (sym (hex-append piece behind))
-    ∙ sym (hex-append front (piece ++ behind))
-    ∙ ap (λ (t : List ℕ). encode_lower (front ++ t)) (parts piece behind rest n cut left)
-    ∙ ap encode_lower whole
+module _ (front piece behind rest bytes : List ℕ) (n : ℕ) where
+  pub hex_more : piece ≡ take n rest → behind ≡ drop n rest → front ++ rest ≡ bytes →
+      (encode_lower front ++ encode_lower piece) ++ encode_lower behind ≡ encode_lower bytes
+  hex_more cut left whole =
+      append_assoc (encode_lower front) (encode_lower piece) (encode_lower behind)
+      ∙ ap (λ (t : List ℕ). encode_lower front ++ t) (sym (hex-append piece behind))
+      ∙ sym (hex-append front (piece ++ behind))
+      ∙ ap (λ (t : List ℕ). encode_lower (front ++ t)) (parts piece behind rest n cut left)
+      ∙ ap encode_lower whole
 
 -- the digits of the header and of the body
 pub message_is : (header body : List ℕ) (m : Message) → header ≡ spelled_header m.name (length body) →

@@ -47,15 +47,15 @@ unfolding number_of
 front_number bytes = front bytes
 
 -- one more word is read
-pub read_step : (n i : ℕ) (words : List ℤ) (word : ℤ) (rest others : List ℕ) (whole : List ℤ) → i < n →
-    word ≡ word_of (take 8 rest) → others ≡ drop 8 rest →
-    words ++ words_in (n - i) rest ≡ whole → (words ++ word ∷ []) ++ words_in (n - (i + 1)) others ≡ whole
-read_step n i words word rest others whole within one behind all =
-    append_assoc words (word ∷ []) (words_in (n - (i + 1)) others)
-    ∙ ap (λ w. words ++ (w ∷ words_in (n - (i + 1)) others)) one
-    ∙ ap (λ left. words ++ (word_of (take 8 rest) ∷ words_in (n - (i + 1)) left)) behind
-    ∙ sym (ap (λ k. words ++ words_in k rest) (turns_left n i within))
-    ∙ all
+module _ (n i : ℕ) (words : List ℤ) (word : ℤ) (rest others : List ℕ) (whole : List ℤ) where
+  pub read_step : i < n → word ≡ word_of (take 8 rest) → others ≡ drop 8 rest →
+      words ++ words_in (n - i) rest ≡ whole → (words ++ word ∷ []) ++ words_in (n - (i + 1)) others ≡ whole
+  read_step within one behind all =
+      append_assoc words (word ∷ []) (words_in (n - (i + 1)) others)
+      ∙ ap (λ w. words ++ (w ∷ words_in (n - (i + 1)) others)) one
+      ∙ ap (λ left. words ++ (word_of (take 8 rest) ∷ words_in (n - (i + 1)) left)) behind
+      ∙ sym (ap (λ k. words ++ words_in k rest) (turns_left n i within))
+      ∙ all
 
 pub read_end : (n i : ℕ) (words : List ℤ) (rest : List ℕ) (whole : List ℤ) → n ≤ i →
     words ++ words_in (n - i) rest ≡ whole → words ≡ whole

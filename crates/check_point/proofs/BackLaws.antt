@@ -47,10 +47,11 @@ use Rattle.state_laws.proofs.Words.{four_back}
 behind_at : (front behind bytes : List ℕ) (i : ℕ) → bytes ≡ front ++ behind → length front ≡ i → drop i bytes ≡ behind
 behind_at front behind bytes i e long = ap (drop i) e ∙ drop_at front behind i long
 
-piece_at : (front piece behind bytes : List ℕ) (i n : ℕ) → bytes ≡ front ++ (piece ++ behind) → length front ≡ i →
-    length piece ≡ n → take n (drop i bytes) ≡ piece
-piece_at front piece behind bytes i n e long size =
-    ap (take n) (behind_at front (piece ++ behind) bytes i e long) ∙ take_at piece behind n size
+module _ (front piece behind bytes : List ℕ) (i n : ℕ) where
+  piece_at : bytes ≡ front ++ (piece ++ behind) → length front ≡ i → length piece ≡ n →
+      take n (drop i bytes) ≡ piece
+  piece_at e long size =
+      ap (take n) (behind_at front (piece ++ behind) bytes i e long) ∙ take_at piece behind n size
 
 -- ---- numbers
 pub length-four : (n : ℕ) → length (four_bytes n) ≡ 4

@@ -91,10 +91,10 @@ rows_taken width count bytes room =
     ∙ ap (rows_in width count) (take-append-drop many bytes)
 
 -- the pieces of an image one by one, and what stands behind it
-regrouped : (mark key ended : List ℕ) (ruling : ℕ) (active edges count rows totals rest : List ℕ) →
-    ((mark ++ key ++ ended ++ (ruling ∷ []) ++ active ++ edges ++ count ++ rows ++ totals) ++ rest)
-    ≡ mark ++ (key ++ (ended ++ (ruling ∷ (active ++ (edges ++ (count ++ (rows ++ (totals ++ rest))))))))
-regrouped mark key ended ruling active edges count rows totals rest = simp append_assoc refl
+module _ (mark key ended : List ℕ) (ruling : ℕ) (active edges count rows totals rest : List ℕ) where
+  regrouped : ((mark ++ key ++ ended ++ (ruling ∷ []) ++ active ++ edges ++ count ++ rows ++ totals) ++ rest) ≡
+      mark ++ (key ++ (ended ++ (ruling ∷ (active ++ (edges ++ (count ++ (rows ++ (totals ++ rest))))))))
+  regrouped = simp append_assoc refl
 
 module _ (split : Split) (n : ℕ) (key bytes : List ℕ) (clean : AreBytes bytes) (whole : IsWholeOf split n bytes)
     (own : IsOwn split n key bytes) where

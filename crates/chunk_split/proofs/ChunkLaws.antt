@@ -88,11 +88,13 @@ parts_turn (end ∷ ends) v (suc m) lt h =
     }))
 
 -- what a binary search for the first end above v finds
-pub search_parts : (most : ℕ) (ends view list : List ℕ) (v m : ℕ) → AreEnds most list → list ≡ view → ends ≡ list →
-    (IsNonDecreasing ends → IsPartitionPoint (λ y. leb y v ≡ true) (λ y. leb y v ≡ false) ends m) → Parts view v m
-search_parts most ends view list v m are same copied h =
-    parts view v m (subst (λ (xs : List ℕ). IsPartitionPoint (λ y. leb y v ≡ true) (λ y. leb y v ≡ false) xs m)
-    (copied ∙ same) (h (subst (λ (xs : List ℕ). IsNonDecreasing xs) (sym copied) are.2)))
+module _ (most : ℕ) (ends view list : List ℕ) (v m : ℕ) where
+  pub search_parts : AreEnds most list → list ≡ view → ends ≡ list →
+      (IsNonDecreasing ends → IsPartitionPoint (λ y. leb y v ≡ true) (λ y. leb y v ≡ false) ends m) →
+      Parts view v m
+  search_parts are same copied h =
+      parts view v m (subst (λ (xs : List ℕ). IsPartitionPoint (λ y. leb y v ≡ true) (λ y. leb y v ≡ false) xs m)
+      (copied ∙ same) (h (subst (λ (xs : List ℕ). IsNonDecreasing xs) (sym copied) are.2)))
 
 -- ends of which one is below the one before it are none of chunks
 pub fall_refutes : (most : ℕ) (ends : List ℕ) (sorted : Bool) → sorted ≡ false →

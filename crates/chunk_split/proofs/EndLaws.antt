@@ -32,11 +32,12 @@ ends_go p i start len at ends costs rest full h e there left before =
     append_assoc ends (at ∷ []) (ends_from (p - (i + 1)) at rest)
     ∙ (rw (less, there, left) (ap (λ ys. ends ++ ys) (sym (ends_step (p - i) start len costs two e))) ∙ before)
 
-pub ends_finish : (p i start n : ℕ) (ends costs full : List ℕ) → i + 1 ≡ p → start + length costs ≡ n →
-    ends ++ ends_from (p - i) start costs ≡ full → ends ++ n ∷ [] ≡ full
-ends_finish p i start n ends costs full h e before =
-    let one : p - i ≡ 1 = omega arith in
-    ap (λ q. ends ++ q ∷ []) (sym e) ∙ (ap (λ ys. ends ++ ys) (sym (ends_last start costs (p - i) one)) ∙ before)
+module _ (p i start n : ℕ) (ends costs full : List ℕ) where
+  pub ends_finish : i + 1 ≡ p → start + length costs ≡ n → ends ++ ends_from (p - i) start costs ≡ full →
+      ends ++ n ∷ [] ≡ full
+  ends_finish h e before =
+      let one : p - i ≡ 1 = omega arith in
+      ap (λ q. ends ++ q ∷ []) (sym e) ∙ (ap (λ ys. ends ++ ys) (sym (ends_last start costs (p - i) one)) ∙ before)
 
 pub ends_length : (q start : ℕ) (costs : List ℕ) → length (ends_from q start costs) ≡ q
 ends_length zero start costs = refl

@@ -144,71 +144,72 @@ module _ (ring : Ring) (small : ring.machines ≤ 64) where
         later = omega arith;
       }
 
-  dep_needed : (m r s h : ℕ) → m < ring.machines → 1 ≤ r → s < ring.machines - 1 → h ≤ 1 →
-      ring.carry ≡ true →
-      IsNeededLater ring m Dense (Scan r s h) (dep_name r s h m (after_machine m ring.machines))
-  dep_needed m r s h within later early half carries =
-      let p = ring.machines in
-      let k = after_machine m p in
-      let inside : k < p = mod-lt (m + 1) (omega arith) in
-      let back : before_machine k p ≡ m = before_after m p within in
-      let same : s + 1 - 1 ≡ s = omega arith in
-      let test : (ring.carry && nat_lt 0 (s + 1)) ≡ true =
-      and_from ring.carry (nat_lt 0 (s + 1)) carries (below_true 0 (s + 1) (omega arith)) in
-      let plain : Has (name_if (ring.carry && nat_lt 0 (s + 1)) (dep_name r s h m k)) (dep_name r s h m k) =
-      has_name_if (ring.carry && nat_lt 0 (s + 1)) (dep_name r s h m k) test in
-      let half_way : Has (name_if (ring.carry && nat_lt 0 (s + 1)) (dep_name r s h (before_machine k p) k))
-      (dep_name r s h m k) =
-      subst
-      (λ q. Has (name_if (ring.carry && nat_lt 0 (s + 1)) (dep_name r s h q k)) (dep_name r s h m k))
-      (sym back) plain in
-      let second : Has
-      (name_if (ring.carry && nat_lt 0 (s + 1)) (dep_name r (s + 1 - 1) h (before_machine k p) k))
-      (dep_name r s h m k) =
-      subst
-      (λ q.
-      Has (name_if (ring.carry && nat_lt 0 (s + 1)) (dep_name r q h (before_machine k p) k))
-      (dep_name r s h m k))
-      (sym same) half_way in
-      let listed : Has (needs_of ring k (Scan r (s + 1) h)) (dep_name r s h m k) =
-      has_right (name_if (nat_lt (s + 1) (p - 1)) (refresh_name r (chunk_of k (s + 1) p) k))
-      (name_if (ring.carry && nat_lt 0 (s + 1)) (dep_name r (s + 1 - 1) h (before_machine k p) k))
-      (dep_name r s h m k) second in
-      record {
-        from = refl;
-        to = inside;
-        other = after_other m p within (omega arith);
-        round = refl;
-        has = (later, omega arith, half, refl);
-        needed = contains_from_has (needs_of ring k (Scan r (s + 1) h)) (dep_name r s h m k) listed;
-        later = omega arith;
-      }
+  module _ (m r s h : ℕ) where
+    dep_needed : m < ring.machines → 1 ≤ r → s < ring.machines - 1 → h ≤ 1 → ring.carry ≡ true →
+        IsNeededLater ring m Dense (Scan r s h) (dep_name r s h m (after_machine m ring.machines))
+    dep_needed within later early half carries =
+        let p = ring.machines in
+        let k = after_machine m p in
+        let inside : k < p = mod-lt (m + 1) (omega arith) in
+        let back : before_machine k p ≡ m = before_after m p within in
+        let same : s + 1 - 1 ≡ s = omega arith in
+        let test : (ring.carry && nat_lt 0 (s + 1)) ≡ true =
+        and_from ring.carry (nat_lt 0 (s + 1)) carries (below_true 0 (s + 1) (omega arith)) in
+        let plain : Has (name_if (ring.carry && nat_lt 0 (s + 1)) (dep_name r s h m k)) (dep_name r s h m k) =
+        has_name_if (ring.carry && nat_lt 0 (s + 1)) (dep_name r s h m k) test in
+        let half_way : Has (name_if (ring.carry && nat_lt 0 (s + 1)) (dep_name r s h (before_machine k p) k))
+        (dep_name r s h m k) =
+        subst
+        (λ q. Has (name_if (ring.carry && nat_lt 0 (s + 1)) (dep_name r s h q k)) (dep_name r s h m k))
+        (sym back) plain in
+        let second : Has
+        (name_if (ring.carry && nat_lt 0 (s + 1)) (dep_name r (s + 1 - 1) h (before_machine k p) k))
+        (dep_name r s h m k) =
+        subst
+        (λ q.
+        Has (name_if (ring.carry && nat_lt 0 (s + 1)) (dep_name r q h (before_machine k p) k))
+        (dep_name r s h m k))
+        (sym same) half_way in
+        let listed : Has (needs_of ring k (Scan r (s + 1) h)) (dep_name r s h m k) =
+        has_right (name_if (nat_lt (s + 1) (p - 1)) (refresh_name r (chunk_of k (s + 1) p) k))
+        (name_if (ring.carry && nat_lt 0 (s + 1)) (dep_name r (s + 1 - 1) h (before_machine k p) k))
+        (dep_name r s h m k) second in
+        record {
+          from = refl;
+          to = inside;
+          other = after_other m p within (omega arith);
+          round = refl;
+          has = (later, omega arith, half, refl);
+          needed = contains_from_has (needs_of ring k (Scan r (s + 1) h)) (dep_name r s h m k) listed;
+          later = omega arith;
+        }
 
-  scan_gifts : (m r s h : ℕ) (x : Name) → m < ring.machines → 1 ≤ r → s < ring.machines → h ≤ 1 →
-      Has (gives_of ring m (Scan r s h) Dense) x → IsNeededLater ring m Dense (Scan r s h) x
-  scan_gifts m r s h x within later step half has =
-      let p = ring.machines in
-      let list : Bool → List Name =
-      λ q.
-      cond q
-      (update_name r s h m (chunk_of m s p) ∷ name_if ring.carry (dep_name r s h m (after_machine m p)))
-      [] in
-      ⊎_elim
-      (λ (early : s < p - 1).
-      let b = below_true s (p - 1) early in
-      let listed : Has (list true) x = subst (λ q. Has (list q) x) b has in
-      ⊎_elim
-      (λ (e : update_name r s h m (chunk_of m s p) ≡ x).
-      subst (λ y. IsNeededLater ring m Dense (Scan r s h) y) e (update_needed m r s h within later early half))
-      (λ more.
-      let c = has_name_if_cases ring.carry (dep_name r s h m (after_machine m p)) x more in
-      subst (λ y. IsNeededLater ring m Dense (Scan r s h) y) c.1 (dep_needed m r s h within later early half c.0))
-      listed)
-      (λ (last : p - 1 ≤ s).
-      let b = below_false s (p - 1) last in
-      let none : Has (list false) x = subst (λ q. Has (list q) x) b has in
-      absurd none)
-      (cases_lt s (p - 1))
+  module _ (m r s h : ℕ) (x : Name) where
+    scan_gifts : m < ring.machines → 1 ≤ r → s < ring.machines → h ≤ 1 →
+        Has (gives_of ring m (Scan r s h) Dense) x → IsNeededLater ring m Dense (Scan r s h) x
+    scan_gifts within later step half has =
+        let p = ring.machines in
+        let list : Bool → List Name =
+        λ q.
+        cond q
+        (update_name r s h m (chunk_of m s p) ∷ name_if ring.carry (dep_name r s h m (after_machine m p)))
+        [] in
+        ⊎_elim
+        (λ (early : s < p - 1).
+        let b = below_true s (p - 1) early in
+        let listed : Has (list true) x = subst (λ q. Has (list q) x) b has in
+        ⊎_elim
+        (λ (e : update_name r s h m (chunk_of m s p) ≡ x).
+        subst (λ y. IsNeededLater ring m Dense (Scan r s h) y) e (update_needed m r s h within later early half))
+        (λ more.
+        let c = has_name_if_cases ring.carry (dep_name r s h m (after_machine m p)) x more in
+        subst (λ y. IsNeededLater ring m Dense (Scan r s h) y) c.1 (dep_needed m r s h within later early half c.0))
+        listed)
+        (λ (last : p - 1 ≤ s).
+        let b = below_false s (p - 1) last in
+        let none : Has (list false) x = subst (λ q. Has (list q) x) b has in
+        absurd none)
+        (cases_lt s (p - 1))
 
   begin_gifts : (m r : ℕ) (ruling : Ruling) (x : Name) → m < ring.machines → ruling ≢ Stop → 1 ≤ r →
       Has (gives_of ring m (Begin r) ruling) x → IsNeededLater ring m ruling (Begin r) x

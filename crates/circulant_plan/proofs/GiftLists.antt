@@ -128,30 +128,31 @@ if_small : (xs : List Name) (x : Name) (b : Bool) → (Has xs x → (x.step < 64
 if_small xs x true each h = each h
 if_small xs x false each h = absurd h
 
-pub gives_small : (ring : Ring) → ring.machines ≤ 64 → (m : ℕ) (mode ruling : Ruling) (spot : Spot) (x : Name) →
-    HasSpot ring m mode spot → Has (gives_of ring m spot ruling) x → (x.step < 64) × (x.half ≤ 1)
-gives_small ring few m mode ruling Tell x has h = tally_small m 0 x (m == 0) h
-gives_small ring few m mode ruling (Judge r) x has h =
-    if_small (map (verdict_name (r + 1)) (others_of ring.machines 0)) x (m == 0)
-    (map_small (verdict_name (r + 1)) (others_of ring.machines 0) x (λ n. (omega arith, omega arith))) h
-gives_small ring few m mode Stop (Begin r) x has h = absurd h
-gives_small ring few m mode Dense (Begin r) x has h =
-    map_small (refresh_name r m) (others_of ring.machines m) x (λ n. (omega arith, omega arith)) h
-gives_small ring few m mode Sparse (Begin r) x has h =
-    map_small (push_name r m) (others_of ring.machines m) x (λ n. (omega arith, omega arith)) h
-gives_small ring few m mode ruling (Scan r s j) x has h =
-    let p = ring.machines in
-    let step = has.1 in
-    let half = has.2 in
-    if_small
-    (update_name r s j m (chunk_of m s p) ∷ name_if ring.carry (dep_name r s j m (after_machine m p))) x
-    (nat_lt s (p - 1))
-    (λ listed. ⊎_elim
-    (λ (e : update_name r s j m (chunk_of m s p) ≡ x).
-    subst (λ y. (y.step < 64) × (y.half ≤ 1)) e (omega arith, omega arith))
-    (λ (more : Has (name_if ring.carry (dep_name r s j m (after_machine m p))) x).
-    let c = has_name_if_cases ring.carry (dep_name r s j m (after_machine m p)) x more in
-    subst (λ y. (y.step < 64) × (y.half ≤ 1)) c.1 (omega arith, omega arith))
-    listed) h
-gives_small ring few m mode ruling (Close r dense) x has h = tally_small m r x (m == 0) h
-gives_small ring few m mode ruling Over x has h = absurd h
+module _ (ring : Ring) where
+  pub gives_small : ring.machines ≤ 64 → (m : ℕ) (mode ruling : Ruling) (spot : Spot) (x : Name) →
+      HasSpot ring m mode spot → Has (gives_of ring m spot ruling) x → (x.step < 64) × (x.half ≤ 1)
+  gives_small few m mode ruling Tell x has h = tally_small m 0 x (m == 0) h
+  gives_small few m mode ruling (Judge r) x has h =
+      if_small (map (verdict_name (r + 1)) (others_of ring.machines 0)) x (m == 0)
+      (map_small (verdict_name (r + 1)) (others_of ring.machines 0) x (λ n. (omega arith, omega arith))) h
+  gives_small few m mode Stop (Begin r) x has h = absurd h
+  gives_small few m mode Dense (Begin r) x has h =
+      map_small (refresh_name r m) (others_of ring.machines m) x (λ n. (omega arith, omega arith)) h
+  gives_small few m mode Sparse (Begin r) x has h =
+      map_small (push_name r m) (others_of ring.machines m) x (λ n. (omega arith, omega arith)) h
+  gives_small few m mode ruling (Scan r s j) x has h =
+      let p = ring.machines in
+      let step = has.1 in
+      let half = has.2 in
+      if_small
+      (update_name r s j m (chunk_of m s p) ∷ name_if ring.carry (dep_name r s j m (after_machine m p))) x
+      (nat_lt s (p - 1))
+      (λ listed. ⊎_elim
+      (λ (e : update_name r s j m (chunk_of m s p) ≡ x).
+      subst (λ y. (y.step < 64) × (y.half ≤ 1)) e (omega arith, omega arith))
+      (λ (more : Has (name_if ring.carry (dep_name r s j m (after_machine m p))) x).
+      let c = has_name_if_cases ring.carry (dep_name r s j m (after_machine m p)) x more in
+      subst (λ y. (y.step < 64) × (y.half ≤ 1)) c.1 (omega arith, omega arith))
+      listed) h
+  gives_small few m mode ruling (Close r dense) x has h = tally_small m r x (m == 0) h
+  gives_small few m mode ruling Over x has h = absurd h

@@ -83,58 +83,59 @@ module _ (ring : Ring) (small : ring.machines ≤ 64) where
       one)
       (cases_eq m 0)
 
-  scan_needs : (m r s h : ℕ) (x : Name) → m < ring.machines → 1 ≤ r → s < ring.machines → h ≤ 1 →
-      Has (needs_of ring m (Scan r s h)) x → IsSentBefore ring m Dense (Scan r s h) x
-  scan_needs m r s h x within later step half has =
-      let p = ring.machines in
-      ⊎_elim
-      (λ rows.
-      let c = has_name_if_cases (nat_lt s (p - 1)) (refresh_name r (chunk_of m s p) m) x rows in
-      let early = below_from s (p - 1) c.0 in
-      let d = chunk_of m s p in
-      let inside : d < p = mod-lt (m + p - 1 - s) (omega arith) in
-      let other : d ≢ m = chunk_other m s p within early in
-      subst (λ y. IsSentBefore ring m Dense (Scan r s h) y) c.1 (record {
-        to = refl;
-        from = inside;
-        other = other;
-        round = refl;
-        has = later;
-        sent =
-            contains_from_has (map (refresh_name r d) (others_of p d)) (refresh_name r d m)
-            (has_map (refresh_name r d) (others_of p d) m
-            (has_others p d m inside within (λ same. other (sym same))));
-        earlier = omega arith;
-      }))
-      (λ states.
-      let c = has_name_if_cases (ring.carry && nat_lt 0 s) (dep_name r (s - 1) h (before_machine m p) m) x states in
-      let carries = (and_parts ring.carry (nat_lt 0 s) c.0).0 in
-      let some = below_from 0 s (and_parts ring.carry (nat_lt 0 s) c.0).1 in
-      let k = before_machine m p in
-      let inside : k < p = mod-lt (m + p - 1) (omega arith) in
-      let early : nat_lt (s - 1) (p - 1) ≡ true = below_true (s - 1) (p - 1) (omega arith) in
-      let back : after_machine k p ≡ m = after_before m p within in
-      let there : Has (name_if ring.carry (dep_name r (s - 1) h k m)) (dep_name r (s - 1) h k m) =
-      has_name_if ring.carry (dep_name r (s - 1) h k m) carries in
-      let listed : Has
-      (update_name r (s - 1) h k (chunk_of k (s - 1) p) ∷ name_if ring.carry
-      (dep_name r (s - 1) h k (after_machine k p)))
-      (dep_name r (s - 1) h k m) =
-      inr
-      (subst (λ q. Has (name_if ring.carry (dep_name r (s - 1) h k q)) (dep_name r (s - 1) h k m))
-      (sym back) there) in
-      let here : Has (gives_of ring k (Scan r (s - 1) h) Dense) (dep_name r (s - 1) h k m) = rw early listed in
-      subst (λ y. IsSentBefore ring m Dense (Scan r s h) y) c.1 (record {
-        to = refl;
-        from = inside;
-        other = before_other m p within (omega arith);
-        round = refl;
-        has = (later, omega arith, half, refl);
-        sent = contains_from_has (gives_of ring k (Scan r (s - 1) h) Dense) (dep_name r (s - 1) h k m) here;
-        earlier = omega arith;
-      }))
-      (has_append_cases (name_if (nat_lt s (p - 1)) (refresh_name r (chunk_of m s p) m))
-      (name_if (ring.carry && nat_lt 0 s) (dep_name r (s - 1) h (before_machine m p) m)) x has)
+  module _ (m r s h : ℕ) (x : Name) where
+    scan_needs : m < ring.machines → 1 ≤ r → s < ring.machines → h ≤ 1 → Has (needs_of ring m (Scan r s h)) x →
+        IsSentBefore ring m Dense (Scan r s h) x
+    scan_needs within later step half has =
+        let p = ring.machines in
+        ⊎_elim
+        (λ rows.
+        let c = has_name_if_cases (nat_lt s (p - 1)) (refresh_name r (chunk_of m s p) m) x rows in
+        let early = below_from s (p - 1) c.0 in
+        let d = chunk_of m s p in
+        let inside : d < p = mod-lt (m + p - 1 - s) (omega arith) in
+        let other : d ≢ m = chunk_other m s p within early in
+        subst (λ y. IsSentBefore ring m Dense (Scan r s h) y) c.1 (record {
+          to = refl;
+          from = inside;
+          other = other;
+          round = refl;
+          has = later;
+          sent =
+              contains_from_has (map (refresh_name r d) (others_of p d)) (refresh_name r d m)
+              (has_map (refresh_name r d) (others_of p d) m
+              (has_others p d m inside within (λ same. other (sym same))));
+          earlier = omega arith;
+        }))
+        (λ states.
+        let c = has_name_if_cases (ring.carry && nat_lt 0 s) (dep_name r (s - 1) h (before_machine m p) m) x states in
+        let carries = (and_parts ring.carry (nat_lt 0 s) c.0).0 in
+        let some = below_from 0 s (and_parts ring.carry (nat_lt 0 s) c.0).1 in
+        let k = before_machine m p in
+        let inside : k < p = mod-lt (m + p - 1) (omega arith) in
+        let early : nat_lt (s - 1) (p - 1) ≡ true = below_true (s - 1) (p - 1) (omega arith) in
+        let back : after_machine k p ≡ m = after_before m p within in
+        let there : Has (name_if ring.carry (dep_name r (s - 1) h k m)) (dep_name r (s - 1) h k m) =
+        has_name_if ring.carry (dep_name r (s - 1) h k m) carries in
+        let listed : Has
+        (update_name r (s - 1) h k (chunk_of k (s - 1) p) ∷ name_if ring.carry
+        (dep_name r (s - 1) h k (after_machine k p)))
+        (dep_name r (s - 1) h k m) =
+        inr
+        (subst (λ q. Has (name_if ring.carry (dep_name r (s - 1) h k q)) (dep_name r (s - 1) h k m))
+        (sym back) there) in
+        let here : Has (gives_of ring k (Scan r (s - 1) h) Dense) (dep_name r (s - 1) h k m) = rw early listed in
+        subst (λ y. IsSentBefore ring m Dense (Scan r s h) y) c.1 (record {
+          to = refl;
+          from = inside;
+          other = before_other m p within (omega arith);
+          round = refl;
+          has = (later, omega arith, half, refl);
+          sent = contains_from_has (gives_of ring k (Scan r (s - 1) h) Dense) (dep_name r (s - 1) h k m) here;
+          earlier = omega arith;
+        }))
+        (has_append_cases (name_if (nat_lt s (p - 1)) (refresh_name r (chunk_of m s p) m))
+        (name_if (ring.carry && nat_lt 0 s) (dep_name r (s - 1) h (before_machine m p) m)) x has)
 
   update_sent : (m r s h : ℕ) → m < ring.machines → 1 ≤ r → s < ring.machines - 1 → h ≤ 1 →
       IsSentBefore ring m Dense (Close r true) (update_name r s h (order_of m s ring.machines) m)

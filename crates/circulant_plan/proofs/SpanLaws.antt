@@ -101,17 +101,17 @@ rises_far from up (suc k) a b e =
     omega (arith, up a, rises_far from up k (a + 1) b e')
 
 -- chunks side by side are one span
-pub spans_cover : {X : Type 0} (key : X → ℕ) (from : ℕ → ℕ) (xs : List X) →
-    ((m : ℕ) → from m ≤ from (m + 1)) → Rises key xs → (k a b : ℕ) → a + k ≡ b →
-    flat_map (λ m. span key (from m) (from (m + 1)) xs) (range_with_len a k) ≡ span key (from a) (from b) xs
-spans_cover key from xs up h zero a b e =
-    let same : a ≡ b = omega arith in
-    let le : from b ≤ from a = rw same (omega arith) in
-    sym (span_nothing key (from a) (from b) xs le)
-spans_cover key from xs up h (suc k) a b e =
-    let e' : a + 1 + k ≡ b = omega arith in
-    ap (λ ys. span key (from a) (from (a + 1)) xs ++ ys) (spans_cover key from xs up h k (a + 1) b e')
-    ∙ span_join key (from a) (from (a + 1)) (from b) xs (up a) (rises_far from up k (a + 1) b e') h
+module _ {X : Type 0} (key : X → ℕ) (from : ℕ → ℕ) (xs : List X) where
+  pub spans_cover : ((m : ℕ) → from m ≤ from (m + 1)) → Rises key xs → (k a b : ℕ) → a + k ≡ b →
+      flat_map (λ m. span key (from m) (from (m + 1)) xs) (range_with_len a k) ≡ span key (from a) (from b) xs
+  spans_cover up h zero a b e =
+      let same : a ≡ b = omega arith in
+      let le : from b ≤ from a = rw same (omega arith) in
+      sym (span_nothing key (from a) (from b) xs le)
+  spans_cover up h (suc k) a b e =
+      let e' : a + 1 + k ≡ b = omega arith in
+      ap (λ ys. span key (from a) (from (a + 1)) xs ++ ys) (spans_cover up h k (a + 1) b e')
+      ∙ span_join key (from a) (from (a + 1)) (from b) xs (up a) (rises_far from up k (a + 1) b e') h
 
 pub range_split : (a b c d : ℕ) → c + a ≡ d → range_with_len c (a + b) ≡ range_with_len c a ++ range_with_len d b
 range_split zero b c d e =

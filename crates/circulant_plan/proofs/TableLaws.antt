@@ -43,20 +43,21 @@ other_past p m k within ge =
     (omega (arith, length-range_with_len (m + 1) (p - 1 - m)))
 
 -- two elements for each number
-pairs_get : {X : Type 0} (f : ℕ → ℕ → X) (a n k s h j : ℕ) → k ≡ 2 * s + h → h < 2 → s < n → a + s ≡ j →
-    slice_get (flat_map (λ i. f i 0 ∷ f i 1 ∷ []) (range_with_len a n)) k ≡ Some (f j h)
-pairs_get f a zero k s h j e small lt at = absurd (omega arith)
-pairs_get f a (suc n) zero zero zero j e small lt at = let same : a ≡ j = omega arith in ap (λ q. Some (f q 0)) same
-pairs_get f a (suc n) zero zero (suc h) j e small lt at = absurd (omega arith)
-pairs_get f a (suc n) zero (suc s) h j e small lt at = absurd (omega arith)
-pairs_get f a (suc n) (suc zero) zero zero j e small lt at = absurd (omega arith)
-pairs_get f a (suc n) (suc zero) zero (suc zero) j e small lt at =
-    let same : a ≡ j = omega arith in ap (λ q. Some (f q 1)) same
-pairs_get f a (suc n) (suc zero) zero (suc (suc h)) j e small lt at = absurd (omega arith)
-pairs_get f a (suc n) (suc zero) (suc s) h j e small lt at = absurd (omega arith)
-pairs_get f a (suc n) (suc (suc k)) zero h j e small lt at = absurd (omega arith)
-pairs_get f a (suc n) (suc (suc k)) (suc s) h j e small lt at =
-    pairs_get f (a + 1) n k s h j (omega arith) small (omega arith) (omega arith)
+module _ {X : Type 0} (f : ℕ → ℕ → X) (j : ℕ) where
+  pairs_get : (a n k s h : ℕ) → k ≡ 2 * s + h → (h < 2) × (s < n) → a + s ≡ j →
+      slice_get (flat_map (λ i. f i 0 ∷ f i 1 ∷ []) (range_with_len a n)) k ≡ Some (f j h)
+  pairs_get a zero k s h e within at = absurd (omega arith)
+  pairs_get a (suc n) zero zero zero e within at = let same : a ≡ j = omega arith in ap (λ q. Some (f q 0)) same
+  pairs_get a (suc n) zero zero (suc h) e within at = absurd (omega arith)
+  pairs_get a (suc n) zero (suc s) h e within at = absurd (omega arith)
+  pairs_get a (suc n) (suc zero) zero zero e within at = absurd (omega arith)
+  pairs_get a (suc n) (suc zero) zero (suc zero) e within at =
+      let same : a ≡ j = omega arith in ap (λ q. Some (f q 1)) same
+  pairs_get a (suc n) (suc zero) zero (suc (suc h)) e within at = absurd (omega arith)
+  pairs_get a (suc n) (suc zero) (suc s) h e within at = absurd (omega arith)
+  pairs_get a (suc n) (suc (suc k)) zero h e within at = absurd (omega arith)
+  pairs_get a (suc n) (suc (suc k)) (suc s) h e within at =
+      pairs_get (a + 1) n k s h (omega arith) (within.0, omega arith) (omega arith)
 
 pub pairs_length : {X : Type 0} (f : ℕ → ℕ → X) (a n : ℕ) →
     length (flat_map (λ i. f i 0 ∷ f i 1 ∷ []) (range_with_len a n)) ≡ 2 * n
@@ -69,7 +70,7 @@ update_at p r m k lt =
     let q : k ≡ 2 * (k / 2) + k % 2 = omega arith in
     let small : k % 2 < 2 = omega arith in
     let low : k / 2 < p - 1 = omega arith in
-    pairs_get (λ s h. update_name r s h (order_of m s p) m) 0 (p - 1) k (k / 2) (k % 2) (k / 2) q small low
+    pairs_get (λ s h. update_name r s h (order_of m s p) m) (k / 2) 0 (p - 1) k (k / 2) (k % 2) q (small, low)
     (omega arith)
 
 pub update_past : (p r m k : ℕ) → 2 * (p - 1) ≤ k → slice_get (updates_to p r m) k ≡ None

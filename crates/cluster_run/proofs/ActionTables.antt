@@ -38,14 +38,14 @@ mode_for ring m ruling (Close r false) has = record { mode = Sparse; goes = spar
 mode_for ring m ruling Over has = record { mode = Dense; goes = dense_goes; has = tt }
 
 -- what a machine needs is addressed to it, and of the round of the spot
-pub need_here : (ring : Ring) (m : ℕ) (ruling : Ruling) (spot : Spot) (x : Name) → m < ring.machines →
-    ring.machines ≤ 64 → HasSpot ring m ruling spot → Has (needs_of ring m spot) x →
-    (x.to ≡ m) × (x.round ≡ round_of 0 spot)
-need_here ring m ruling spot x within few has h =
-    let mode = mode_for ring m ruling spot has in
-    let sent = needed_is_sent ring m mode.mode spot x within few mode.goes mode.has
-    (contains_from_has (needs_of ring m spot) x h) in
-    (sent.to, sent.round)
+module _ (ring : Ring) (m : ℕ) (ruling : Ruling) (spot : Spot) (x : Name) where
+  pub need_here : m < ring.machines → ring.machines ≤ 64 → HasSpot ring m ruling spot →
+      Has (needs_of ring m spot) x → (x.to ≡ m) × (x.round ≡ round_of 0 spot)
+  need_here within few has h =
+      let mode = mode_for ring m ruling spot has in
+      let sent = needed_is_sent ring m mode.mode spot x within few mode.goes mode.has
+      (contains_from_has (needs_of ring m spot) x h) in
+      (sent.to, sent.round)
 
 -- ---- what a machine sends
 abbrev IsFrom : ℕ → Spot → Name → Type 0
@@ -171,15 +171,15 @@ judge_leaves r Stop over begins = false≢true (sym over)
 judge_leaves r Dense over begins = false≢true (sym begins)
 judge_leaves r Sparse over begins = false≢true (sym begins)
 
-pub stays_by : (ring : Ring) (m : ℕ) (a judged known : Ruling) (spot : Spot) (made : List (ℕ × Ruling)) →
-    is_over (next_spot ring m spot a) ≡ false → is_begin (next_spot ring m spot a) ≡ false →
-    StaysBy judged known spot made
-stays_by ring m a judged known Tell made over begins = record { acting_is = refl; rulings_are = refl }
-stays_by ring m a judged known (Judge r) made over begins = absurd (judge_leaves r a over begins)
-stays_by ring m a judged known (Begin r) made over begins = record { acting_is = refl; rulings_are = refl }
-stays_by ring m a judged known (Scan r s h) made over begins = record { acting_is = refl; rulings_are = refl }
-stays_by ring m a judged known (Close r dense) made over begins = record { acting_is = refl; rulings_are = refl }
-stays_by ring m a judged known Over made over begins = record { acting_is = refl; rulings_are = refl }
+module _ (ring : Ring) (m : ℕ) (a judged known : Ruling) where
+  pub stays_by : (spot : Spot) (made : List (ℕ × Ruling)) → is_over (next_spot ring m spot a) ≡ false →
+      is_begin (next_spot ring m spot a) ≡ false → StaysBy judged known spot made
+  stays_by Tell made over begins = record { acting_is = refl; rulings_are = refl }
+  stays_by (Judge r) made over begins = absurd (judge_leaves r a over begins)
+  stays_by (Begin r) made over begins = record { acting_is = refl; rulings_are = refl }
+  stays_by (Scan r s h) made over begins = record { acting_is = refl; rulings_are = refl }
+  stays_by (Close r dense) made over begins = record { acting_is = refl; rulings_are = refl }
+  stays_by Over made over begins = record { acting_is = refl; rulings_are = refl }
 
 -- at a judge the ruling has to be one that it may make
 pub rules_by : (blocks : Blocks) (judged : Ruling) (spot : Spot) →

@@ -38,17 +38,17 @@ pub state_at : {X : Type 0} → (state : X → State) (xs : List X) (m : ℕ) (x
 state_at state xs m x lt is = map_get state xs m x (slice_get_read xs (length xs) m x refl lt is)
 
 -- a machine is replaced by one in this state
-pub replaced : {X : Type 0} → (state : X → State) (xs : List X) (m : ℕ) (x y : X) (s t : State) →
-    slice_get (map state xs) m ≡ Some (state x) → slice_get (map state xs) m ≡ Some s →
-    (state x ≡ s → state y ≡ t) → map state (slice_set xs m y) ≡ slice_set (map state xs) m t
-replaced state xs m x y s t here at is =
-    map_set state xs m y ∙ ap (slice_set (map state xs) m)
-    (is (get_one (slice_get (map state xs) m) (state x) s here at))
+module _ {X : Type 0} (state : X → State) (xs : List X) (m : ℕ) (x y : X) (s t : State) where
+  pub replaced : slice_get (map state xs) m ≡ Some (state x) → slice_get (map state xs) m ≡ Some s →
+      (state x ≡ s → state y ≡ t) → map state (slice_set xs m y) ≡ slice_set (map state xs) m t
+  replaced here at is =
+      map_set state xs m y ∙ ap (slice_set (map state xs) m)
+      (is (get_one (slice_get (map state xs) m) (state x) s here at))
 
-pub sent_by : {X : Type 0} → (state : X → State) (work : Work) (xs : List X) (m : ℕ) (x : X) (s : State)
-    (out sent : List Message) →
-    slice_get (map state xs) m ≡ Some (state x) → slice_get (map state xs) m ≡ Some s → out ≡ [] →
-    map letter_of sent ≡ map letter_of out ++ work.sent (state x) → map letter_of sent ≡ work.sent s
-sent_by state work xs m x s out sent here at none is =
-    is ∙ ap (λ ms. map letter_of ms ++ work.sent (state x)) none
-    ∙ ap work.sent (get_one (slice_get (map state xs) m) (state x) s here at)
+module _ {X : Type 0} (state : X → State) (work : Work) (xs : List X) (m : ℕ) (x : X) (s : State)
+    (out sent : List Message) where
+  pub sent_by : slice_get (map state xs) m ≡ Some (state x) → slice_get (map state xs) m ≡ Some s → out ≡ [] →
+      map letter_of sent ≡ map letter_of out ++ work.sent (state x) → map letter_of sent ≡ work.sent s
+  sent_by here at none is =
+      is ∙ ap (λ ms. map letter_of ms ++ work.sent (state x)) none
+      ∙ ap work.sent (get_one (slice_get (map state xs) m) (state x) s here at)

@@ -30,15 +30,16 @@ same_item (x ∷ xs) zero d e lt = refl
 same_item (x ∷ xs) (suc k) d e lt = same_item xs k d e (omega arith)
 
 -- what holds of the first of some elements holds of one element more
-pub one_more : {X : Type 0} (P : X → Type 0) (xs : List X) (i : ℕ) (x : X) → i < length xs → x ≡ get_or xs i x →
-    P x → ((k : ℕ) (d : X) → k < i → P (get_or xs k d)) → (k : ℕ) (d : X) → k < i + 1 → P (get_or xs k d)
-one_more P xs i x within is holds before k d lt =
-    ⊎_elim
-    (λ (early : k < i). before k d early)
-    (λ (late : i ≤ k).
-    let same : i ≡ k = omega arith in
-    subst (λ j. P (get_or xs j d)) same (subst P (is ∙ same_item xs i x d within) holds))
-    (cases_lt k i)
+module _ {X : Type 0} (P : X → Type 0) (xs : List X) (i : ℕ) (x : X) where
+  pub one_more : i < length xs → x ≡ get_or xs i x → P x → ((k : ℕ) (d : X) → k < i → P (get_or xs k d)) →
+      (k : ℕ) (d : X) → k < i + 1 → P (get_or xs k d)
+  one_more within is holds before k d lt =
+      ⊎_elim
+      (λ (early : k < i). before k d early)
+      (λ (late : i ≤ k).
+      let same : i ≡ k = omega arith in
+      subst (λ j. P (get_or xs j d)) same (subst P (is ∙ same_item xs i x d within) holds))
+      (cases_lt k i)
 
 pub made_is : (make : PlainPart → Split → State) (split : Split) (ps : List Part) →
     All (λ part. part.split.value ≡ split) ps → map (made make) ps ≡ map (λ part. make part split) (map plain_of ps)
@@ -69,14 +70,15 @@ put_behind state [] x ss = refl
 put_behind state (y ∷ xs) x ss = ap (λ zs. state y ∷ zs) (put_behind state xs x ss)
 
 -- a machine more is made of the first part
-pub one_made : {X : Type 0} → (state : X → State) (make : PlainPart → Split → State) (xs ys : List X) (x : X)
-    (ps rest : List Part) (p : Part) → ps ≡ p ∷ rest → state x ≡ made make p → ys ≡ xs ++ x ∷ [] →
-    map state ys ++ map (made make) rest ≡ map state xs ++ map (made make) ps
-one_made state make xs ys x ps rest p first is grown =
-    ap (λ zs. map state zs ++ map (made make) rest) grown
-    ∙ put_behind state xs x (map (made make) rest)
-    ∙ ap (λ s. map state xs ++ s ∷ map (made make) rest) is
-    ∙ ap (λ qs. map state xs ++ map (made make) qs) (sym first)
+module _ {X : Type 0} (state : X → State) (make : PlainPart → Split → State) (xs ys : List X) (x : X)
+    (ps rest : List Part) (p : Part) where
+  pub one_made : ps ≡ p ∷ rest → state x ≡ made make p → ys ≡ xs ++ x ∷ [] →
+      map state ys ++ map (made make) rest ≡ map state xs ++ map (made make) ps
+  one_made first is grown =
+      ap (λ zs. map state zs ++ map (made make) rest) grown
+      ∙ put_behind state xs x (map (made make) rest)
+      ∙ ap (λ s. map state xs ++ s ∷ map (made make) rest) is
+      ∙ ap (λ qs. map state xs ++ map (made make) qs) (sym first)
 
 all_made : (make : PlainPart → Split → State) (left : List Part) (ss made_ones : List State) → length left ≡ 0 →
     ss ++ map (made make) (reverse left) ≡ made_ones → ss ≡ made_ones
@@ -84,48 +86,53 @@ all_made make [] ss made_ones none is = sym (append-nil ss) ∙ is
 all_made make (p ∷ left) ss made_ones none is = absurd (omega arith)
 
 -- all machines are made, and nothing is under way: this is the first world
-pub begins : {X : Type 0} → (state : X → State) (make : PlainPart → Split → State) (split : Split)
-    (ps left : List Part) (xs : List X) (flight : List Letter) → length left ≡ 0 →
-    map state xs ++ map (made make) (reverse left) ≡ map (made make) ps → All (λ part. part.split.value ≡ split) ps →
-    flight ≡ [] →
-    world_of state xs flight
-    ≡ (let w : World = record { sites = map (λ part. make part split) (map plain_of ps); under_way = [] } in w)
-begins state make split ps left xs flight none is same empty =
-    ap (world_of state xs) empty
-    ∙ ap (λ ss. (let w : World = record { sites = ss; under_way = [] } in w))
-    (all_made make left (map state xs) (map (made make) ps) none is ∙ made_is make split ps same)
+module _ {X : Type 0} (state : X → State) (make : PlainPart → Split → State) (split : Split)
+    (ps left : List Part) (xs : List X) (flight : List Letter) where
+  pub begins : length left ≡ 0 → map state xs ++ map (made make) (reverse left) ≡ map (made make) ps →
+      All (λ part. part.split.value ≡ split) ps → flight ≡ [] →
+      world_of state xs flight ≡ (let w : World = record {
+        sites = map (λ part. make part split) (map plain_of
+            ps);
+        under_way = [];
+      } in w)
+  begins none is same empty =
+      ap (world_of state xs) empty
+      ∙ ap (λ ss. (let w : World = record { sites = ss; under_way = [] } in w))
+      (all_made make left (map state xs) (map (made make) ps) none is ∙ made_is make split ps same)
 
 -- and it is reached
-reached_first : (work : Work) (sound : State → Type 0) (split : Split) (ps : List Part) (first w : World) →
-    IsOneRun (map plain_of ps) → All (λ part. CanRun part split) (map plain_of ps) →
-    IsFirst work sound split (map plain_of ps) first → w ≡ first → IsReached work sound w
-reached_first work sound split ps first w one runs is_first is = record {
-  split = split;
-  parts = map plain_of ps;
-  one_run = one;
-  can_run = runs;
-  first = first;
-  is_first = is_first;
-  events = [];
-  were_possible = refl;
-  here = is;
-}
+module _ (work : Work) (sound : State → Type 0) (split : Split) (ps : List Part) (first w : World) where
+  reached_first : IsOneRun (map plain_of ps) → All (λ part. CanRun part split) (map plain_of ps) →
+      IsFirst work sound split (map plain_of ps) first → w ≡ first → IsReached work sound w
+  reached_first one runs is_first is = record {
+    split = split;
+    parts = map plain_of ps;
+    one_run = one;
+    can_run = runs;
+    first = first;
+    is_first = is_first;
+    events = [];
+    were_possible = refl;
+    here = is;
+  }
 
-pub anew_reached : (work : Work) (sound : State → Type 0) (split : Split) (ps : List Part) (w : World) →
-    IsOneRun (map plain_of ps) → All RunsOn ps → All (λ part. part.split.value ≡ split) ps →
-    w ≡ first_world work split (map plain_of ps) → IsReached work sound w
-anew_reached work sound split ps w one runs same is =
-    reached_first work sound split ps (first_world work split (map plain_of ps)) w one
-    (all_plain CanRun split ps runs same) (anew refl) is
+module _ (work : Work) (sound : State → Type 0) (split : Split) (ps : List Part) (w : World) where
+  pub anew_reached : IsOneRun (map plain_of ps) → All RunsOn ps → All (λ part. part.split.value ≡ split) ps →
+      w ≡ first_world work split (map plain_of ps) → IsReached work sound w
+  anew_reached one runs same is =
+      reached_first work sound split ps (first_world work split (map plain_of ps)) w one
+      (all_plain CanRun split ps runs same) (anew refl) is
 
-pub again_reached : (work : Work) (sound : State → Type 0) → IsRestartLawful work sound → (split : Split)
-    (ps : List Part) (start : PlainStart) (w : World) → IsOneRun (map plain_of ps) → All RunsOn ps →
-    All (λ part. IsStart (plain_of part) part.split.value start) ps → All (λ part. part.split.value ≡ split) ps →
-    w ≡ restarted_world work split (map plain_of ps) start → IsReached work sound w
-again_reached work sound restarts split ps start w one runs starts same is =
-    let can_run = all_plain CanRun split ps runs same in
-    reached_first work sound split ps (restarted_world work split (map plain_of ps) start) w one can_run
-    (again start.round start.ruling
-    (is_restarted work sound restarts split (map plain_of ps) one can_run start
-    (all_plain (λ part program. IsStart part program start) split ps starts same)))
-    is
+module _ (work : Work) (sound : State → Type 0) (restarts : IsRestartLawful work sound) (split : Split)
+    (ps : List Part) (start : PlainStart) (w : World) where
+  pub again_reached : IsOneRun (map plain_of ps) → All RunsOn ps →
+      All (λ part. IsStart (plain_of part) part.split.value start) ps →
+      All (λ part. part.split.value ≡ split) ps → w ≡ restarted_world work split (map plain_of ps) start →
+      IsReached work sound w
+  again_reached one runs starts same is =
+      let can_run = all_plain CanRun split ps runs same in
+      reached_first work sound split ps (restarted_world work split (map plain_of ps) start) w one can_run
+      (again start.round start.ruling
+      (is_restarted work sound restarts split (map plain_of ps) one can_run start
+      (all_plain (λ part program. IsStart part program start) split ps starts same)))
+      is

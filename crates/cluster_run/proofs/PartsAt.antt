@@ -44,17 +44,17 @@ pub parts_some : (parts : List PlainPart) (one : IsOneRun parts) → 1 ≤ lengt
 parts_some parts one = let count = parts_count parts one in let some = one.chunks.0 in omega arith
 
 -- a body fits at the receiver where it fits at the sender
-pub fits_along : (split : Split) (parts : List PlainPart) (one : IsOneRun parts) (l : Letter) (from to : PlainPart) →
-    slice_get parts l.name.from ≡ Some from → slice_get parts l.name.to ≡ Some to →
-    (shape : BodyShape) → shape_of split from l.name ≡ Some shape → is_fit shape l.body ≡ true →
-    (shape : BodyShape) × (shape_of split to l.name ≡ Some shape) × (is_fit shape l.body ≡ true)
-fits_along split parts one l from to at_from at_to shape has fits =
-    let f = part_at parts one l.name.from from at_from in
-    let t = part_at parts one l.name.to to at_to in (
-      shape,
-      ap (λ part. shape_of split part l.name) t.0
-          ∙ sym (shapes_agree split one.ends one.draws one.edges l.name f.1 t.1)
-          ∙ sym (ap (λ part. shape_of split part l.name) f.0)
-          ∙ has,
-      fits,
-    )
+module _ (split : Split) (parts : List PlainPart) (one : IsOneRun parts) (l : Letter) (from to : PlainPart) where
+  pub fits_along : slice_get parts l.name.from ≡ Some from → slice_get parts l.name.to ≡ Some to →
+      (shape : BodyShape) → shape_of split from l.name ≡ Some shape → is_fit shape l.body ≡ true →
+      (shape : BodyShape) × (shape_of split to l.name ≡ Some shape) × (is_fit shape l.body ≡ true)
+  fits_along at_from at_to shape has fits =
+      let f = part_at parts one l.name.from from at_from in
+      let t = part_at parts one l.name.to to at_to in (
+        shape,
+        ap (λ part. shape_of split part l.name) t.0
+            ∙ sym (shapes_agree split one.ends one.draws one.edges l.name f.1 t.1)
+            ∙ sym (ap (λ part. shape_of split part l.name) f.0)
+            ∙ has,
+        fits,
+      )

@@ -28,18 +28,18 @@ pub record IsDone (work : Work) (sound : State → Type 0) (old new : World) (e 
   pub nearer : events_left new < events_left old
   pub few : length new.sites ≤ 64
 
-done : (work : Work) (sound : State → Type 0) → IsLawful work sound → (old new : World) (e : Event) →
-    IsReached work sound old →
-    possible old e ≡ true → event_fault old e ≡ None → new ≡ step work old e → IsDone work sound old new e
-done work sound lawful old new e r can free is =
-    let on : IsReached work sound new = subst (IsReached work sound) (sym is) (steps_on work sound old e r can) in
-    record {
-      free = free;
-      is = is;
-      reached = on;
-      nearer = subst (λ w. events_left w < events_left old) (sym is) (reached_nearer work sound lawful old r e can);
-      few = reached_few work sound lawful new on;
-    }
+module _ (work : Work) (sound : State → Type 0) where
+  done : IsLawful work sound → (old new : World) (e : Event) → IsReached work sound old →
+      possible old e ≡ true → event_fault old e ≡ None → new ≡ step work old e → IsDone work sound old new e
+  done lawful old new e r can free is =
+      let on : IsReached work sound new = subst (IsReached work sound) (sym is) (steps_on work sound old e r can) in
+      record {
+        free = free;
+        is = is;
+        reached = on;
+        nearer = subst (λ w. events_left w < events_left old) (sym is) (reached_nearer work sound lawful old r e can);
+        few = reached_few work sound lawful new on;
+      }
 
 module _ {X : Type 0} (work : Work) (sound : State → Type 0) (lawful : IsLawful work sound) (state : X → State)
     (xs : List X) (flight : List Letter) (r : IsReached work sound (world_of state xs flight)) where

@@ -42,18 +42,18 @@ pub record CanBegin (work : Work) (part : PlainPart) (split : Split) (start : Pl
   pub starts : IsStart s.part s.split start
   pub begins : work.restarted s.part s.split start ≡ work.restarted part split start
 
-pub can_begin : (work : Work) (sound : State → Type 0) → IsLawful work sound → (part : PlainPart) (split : Split)
-    (start : PlainStart) (s : State) → s ≡ work.first part split → IsStart part split start →
-    CanBegin work part split start s
-can_begin work sound lawful part split start s is starts =
-    let has_part : part ≡ s.part = sym (ap (λ (q : State). q.part) is ∙ lawful.first_part part split) in
-    let has_split : split ≡ s.split = sym (ap (λ (q : State). q.split) is ∙ lawful.first_split part split) in
-    record {
-      made = is ∙ ap (λ p. work.first p split) has_part ∙ ap (λ q. work.first s.part q) has_split;
-      starts = subst (λ p. IsStart p s.split start) has_part (subst (λ q. IsStart part q start) has_split starts);
-      begins = ap (λ p. work.restarted p s.split start) (sym has_part)
-          ∙ ap (λ q. work.restarted part q start) (sym has_split);
-    }
+module _ (work : Work) (sound : State → Type 0) where
+  pub can_begin : IsLawful work sound → (part : PlainPart) (split : Split) (start : PlainStart) (s : State) →
+      s ≡ work.first part split → IsStart part split start → CanBegin work part split start s
+  can_begin lawful part split start s is starts =
+      let has_part : part ≡ s.part = sym (ap (λ (q : State). q.part) is ∙ lawful.first_part part split) in
+      let has_split : split ≡ s.split = sym (ap (λ (q : State). q.split) is ∙ lawful.first_split part split) in
+      record {
+        made = is ∙ ap (λ p. work.first p split) has_part ∙ ap (λ q. work.first s.part q) has_split;
+        starts = subst (λ p. IsStart p s.split start) has_part (subst (λ q. IsStart part q start) has_split starts);
+        begins = ap (λ p. work.restarted p s.split start) (sym has_part)
+            ∙ ap (λ q. work.restarted part q start) (sym has_split);
+      }
 
 one_holds : {X : Type 0} (P : X → Type 0) (xs : List X) → 1 ≤ length xs → All P xs → (x : X) × P x
 one_holds P [] some all = absurd (omega arith)

@@ -63,12 +63,13 @@ for_other taken true x y j round e differ =
 for_other taken false x y j round e differ = refl
 
 -- a name taken here counts
-for_it : (taken b : Bool) (x y : Name) (m round : ℕ) → same_name y x ≡ b → x.to ≡ m → x.round ≡ round →
-    (b || (taken && is_for m round y)) ≡ ((b || taken) && is_for m round y)
-for_it taken true x y m round e to at =
-    let named : y ≡ x = names_law y x e in
-    sym (is_for_it m round y (ap (λ (z : Name). z.to) named ∙ to) (ap (λ (z : Name). z.round) named ∙ at))
-for_it taken false x y m round e to at = refl
+module _ (taken : Bool) where
+  for_it : (b : Bool) (x y : Name) (m round : ℕ) → same_name y x ≡ b → x.to ≡ m → x.round ≡ round →
+      (b || (taken && is_for m round y)) ≡ ((b || taken) && is_for m round y)
+  for_it true x y m round e to at =
+      let named : y ≡ x = names_law y x e in
+      sym (is_for_it m round y (ap (λ (z : Name). z.to) named ∙ to) (ap (λ (z : Name). z.round) named ∙ at))
+  for_it false x y m round e to at = refl
 
 no_letter : (taken : Bool) (b : Bool) → taken ≡ false → (taken && b) ≡ false
 no_letter taken b e = rw e refl

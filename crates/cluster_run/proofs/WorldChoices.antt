@@ -166,12 +166,13 @@ pub reached_in : (work : Work) (sound : State → Type 0) (inside d : Driven) �
 reached_in work sound inside d same driven =
     subst (λ (q : Driven). q.ended ≡ false → IsReached work sound q.world) same driven.reached
 
-pub seen : {X R : Type 0} → (state : X → State) (f : World → R) (xs ys : List X) (flight : List Letter) (b : Bool)
-    (d : Driven) (r : R) → xs ≡ ys →
-    (let inside : Driven = record { world = world_of state ys flight; ended = b } in inside) ≡ d →
-    r ≡ f (world_of state xs flight) → r ≡ f d.world
-seen state f xs ys flight b d r same view is =
-    is ∙ ap (λ zs. f (world_of state zs flight)) same ∙ ap (λ (q : Driven). f q.world) view
+module _ {X R : Type 0} (state : X → State) (f : World → R) (xs ys : List X) (flight : List Letter) (b : Bool)
+    (d : Driven) (r : R) where
+  pub seen : xs ≡ ys →
+      (let inside : Driven = record { world = world_of state ys flight; ended = b } in inside) ≡ d →
+      r ≡ f (world_of state xs flight) → r ≡ f d.world
+  seen same view is =
+      is ∙ ap (λ zs. f (world_of state zs flight)) same ∙ ap (λ (q : Driven). f q.world) view
 
 -- the plain event
 first_of : {X : Type 0} → (xs : List X) → 1 ≤ length xs → (x : X) × (slice_get xs 0 ≡ Some x) × Contains xs x

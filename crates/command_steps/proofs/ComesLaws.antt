@@ -66,59 +66,62 @@ IsSafe courses order files input faults after spare = (Rose faults after → ⊥
     ((room : ℕ) × Fits courses order files input room × (room ≤ spare))
 
 module _ (courses : Task → Course → Type 0) where
-  private_safe : (first second : Order) (files others : List File) (input other : Option (List ℕ))
-      (faults after spare : ℕ) →
-      ((room : ℕ) → Fits courses first files input room → Fits courses second others other room) →
-      IsSafe courses first files input faults after spare → IsSafe courses second others other faults after spare
-  private_safe first second files others input other faults after spare step (inl calm) = inl calm
-  private_safe first second files others input other faults after spare step (inr (room, fits, most)) = inr (
-    room,
-    step room fits,
-    most,
-  )
+  module _ (first second : Order) (files others : List File) (input other : Option (List ℕ))
+      (faults after spare : ℕ) where
+    private_safe : ((room : ℕ) → Fits courses first files input room → Fits courses second others other room) →
+        IsSafe courses first files input faults after spare →
+        IsSafe courses second others other faults after spare
+    private_safe step (inl calm) = inl calm
+    private_safe step (inr (room, fits, most)) = inr (
+      room,
+      step room fits,
+      most,
+    )
 
   -- a put of a text that fits fails only where the count rose
-  no_put : (text : List ℕ) (next : Order) (files : List File) (input : Option (List ℕ)) (faults after spare : ℕ) →
-      IsSafe courses (Puts text next) files input faults after spare → Rose faults after → spare ≤ length text → ⊥
-  no_put text next files input faults after spare (inl calm) rose short = calm rose
-  no_put text next files input faults after spare (inr (room, fits, most)) rose short = omega (
-    arith,
-    fits.0,
-    most,
-    short,
-  )
+  module _ (text : List ℕ) (next : Order) (files : List File) (input : Option (List ℕ)) (faults after spare : ℕ) where
+    no_put : IsSafe courses (Puts text next) files input faults after spare → Rose faults after →
+        spare ≤ length text → ⊥
+    no_put (inl calm) rose short = calm rose
+    no_put (inr (room, fits, most)) rose short = omega (
+      arith,
+      fits.0,
+      most,
+      short,
+    )
 
-  after_safe : (text : List ℕ) (next : Order) (files : List File) (input : Option (List ℕ))
-      (faults after spare left : ℕ) → spare ≤ left + length text →
-      IsSafe courses (Puts text next) files input faults after spare → IsSafe courses next files input faults after left
-  after_safe text next files input faults after spare left spared (inl calm) = inl calm
-  after_safe text next files input faults after spare left spared (inr (room, fits, most)) = inr (
-    room - length text,
-    fits.1,
-    omega (arith, spared, most),
-  )
+  module _ (text : List ℕ) (next : Order) (files : List File) (input : Option (List ℕ))
+      (faults after spare left : ℕ) where
+    after_safe : spare ≤ left + length text → IsSafe courses (Puts text next) files input faults after spare →
+        IsSafe courses next files input faults after left
+    after_safe spared (inl calm) = inl calm
+    after_safe spared (inr (room, fits, most)) = inr (
+      room - length text,
+      fits.1,
+      omega (arith, spared, most),
+    )
 
   -- the same where the input is served
-  no_served_put : (used : List ℕ → ℕ) (text : List ℕ → List ℕ) (next : List ℕ → Order) (files : List File)
-      (bytes : List ℕ) (faults after spare : ℕ) →
-      IsSafe courses (Serves used text next) files (Some bytes) faults after spare → Rose faults after →
-      spare ≤ length (text bytes) → ⊥
-  no_served_put used text next files bytes faults after spare (inl calm) rose short = calm rose
-  no_served_put used text next files bytes faults after spare (inr (room, fits, most)) rose short = omega (
-    arith,
-    fits.0,
-    most,
-    short,
-  )
+  module _ (used : List ℕ → ℕ) (text : List ℕ → List ℕ) (next : List ℕ → Order) (files : List File)
+      (bytes : List ℕ) (faults after spare : ℕ) where
+    no_served_put : IsSafe courses (Serves used text next) files (Some bytes) faults after spare →
+        Rose faults after → spare ≤ length (text bytes) → ⊥
+    no_served_put (inl calm) rose short = calm rose
+    no_served_put (inr (room, fits, most)) rose short = omega (
+      arith,
+      fits.0,
+      most,
+      short,
+    )
 
-  served_safe : (used : List ℕ → ℕ) (text : List ℕ → List ℕ) (next : List ℕ → Order) (files : List File)
-      (bytes : List ℕ) (faults after spare left : ℕ) →
-      spare ≤ left + length (text bytes) →
-      IsSafe courses (Serves used text next) files (Some bytes) faults after spare →
-      IsSafe courses (next bytes) files (Some (drop (used bytes) bytes)) faults after left
-  served_safe used text next files bytes faults after spare left spared (inl calm) = inl calm
-  served_safe used text next files bytes faults after spare left spared (inr (room, fits, most)) =
-      inr (room - length (text bytes), fits.1, omega (arith, spared, most))
+  module _ (used : List ℕ → ℕ) (text : List ℕ → List ℕ) (next : List ℕ → Order) (files : List File)
+      (bytes : List ℕ) (faults after spare left : ℕ) where
+    served_safe : spare ≤ left + length (text bytes) →
+        IsSafe courses (Serves used text next) files (Some bytes) faults after spare →
+        IsSafe courses (next bytes) files (Some (drop (used bytes) bytes)) faults after left
+    served_safe spared (inl calm) = inl calm
+    served_safe spared (inr (room, fits, most)) =
+        inr (room - length (text bytes), fits.1, omega (arith, spared, most))
 
 -- ---- one step
 

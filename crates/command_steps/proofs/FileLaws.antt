@@ -21,11 +21,11 @@ text_from old new name typed has =
     record { text = has.text; under = has.under; within = has.within; says = has.says; same = refl }
 
 -- a graph that was loaded behind another file
-pub bytes_from : (old mid new : Kept) (form : GraphForm) (name : List ℕ) (graph : Graph) (bytes : List ℕ) →
-    mid ≡ old → ((has : HasGraph mid new form name graph) × (has.bytes ≡ bytes)) →
-    (has : HasGraph old new form name graph) × (has.bytes ≡ bytes)
-bytes_from old mid new form name graph bytes same found =
-    let P : Kept → Type 0 = λ k. (has : HasGraph k new form name graph) × (has.bytes ≡ bytes) in subst P same found
+module _ (old mid new : Kept) (form : GraphForm) (name : List ℕ) (graph : Graph) (bytes : List ℕ) where
+  pub bytes_from : mid ≡ old → ((has : HasGraph mid new form name graph) × (has.bytes ≡ bytes)) →
+      (has : HasGraph old new form name graph) × (has.bytes ≡ bytes)
+  bytes_from same found =
+      let P : Kept → Type 0 = λ k. (has : HasGraph k new form name graph) × (has.bytes ≡ bytes) in subst P same found
 
 module _ (courses : Task → Course → Type 0) where
   -- ---- files that must be there
@@ -51,47 +51,49 @@ module _ (courses : Task → Course → Type 0) where
   -- ---- tries
 
   -- the file was loaded, and then the rest came
-  pub try_there : (old new : Kept) (name : List ℕ) (limit : ℕ) (bytes : List ℕ) → HasTried old new name limit bytes →
-      (next : Option (List ℕ) → Order) (out : Held) (input : Left) (after : Outside) (outcome : Option Fault) →
-      Leaves courses (next (Some bytes)) (outside new out input) after outcome →
-      Leaves courses (Tries name limit next) (outside old out input) after outcome
-  try_there old new name limit bytes has next out input after outcome rest =
-      let P : Kept → Type 0 = λ k. Leaves courses (next (Some bytes)) (outside k out input) after outcome in
-      IsThere bytes has.under has.within (subst P has.same rest)
+  module _ (old new : Kept) (name : List ℕ) (limit : ℕ) (bytes : List ℕ) where
+    pub try_there : HasTried old new name limit bytes →
+        (next : Option (List ℕ) → Order) (out : Held) (input : Left) (after : Outside) (outcome : Option Fault)
+        → Leaves courses (next (Some bytes)) (outside new out input) after outcome →
+        Leaves courses (Tries name limit next) (outside old out input) after outcome
+    try_there has next out input after outcome rest =
+        let P : Kept → Type 0 = λ k. Leaves courses (next (Some bytes)) (outside k out input) after outcome in
+        IsThere bytes has.under has.within (subst P has.same rest)
 
   -- there is none, and then the rest came
-  pub try_none : (old new : Kept) (name : List ℕ) (limit : ℕ) → HasTriedNone old new name limit →
-      (next : Option (List ℕ) → Order) (out : Held) (input : Left) (after : Outside) (outcome : Option Fault) →
-      Leaves courses (next None) (outside new out input) after outcome →
-      Leaves courses (Tries name limit next) (outside old out input) after outcome
-  try_none old new name limit has next out input after outcome rest =
-      let P : Kept → Type 0 = λ k. Leaves courses (next None) (outside k out input) after outcome in
-      IsNone new.loads has.none (subst P has.same rest)
+  module _ (old new : Kept) (name : List ℕ) (limit : ℕ) where
+    pub try_none : HasTriedNone old new name limit →
+        (next : Option (List ℕ) → Order) (out : Held) (input : Left) (after : Outside) (outcome : Option Fault)
+        → Leaves courses (next None) (outside new out input) after outcome →
+        Leaves courses (Tries name limit next) (outside old out input) after outcome
+    try_none has next out input after outcome rest =
+        let P : Kept → Type 0 = λ k. Leaves courses (next None) (outside k out input) after outcome in
+        IsNone new.loads has.none (subst P has.same rest)
 
   -- the shelf failed, or memory was wanting, and the command ended
-  pub try_stops : (old new : Kept) (name : List ℕ) (limit : ℕ) (fault : Fault) → NotTried old new name fault →
-      (next : Option (List ℕ) → Order) (out : Held) (input : Left) →
-      Leaves courses (Tries name limit next) (outside old out input) (outside new out input) (Some fault)
-  try_stops old new name limit fault (FailsToTry rose same is) next out input =
-      TryFailed rose (ap (λ (k : Kept). outside k out input) same) (ap Some is)
-  try_stops old new name limit fault (WantsToTry same is) next out input =
-      WantsAtTry (record { same = ap (λ (k : Kept). outside k out input) same; memory = ap Some is })
+  module _ (old new : Kept) (name : List ℕ) (limit : ℕ) (fault : Fault) where
+    pub try_stops : NotTried old new name fault → (next : Option (List ℕ) → Order) (out : Held) (input : Left) →
+        Leaves courses (Tries name limit next) (outside old out input) (outside new out input) (Some fault)
+    try_stops (FailsToTry rose same is) next out input =
+        TryFailed rose (ap (λ (k : Kept). outside k out input) same) (ap Some is)
+    try_stops (WantsToTry same is) next out input =
+        WantsAtTry (record { same = ap (λ (k : Kept). outside k out input) same; memory = ap Some is })
 
   -- ---- stores
 
   -- the bytes were stored, and then the rest came
-  pub store_goes : (name bytes : List ℕ) (old new : Kept) →
-      new ≡ record old { files = option_map (with_file name bytes) old.files } → (next : Order) (out : Held)
-      (input : Left) (after : Outside) (outcome : Option Fault) →
-      Leaves courses next (outside new out input) after outcome →
-      Leaves courses (Stores name bytes next) (outside old out input) after outcome
-  store_goes name bytes old new stored next out input after outcome rest =
-      Stored (subst (λ (k : Kept). Leaves courses next (outside k out input) after outcome) stored rest)
+  module _ (name bytes : List ℕ) (old new : Kept) where
+    pub store_goes : new ≡ record old { files = option_map (with_file name bytes) old.files } →
+        (next : Order) (out : Held) (input : Left) (after : Outside) (outcome : Option Fault) →
+        Leaves courses next (outside new out input) after outcome →
+        Leaves courses (Stores name bytes next) (outside old out input) after outcome
+    store_goes stored next out input after outcome rest =
+        Stored (subst (λ (k : Kept). Leaves courses next (outside k out input) after outcome) stored rest)
 
   -- they were not, and the command ended
-  pub store_stops : (name bytes : List ℕ) (old new : Kept) (fault : Fault) → NotKept name old new fault →
-      (next : Order) (out : Held) (input : Left) →
-      Leaves courses (Stores name bytes next) (outside old out input) (outside new out input) (Some fault)
-  store_stops name bytes old new fault (FailsToStore fails is) next out input = NotStored fails refl (ap Some is)
-  store_stops name bytes old new fault (WantsToStore same is) next out input =
-      WantsAtStore (record { same = ap (λ (k : Kept). outside k out input) same; memory = ap Some is })
+  module _ (name bytes : List ℕ) (old new : Kept) (fault : Fault) where
+    pub store_stops : NotKept name old new fault → (next : Order) (out : Held) (input : Left) →
+        Leaves courses (Stores name bytes next) (outside old out input) (outside new out input) (Some fault)
+    store_stops (FailsToStore fails is) next out input = NotStored fails refl (ap Some is)
+    store_stops (WantsToStore same is) next out input =
+        WantsAtStore (record { same = ap (λ (k : Kept). outside k out input) same; memory = ap Some is })

@@ -34,21 +34,22 @@ whole_part old new text is = record {
 }
 
 -- a text was put, and then the sink handed on what it held back, or failed
-pub put_flushed : (text : List ℕ) (old mid new : Held) → mid.bytes ≡ gained old.bytes text → mid.faults ≡ old.faults →
-    old.spare ≤ mid.spare + length text →
-    (result : Result (Unit {0}) SinkFault) → Flushes mid new result → HandsOn text old new result
-put_flushed text old mid new whole count spared (Ok done) (same, more) = record {
-  same = held_same old new (gained old.bytes text) old.faults (ap (λ (h : Held). h.bytes) same ∙ whole)
-      (ap (λ (h : Held). h.faults) same ∙ count);
-  spared = omega (arith, spared, more);
-}
-put_flushed text old mid new whole count spared (Err fault) (same, rose, none) =
-    let P : ℕ → Type 0 = λ n. Rose n new.faults in
-    record {
-      part = whole_part old.bytes new.bytes text (same ∙ whole);
-      rose = subst P count rose;
-      sure = omega (arith, spared, none);
-    }
+module _ (text : List ℕ) (old mid new : Held) where
+  pub put_flushed : mid.bytes ≡ gained old.bytes text → mid.faults ≡ old.faults →
+      old.spare ≤ mid.spare + length text → (result : Result (Unit {0}) SinkFault) → Flushes mid new result →
+      HandsOn text old new result
+  put_flushed whole count spared (Ok done) (same, more) = record {
+    same = held_same old new (gained old.bytes text) old.faults (ap (λ (h : Held). h.bytes) same ∙ whole)
+        (ap (λ (h : Held). h.faults) same ∙ count);
+    spared = omega (arith, spared, more);
+  }
+  put_flushed whole count spared (Err fault) (same, rose, none) =
+      let P : ℕ → Type 0 = λ n. Rose n new.faults in
+      record {
+        part = whole_part old.bytes new.bytes text (same ∙ whole);
+        rose = subst P count rose;
+        sure = omega (arith, spared, none);
+      }
 
 -- a put failed
 pub put_failed : {S : Type 0} {held : S → Option (List ℕ)} {faults spare : S → ℕ} {old new : S} {fault : SinkFault}

@@ -69,28 +69,30 @@ feed_next (c ∷ cs) some =
 pub cut_line : (text line : List ℕ) (n : ℕ) → n ≡ position_or_len is_line_end text → line ≡ take n text → IsLine line
 cut_line text line n v f = subst IsLine (sym (f ∙ ap (λ k. take k text) v)) (front_is_line text)
 
-pub cut_spelled : (text line rest behind : List ℕ) (n : ℕ) → n ≡ position_or_len is_line_end text →
-    line ≡ take n text → rest ≡ drop n text → 0 < length rest → behind ≡ drop 1 rest → text ≡ line ++ 10 ∷ behind
-cut_spelled text line rest behind n v f r some b =
-    let left : 0 < length (drop (position_or_len is_line_end text) text) =
-    subst (λ t. 0 < length t) (r ∙ ap (λ k. drop k text) v) some in
-    let next : drop n text ≡ 10 ∷ drop 1 (drop n text) =
-    subst (λ k. drop k text ≡ 10 ∷ drop 1 (drop k text)) (sym v) (feed_next text left) in
-    sym (take-append-drop n text)
-    ∙ (ap (λ l. l ++ drop n text) (sym f)
-    ∙ ap (λ t. line ++ t) (next ∙ ap (λ t. 10 ∷ t) (sym (b ∙ ap (drop 1) r))))
+module _ (text line rest behind : List ℕ) (n : ℕ) where
+  pub cut_spelled : n ≡ position_or_len is_line_end text → line ≡ take n text → rest ≡ drop n text →
+      0 < length rest → behind ≡ drop 1 rest → text ≡ line ++ 10 ∷ behind
+  cut_spelled v f r some b =
+      let left : 0 < length (drop (position_or_len is_line_end text) text) =
+      subst (λ t. 0 < length t) (r ∙ ap (λ k. drop k text) v) some in
+      let next : drop n text ≡ 10 ∷ drop 1 (drop n text) =
+      subst (λ k. drop k text ≡ 10 ∷ drop 1 (drop k text)) (sym v) (feed_next text left) in
+      sym (take-append-drop n text)
+      ∙ (ap (λ l. l ++ drop n text) (sym f)
+      ∙ ap (λ t. line ++ t) (next ∙ ap (λ t. 10 ∷ t) (sym (b ∙ ap (drop 1) r))))
 
 empty_is_nil : (s : List ℕ) → length s ≡ 0 → s ≡ []
 empty_is_nil [] h = refl
 empty_is_nil (c ∷ s) h = absurd (omega arith)
 
-pub no_line : (text rest : List ℕ) (n : ℕ) → n ≡ position_or_len is_line_end text → rest ≡ drop n text →
-    length rest ≡ 0 → (l r : List ℕ) → text ≡ l ++ 10 ∷ r → ⊥
-no_line text rest n v f none l r e =
-    let gone : drop n text ≡ [] = sym f ∙ empty_is_nil rest none in
-    let all : take n text ≡ text = sym (append-nil (take n text))
-    ∙ (ap (λ t. take n text ++ t) (sym gone) ∙ take-append-drop n text) in
-    no_feed l r (subst IsLine e (cut_line text text n v (sym all)))
+module _ (text rest : List ℕ) (n : ℕ) where
+  pub no_line : n ≡ position_or_len is_line_end text → rest ≡ drop n text → length rest ≡ 0 → (l r : List ℕ) →
+      text ≡ l ++ 10 ∷ r → ⊥
+  no_line v f none l r e =
+      let gone : drop n text ≡ [] = sym f ∙ empty_is_nil rest none in
+      let all : take n text ≡ text = sym (append-nil (take n text))
+      ∙ (ap (λ t. take n text ++ t) (sym gone) ∙ take-append-drop n text) in
+      no_feed l r (subst IsLine e (cut_line text text n v (sym all)))
 
 -- ---- what stands behind a word
 pub behind_word : (line word rest : List ℕ) (read : Option ℕ) → line ≡ word ++ rest →

@@ -22,30 +22,31 @@ use Rattle.delivery_log.proofs.PlainLaws.{behind_small, go_is_line, take_is_line
 use Rattle.delivery_log.proofs.TakeLaws.{HasLine, IsHeldTake, IsToldTake, event_has_line, first_line, go_no_take, some_name, take_cases, told_not_held}
 
 -- ---- numbers
-two_cuts : (ds es r s : List ℕ) → AllDigits 10 ds → AllDigits 10 es → EndsNumber r → EndsNumber s → ds ++ r ≡ es ++ s →
-    (ds ≡ es) × (r ≡ s)
-two_cuts [] [] r s a b c d e = (refl, e)
-two_cuts [] (y ∷ es) [] s a b c d e = absurd (cc)
-two_cuts [] (y ∷ es) (x ∷ r) s a b c d e =
+two_cuts : (ds es r s : List ℕ) → AllDigits 10 ds → AllDigits 10 es → EndsNumber r × EndsNumber s →
+    ds ++ r ≡ es ++ s → (ds ≡ es) × (r ≡ s)
+two_cuts [] [] r s a b ends e = (refl, e)
+two_cuts [] (y ∷ es) [] s a b ends e = absurd (cc)
+two_cuts [] (y ∷ es) (x ∷ r) s a b ends e =
     let same : x ≡ y = cc in
     let digit = subst (λ q. AllDigits 10 (q ∷ es)) (sym same) b in
-    absurd (c digit.0)
-two_cuts (x ∷ ds) [] r [] a b c d e = absurd (cc)
-two_cuts (x ∷ ds) [] r (y ∷ s) a b c d e =
+    absurd (ends.0 digit.0)
+two_cuts (x ∷ ds) [] r [] a b ends e = absurd (cc)
+two_cuts (x ∷ ds) [] r (y ∷ s) a b ends e =
     let same : y ≡ x = cc in
     let digit = subst (λ q. AllDigits 10 (q ∷ ds)) (sym same) a in
-    absurd (d digit.0)
-two_cuts (x ∷ ds) (y ∷ es) r s a b c d e =
+    absurd (ends.1 digit.0)
+two_cuts (x ∷ ds) (y ∷ es) r s a b ends e =
     let same : x ≡ y = cc in
-    let more = two_cuts ds es r s a.1 b.1 c d (ap (drop 1) e) in
+    let more = two_cuts ds es r s a.1 b.1 ends (ap (drop 1) e) in
     (ap (λ q. q ∷ ds) same ∙ ap (λ t. y ∷ t) more.0, more.1)
 
-one_number : (m n : ℕ) (r s : List ℕ) → m < 2 ^ 32 → n < 2 ^ 32 → EndsNumber r → EndsNumber s →
-    decimal m ++ r ≡ decimal n ++ s → (m ≡ n) × (r ≡ s)
-one_number m n r s below low a b e =
-    let cut = two_cuts (decimal m) (decimal n) r s (decimal_is_IsNumeral m (omega arith)).0.1
-    (decimal_is_IsNumeral n (omega arith)).0.1 a b e in
-    (decimal_injective m n (omega arith) (omega arith) cut.0, cut.1)
+module _ (m n : ℕ) (r s : List ℕ) where
+  one_number : m < 2 ^ 32 → n < 2 ^ 32 → EndsNumber r → EndsNumber s → decimal m ++ r ≡ decimal n ++ s →
+      (m ≡ n) × (r ≡ s)
+  one_number below low a b e =
+      let cut = two_cuts (decimal m) (decimal n) r s (decimal_is_IsNumeral m (omega arith)).0.1
+      (decimal_is_IsNumeral n (omega arith)).0.1 (a, b) e in
+      (decimal_injective m n (omega arith) (omega arith) cut.0, cut.1)
 
 numbers_end : (ns : List ℕ) → EndsNumber (numbers_text ns)
 numbers_end [] = tt
@@ -133,19 +134,20 @@ same_behind x y is also kinds rounds e =
     (sym numbers.half) (sym numbers.from) (sym numbers.to))
 
 -- a line says one message
-pub one_taken : (form : Form) (held : ℕ) (x y : Name) → IsName x → IsName y → IsRoundFor form held x →
-    IsRoundFor form held y → take_line form x ≡ take_line form y → x ≡ y
-one_taken Whole held x y is also a b e =
-    let cut = one_kind x.kind y.kind (numbers_text (x.round ∷ numbers_behind x))
-    (numbers_text (y.round ∷ numbers_behind y)) (ap (drop 5) e) in
-    let numbers = one_list (x.round ∷ numbers_behind x) (y.round ∷ numbers_behind y) (is.round, behind_small x is)
-    (also.round, behind_small y also) cut.1 in
-    same_behind x y is also cut.0 (ap (λ t. get_or t 0 0) numbers) (ap (drop 1) numbers)
-one_taken Roundless held x y is also a b e =
-    let cut = one_kind x.kind y.kind (numbers_text (numbers_behind x)) (numbers_text (numbers_behind y))
-    (ap (drop 5) e) in
-    same_behind x y is also cut.0 (a ∙ sym b)
-    (one_list (numbers_behind x) (numbers_behind y) (behind_small x is) (behind_small y also) cut.1)
+module _ (held : ℕ) (x y : Name) where
+  pub one_taken : (form : Form) → IsName x → IsName y → IsRoundFor form held x → IsRoundFor form held y →
+      take_line form x ≡ take_line form y → x ≡ y
+  one_taken Whole is also a b e =
+      let cut = one_kind x.kind y.kind (numbers_text (x.round ∷ numbers_behind x))
+      (numbers_text (y.round ∷ numbers_behind y)) (ap (drop 5) e) in
+      let numbers = one_list (x.round ∷ numbers_behind x) (y.round ∷ numbers_behind y) (is.round, behind_small x is)
+      (also.round, behind_small y also) cut.1 in
+      same_behind x y is also cut.0 (ap (λ t. get_or t 0 0) numbers) (ap (drop 1) numbers)
+  one_taken Roundless is also a b e =
+      let cut = one_kind x.kind y.kind (numbers_text (numbers_behind x)) (numbers_text (numbers_behind y))
+      (ap (drop 5) e) in
+      same_behind x y is also cut.0 (a ∙ sym b)
+      (one_list (numbers_behind x) (numbers_behind y) (behind_small x is) (behind_small y also) cut.1)
 
 -- ---- events
 abbrev Settled : Event → Event → List ℕ → List ℕ → Type 0
@@ -157,57 +159,63 @@ one_go m n r s below low e =
     let same = same_line (go_line m) (go_line n) r s (go_is_line m below) (go_is_line n low) e in
     (ap Go (decimal_injective m n (omega arith) (omega arith) (ap (drop 3) same.0)), same.1)
 
-one_round : (form : Form) (held m n : ℕ) (line : List ℕ) → m < 2 ^ 32 → n < 2 ^ 32 → TellsRound form held m line →
-    TellsRound form held n line → m ≡ n
-one_round Whole held m n line below low a b = absurd a
-one_round Roundless held m n line below low a b =
-    decimal_injective m n (omega arith) (omega arith) (ap (drop 6) (sym a.1 ∙ b.1))
+module _ (held m n : ℕ) (line : List ℕ) where
+  one_round : (form : Form) → m < 2 ^ 32 → n < 2 ^ 32 → TellsRound form held m line →
+      TellsRound form held n line → m ≡ n
+  one_round Whole below low a b = absurd a
+  one_round Roundless below low a b =
+      decimal_injective m n (omega arith) (omega arith) (ap (drop 6) (sym a.1 ∙ b.1))
 
-both_told : (form : Form) (held : ℕ) (x y : Name) (line left r s : List ℕ) → IsName x → IsName y →
-    IsToldTake form held x line left r → IsToldTake form held y line left s → Settled (Take x) (Take y) r s
-both_told form held x y line left r s is also a b =
-    let rounds = one_round form held x.round y.round line is.round also.round a.told b.told in
-    let same = same_line (take_line form x) (take_line form y) r s (take_is_line form x is) (take_is_line form y also)
-    (sym a.left ∙ b.left) in
-    let for : IsRoundFor form x.round y = subst (λ q. IsRoundFor form q y) (sym rounds) b.for in
-    (ap Take (one_taken form x.round x y is also a.for for same.0), same.1)
+module _ (form : Form) (held : ℕ) (x y : Name) (line left r s : List ℕ) where
+  both_told : IsName x → IsName y → IsToldTake form held x line left r → IsToldTake form held y line left s →
+      Settled (Take x) (Take y) r s
+  both_told is also a b =
+      let rounds = one_round held x.round y.round line form is.round also.round a.told b.told in
+      let same = same_line (take_line form x) (take_line form y) r s (take_is_line form x is) (take_is_line form y
+      also)
+      (sym a.left ∙ b.left) in
+      let for : IsRoundFor form x.round y = subst (λ q. IsRoundFor form q y) (sym rounds) b.for in
+      (ap Take (one_taken x.round x y form is also a.for for same.0), same.1)
 
-one_take : (form : Form) (held : ℕ) (x y : Name) (line left r s : List ℕ) → IsName x → IsName y →
-    IsHeldTake form held x line left r ⊎ IsToldTake form held x line left r →
-    IsHeldTake form held y line left s ⊎ IsToldTake form held y line left s → Settled (Take x) (Take y) r s
-one_take form held x y line left r s is also a b =
-    ⊎_elim
-    (λ (own : IsHeldTake form held x line left r). ⊎_elim
-    (λ (other : IsHeldTake form held y line left s). (
-      ap Take (one_taken form held x y is also own.for other.for (sym own.spelled ∙ other.spelled)),
-      sym own.left ∙ other.left,
-    ))
-    (λ (other : IsToldTake form held y line left s).
-    absurd (told_not_held form held y.round x line other.told own.spelled))
-    b)
-    (λ (own : IsToldTake form held x line left r). ⊎_elim
-    (λ (other : IsHeldTake form held y line left s).
-    absurd (told_not_held form held x.round y line own.told other.spelled))
-    (λ (other : IsToldTake form held y line left s). both_told form held x y line left r s is also own other)
-    b)
-    a
+module _ (form : Form) (held : ℕ) (x y : Name) (line left r s : List ℕ) where
+  one_take : IsName x → IsName y → IsHeldTake form held x line left r ⊎ IsToldTake form held x line left r →
+      IsHeldTake form held y line left s ⊎ IsToldTake form held y line left s → Settled (Take x) (Take y) r s
+  one_take is also a b =
+      ⊎_elim
+      (λ (own : IsHeldTake form held x line left r). ⊎_elim
+      (λ (other : IsHeldTake form held y line left s). (
+        ap Take (one_taken held x y form is also own.for other.for (sym own.spelled ∙ other.spelled)),
+        sym own.left ∙ other.left,
+      ))
+      (λ (other : IsToldTake form held y line left s).
+      absurd (told_not_held form held y.round x line other.told own.spelled))
+      b)
+      (λ (own : IsToldTake form held x line left r). ⊎_elim
+      (λ (other : IsHeldTake form held y line left s).
+      absurd (told_not_held form held x.round y line own.told other.spelled))
+      (λ (other : IsToldTake form held y line left s). both_told form held x y line left r s is also own other)
+      b)
+      a
 
-takes : (form : Form) (held : ℕ) (x y : Name) (r s : List ℕ) → IsName x → IsName y →
-    text_of (take_lines form held x) ++ r ≡ text_of (take_lines form held y) ++ s → Settled (Take x) (Take y) r s
-takes form held x y r s is also e =
-    let at : HasLine (text_of (take_lines form held x) ++ r) =
-    event_has_line form held (Take x) r (text_of (take_lines form held x) ++ r) is refl in
-    one_take form held x y at.line at.left r s is also
-    (take_cases form held x at.line at.left r is at.plain (sym at.spelled))
-    (take_cases form held y at.line at.left s also at.plain (sym at.spelled ∙ e))
+module _ (form : Form) (held : ℕ) (x y : Name) (r s : List ℕ) where
+  takes : IsName x → IsName y → text_of (take_lines form held x) ++ r ≡ text_of (take_lines form held y) ++ s →
+      Settled (Take x) (Take y) r s
+  takes is also e =
+      let at : HasLine (text_of (take_lines form held x) ++ r) =
+      event_has_line form held (Take x) r (text_of (take_lines form held x) ++ r) is refl in
+      one_take form held x y at.line at.left r s is also
+      (take_cases form held x at.line at.left r is at.plain (sym at.spelled))
+      (take_cases form held y at.line at.left s also at.plain (sym at.spelled ∙ e))
 
 -- lines of an event at the front settle the event, and what stands behind
-pub one_event : (form : Form) (held : ℕ) (e f : Event) (r s : List ℕ) → IsEvent e → IsEvent f →
-    text_of (event_lines form held e) ++ r ≡ text_of (event_lines form held f) ++ s → Settled e f r s
-one_event form held (Go m) (Go n) r s is also e =
-    one_go m n r s is also (sym (first_line (go_line m) [] r) ∙ e ∙ first_line (go_line n) [] s)
-one_event form held (Go m) (Take y) r s is also e = absurd
-    (go_no_take form held m y (go_line m) r s also (go_is_line m is) refl (sym (first_line (go_line m) [] r) ∙ e))
-one_event form held (Take x) (Go n) r s is also e = absurd
-    (go_no_take form held n x (go_line n) s r is (go_is_line n also) refl (sym (first_line (go_line n) [] s) ∙ sym e))
-one_event form held (Take x) (Take y) r s is also e = takes form held x y r s is also e
+module _ (form : Form) (held : ℕ) where
+  pub one_event : (e f : Event) (r s : List ℕ) → IsEvent e → IsEvent f →
+      text_of (event_lines form held e) ++ r ≡ text_of (event_lines form held f) ++ s → Settled e f r s
+  one_event (Go m) (Go n) r s is also e =
+      one_go m n r s is also (sym (first_line (go_line m) [] r) ∙ e ∙ first_line (go_line n) [] s)
+  one_event (Go m) (Take y) r s is also e = absurd
+      (go_no_take form held m y (go_line m) r s also (go_is_line m is) refl (sym (first_line (go_line m) [] r) ∙ e))
+  one_event (Take x) (Go n) r s is also e = absurd
+      (go_no_take form held n x (go_line n) s r is (go_is_line n also) refl (sym (first_line (go_line n) [] s) ∙
+      sym e))
+  one_event (Take x) (Take y) r s is also e = takes form held x y r s is also e

@@ -71,33 +71,35 @@ pub record SameHeader (f g : Form) (m n : ℕ) (r s : List ℕ) : Type 0 where
   pub machines : m ≡ n
   pub behind : r ≡ s
 
-pub one_header : (f g : Form) (m n : ℕ) (r s : List ℕ) → 1 ≤ m → m ≤ most_machines f → 1 ≤ n → n ≤ most_machines g →
-    header_line f m ++ 10 ∷ r ≡ header_line g n ++ 10 ∷ s → SameHeader f g m n r s
-one_header f g m n r s a b c d e =
-    let same = same_line (header_line f m) (header_line g n) r s (header_is_line f m b) (header_is_line g n d) e in
-    let own : IsHeader f m (header_line f m) = record { some = a; few = b; spelled = refl } in
-    let other : IsHeader g n (header_line f m) = record { some = c; few = d; spelled = same.0 } in
-    let forms : f ≡ g = one_form (header_line f m) f g m n own other in
-    record {
-      form = forms;
-      machines = number_of f m n (small_machines f m b) (small_machines g n d)
-          (same.0 ∙ ap (λ q. header_line q n) (sym forms));
-      behind = same.1;
-    }
+module _ (f g : Form) (m n : ℕ) (r s : List ℕ) where
+  pub one_header : 1 ≤ m → m ≤ most_machines f → 1 ≤ n → n ≤ most_machines g →
+      header_line f m ++ 10 ∷ r ≡ header_line g n ++ 10 ∷ s → SameHeader f g m n r s
+  one_header a b c d e =
+      let same = same_line (header_line f m) (header_line g n) r s (header_is_line f m b) (header_is_line g n d) e in
+      let own : IsHeader f m (header_line f m) = record { some = a; few = b; spelled = refl } in
+      let other : IsHeader g n (header_line f m) = record { some = c; few = d; spelled = same.0 } in
+      let forms : f ≡ g = one_form (header_line f m) f g m n own other in
+      record {
+        form = forms;
+        machines = number_of f m n (small_machines f m b) (small_machines g n d)
+            (same.0 ∙ ap (λ q. header_line q n) (sym forms));
+        behind = same.1;
+      }
 
 -- the whole text of a pair, of which another pair and some bytes are spelled too
 pub record BeginsWith (m n : ℕ) (es fs : List Event) (form : Form) (rest : List ℕ) : Type 0 where
   pub machines : m ≡ n
   pub front : Front form 0 es fs rest
 
-pub two_texts : (f g : Form) (m n : ℕ) (es fs : List Event) (rest : List ℕ) → IsSchedule f m es → IsSchedule g n fs →
-    schedule_text f m es ≡ schedule_text g n fs ++ rest → BeginsWith m n es fs g rest
-two_texts f g m n es fs rest a b e =
-    let same = one_header f g m n (rest_text f 0 es) (rest_text g 0 fs ++ rest) a.some a.few b.some b.few
-    (e ∙ append_assoc (header_line g n) (10 ∷ rest_text g 0 fs) rest) in
-    let behind : rest_text g 0 es ≡ rest_text g 0 fs ++ rest =
-    ap (λ q. rest_text q 0 es) (sym same.form) ∙ same.behind in
-    record { machines = same.machines; front = front_of g 0 es fs rest a.each b.each behind }
+module _ (f g : Form) (m n : ℕ) (es fs : List Event) (rest : List ℕ) where
+  pub two_texts : IsSchedule f m es → IsSchedule g n fs → schedule_text f m es ≡ schedule_text g n fs ++ rest →
+      BeginsWith m n es fs g rest
+  two_texts a b e =
+      let same = one_header f g m n (rest_text f 0 es) (rest_text g 0 fs ++ rest) a.some a.few b.some b.few
+      (e ∙ append_assoc (header_line g n) (10 ∷ rest_text g 0 fs) rest) in
+      let behind : rest_text g 0 es ≡ rest_text g 0 fs ++ rest =
+      ap (λ q. rest_text q 0 es) (sym same.form) ∙ same.behind in
+      record { machines = same.machines; front = front_of g 0 es fs rest a.each b.each behind }
 
 -- ---- the laws
 no_others : (form : Form) (held : ℕ) (others : List Event) → [] ≡ rest_text form held others → others ≡ []
@@ -153,31 +155,32 @@ record_is_read recording machines events result is each gives =
     gives
 
 -- events in front of some bytes that begin with none are one list
-both_bad : (form : Form) (held : ℕ) (es fs : List Event) (r s : List ℕ) → AllByRecursion IsEvent es →
-    AllByRecursion IsEvent fs → rest_text form held es ++ r ≡ rest_text form held fs ++ s →
-    HasNoEvent form (last_round held es) r → HasNoEvent form (last_round held fs) s → es ≡ fs
-both_bad form held [] [] r s a b e bad worse = refl
-both_bad form held [] (f ∷ fs) r s a b e bad worse = absurd (bad.none f (rest_text form (round_after held f) fs ++ s)
-    b.0
-    (e ∙ ap (λ t. t ++ s) (first_event form held f fs)
-    ∙ append_assoc (text_of (event_lines form held f)) (rest_text form (round_after held f) fs) s))
-both_bad form held (x ∷ es) [] r s a b e bad worse = absurd (worse.none x (rest_text form (round_after held x)
-    es ++ r) a.0
-    (sym e ∙ ap (λ t. t ++ r) (first_event form held x es)
-    ∙ append_assoc (text_of (event_lines form held x)) (rest_text form (round_after held x) es) r))
-both_bad form held (x ∷ es) (f ∷ fs) r s a b e bad worse =
-    let own : text_of (event_lines form held x) ++ (rest_text form (round_after held x) es ++ r)
-    ≡ text_of (event_lines form held f) ++ (rest_text form (round_after held f) fs ++ s) =
-    sym (ap (λ t. t ++ r) (first_event form held x es)
-    ∙ append_assoc (text_of (event_lines form held x)) (rest_text form (round_after held x) es) r)
-    ∙ e ∙ ap (λ t. t ++ s) (first_event form held f fs)
-    ∙ append_assoc (text_of (event_lines form held f)) (rest_text form (round_after held f) fs) s in
-    let one = one_event form held x f (rest_text form (round_after held x) es ++ r)
-    (rest_text form (round_after held f) fs ++ s) a.0 b.0 own in
-    let more = both_bad form (round_after held f) es fs r s a.1 b.1
-    (ap (λ q. rest_text form (round_after held q) es ++ r) (sym one.0) ∙ one.1)
-    (subst (λ q. HasNoEvent form (last_round (round_after held q) es) r) one.0 bad) worse in
-    ap (λ q. q ∷ es) one.0 ∙ ap (λ t. f ∷ t) more
+module _ (form : Form) (r s : List ℕ) where
+  both_bad : (held : ℕ) (es fs : List Event) → AllByRecursion IsEvent es → AllByRecursion IsEvent fs →
+      rest_text form held es ++ r ≡ rest_text form held fs ++ s → HasNoEvent form (last_round held es) r →
+      HasNoEvent form (last_round held fs) s → es ≡ fs
+  both_bad held [] [] a b e bad worse = refl
+  both_bad held [] (f ∷ fs) a b e bad worse = absurd (bad.none f (rest_text form (round_after held f) fs ++ s)
+      b.0
+      (e ∙ ap (λ t. t ++ s) (first_event form held f fs)
+      ∙ append_assoc (text_of (event_lines form held f)) (rest_text form (round_after held f) fs) s))
+  both_bad held (x ∷ es) [] a b e bad worse = absurd (worse.none x (rest_text form (round_after held x)
+      es ++ r) a.0
+      (sym e ∙ ap (λ t. t ++ r) (first_event form held x es)
+      ∙ append_assoc (text_of (event_lines form held x)) (rest_text form (round_after held x) es) r))
+  both_bad held (x ∷ es) (f ∷ fs) a b e bad worse =
+      let own : text_of (event_lines form held x) ++ (rest_text form (round_after held x) es ++ r)
+      ≡ text_of (event_lines form held f) ++ (rest_text form (round_after held f) fs ++ s) =
+      sym (ap (λ t. t ++ r) (first_event form held x es)
+      ∙ append_assoc (text_of (event_lines form held x)) (rest_text form (round_after held x) es) r)
+      ∙ e ∙ ap (λ t. t ++ s) (first_event form held f fs)
+      ∙ append_assoc (text_of (event_lines form held f)) (rest_text form (round_after held f) fs) s in
+      let one = one_event form held x f (rest_text form (round_after held x) es ++ r)
+      (rest_text form (round_after held f) fs ++ s) a.0 b.0 own in
+      let more = both_bad (round_after held f) es fs a.1 b.1
+      (ap (λ q. rest_text form (round_after held q) es ++ r) (sym one.0) ∙ one.1)
+      (subst (λ q. HasNoEvent form (last_round (round_after held q) es) r) one.0 bad) worse in
+      ap (λ q. q ∷ es) one.0 ∙ ap (λ t. f ∷ t) more
 
 bad_same : (text : List ℕ) (m n : ℕ) → HasBadLine text m → HasBadLine text n → m ≡ n
 bad_same text m n a b =
@@ -185,7 +188,7 @@ bad_same text m n a b =
     (rest_text b.form 0 b.events ++ b.rest) a.is.some a.is.few b.is.some b.is.few
     (sym (append_assoc (header_line a.form a.machines) (10 ∷ rest_text a.form 0 a.events) a.rest) ∙ sym a.spelled
     ∙ b.spelled ∙ append_assoc (header_line b.form b.machines) (10 ∷ rest_text b.form 0 b.events) b.rest) in
-    let events = both_bad b.form 0 a.events b.events a.rest b.rest a.is.each b.is.each
+    let events = both_bad b.form a.rest b.rest 0 a.events b.events a.is.each b.is.each
     (ap (λ q. rest_text q 0 a.events ++ a.rest) (sym same.form) ∙ same.behind)
     (subst (λ q. HasNoEvent q (last_round 0 a.events) a.rest) same.form a.bad) b.bad in
     a.counted

@@ -49,14 +49,16 @@ schedule_more form machines held es e text rest behind h t r =
     ∙ (sym (append_assoc (schedule_text form machines es) (text_of (event_lines form (last_round 0 es) e)) behind)
     ∙ ap (λ q. q ++ behind) (sym (text_more form machines es e))))
 
-pub count_more : (form : Form) (machines held : ℕ) (es : List Event) (e : Event) (number lines : ℕ) →
-    held ≡ last_round 0 es → number ≡ length (schedule_lines form machines es) + 1 →
-    lines ≡ length (event_lines form held e) → number + lines ≡ length (schedule_lines form machines (es ++ e ∷ [])) + 1
-count_more form machines held es e number lines h n l =
-    let here : lines ≡ length (event_lines form (last_round 0 es) e) = l ∙ ap (λ q. length (event_lines form q e)) h in
-    let whole = ap length (lines_more form machines es e)
-    ∙ length-append (schedule_lines form machines es) (event_lines form (last_round 0 es) e) in
-    omega (arith, n, here, whole)
+module _ (form : Form) (machines held : ℕ) (es : List Event) (e : Event) (number lines : ℕ) where
+  pub count_more : held ≡ last_round 0 es → number ≡ length (schedule_lines form machines es) + 1 →
+      lines ≡ length (event_lines form held e) →
+      number + lines ≡ length (schedule_lines form machines (es ++ e ∷ [])) + 1
+  count_more h n l =
+      let here : lines ≡ length (event_lines form (last_round 0 es) e) = l ∙ ap (λ q. length (event_lines form q
+      e)) h in
+      let whole = ap length (lines_more form machines es e)
+      ∙ length-append (schedule_lines form machines es) (event_lines form (last_round 0 es) e) in
+      omega (arith, n, here, whole)
 
 -- each line has a byte or more
 pub lines_small : (lines : List (List ℕ)) (rest : List ℕ) → length lines + length rest ≤ length (text_of lines ++ rest)

@@ -200,18 +200,19 @@ told_found form held round x line behind rest r is plain told found some e =
     (take_cases form held x line behind rest is plain e)
 
 -- a line that says that a machine goes begins no take
-pub go_no_take : (form : Form) (held m : ℕ) (x : Name) (line behind rest : List ℕ) → IsName x → IsLine line →
-    line ≡ go_line m → line ++ 10 ∷ behind ≡ text_of (take_lines form held x) ++ rest → ⊥
-go_no_take form held m x line behind rest is plain go e =
-    ⊎_elim
-    (λ (so : IsHeldTake form held x line behind rest). go_not_take line m form x go so.spelled)
-    (λ (so : IsToldTake form held x line behind rest). told_no_go form held m x line so.told go)
-    (take_cases form held x line behind rest is plain e)
-  where
-    told_no_go : (form : Form) (held m : ℕ) (x : Name) (line : List ℕ) → TellsRound form held x.round line →
-        line ≡ go_line m → ⊥
-    told_no_go Whole held m x line told go = told
-    told_no_go Roundless held m x line told go = go_not_round line m x.round go told.1
+module _ (form : Form) (held m : ℕ) (x : Name) (line behind rest : List ℕ) where
+  pub go_no_take : IsName x → IsLine line → line ≡ go_line m →
+      line ++ 10 ∷ behind ≡ text_of (take_lines form held x) ++ rest → ⊥
+  go_no_take is plain go e =
+      ⊎_elim
+      (λ (so : IsHeldTake form held x line behind rest). go_not_take line m form x go so.spelled)
+      (λ (so : IsToldTake form held x line behind rest). told_no_go form held m x line so.told go)
+      (take_cases form held x line behind rest is plain e)
+    where
+      told_no_go : (form : Form) (held m : ℕ) (x : Name) (line : List ℕ) → TellsRound form held x.round line →
+          line ≡ go_line m → ⊥
+      told_no_go Whole held m x line told go = told
+      told_no_go Roundless held m x line told go = go_not_round line m x.round go told.1
 
 pub some_name : (a b : Name) → ◌≡◌ {A = Option Name} (Some a) (Some b) → a ≡ b
 some_name a b e = cc

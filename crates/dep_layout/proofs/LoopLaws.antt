@@ -74,23 +74,24 @@ bits_behind marks v k = ap (λ bits. get_or bits k 0) (sym (drop-map bits_of v m
     ∙ get_or-drop v (map bits_of marks) k 0
 
 -- the byte of four marks at a place
-pub byte_at : (marks : List Mark) (v w x y z : ℕ) → v < length marks →
-    w ≡ get_or (map bits_of marks) v 0 → x ≡ get_or (map bits_of marks) (v + 1) 0 →
-    y ≡ get_or (map bits_of marks) (v + 2) 0 → z ≡ get_or (map bits_of marks) (v + 3) 0 →
-    mark_bytes (drop v marks) ≡ (w + 4 * x + 16 * y + 64 * z) ∷ mark_bytes (drop (v + 4) marks)
-byte_at marks v w x y z within ew ex ey ez =
-    let at : v + 0 ≡ v = omega arith in
-    let ew' : get_or (map bits_of (drop v marks)) 0 0 ≡ w = bits_behind marks v 0
-    ∙ ap (λ k. get_or (map bits_of marks) k 0) at ∙ sym ew in
-    let ex' : get_or (map bits_of (drop v marks)) 1 0 ≡ x = bits_behind marks v 1 ∙ sym ex in
-    let ey' : get_or (map bits_of (drop v marks)) 2 0 ≡ y = bits_behind marks v 2 ∙ sym ey in
-    let ez' : get_or (map bits_of (drop v marks)) 3 0 ≡ z = bits_behind marks v 3 ∙ sym ez in
-    let byte : get_or (map bits_of (drop v marks)) 0 0 + 4 * get_or (map bits_of (drop v marks)) 1 0 + 16
-    * get_or (map bits_of (drop v marks)) 2 0 + 64 * get_or (map bits_of (drop v marks)) 3 0 ≡ w + 4 * x + 16 * y
-    + 64 * z = omega (arith, ew', ex', ey', ez') in
-    first_byte (drop v marks) (omega (arith, length-drop v marks))
-    ∙ ap (λ b. b ∷ mark_bytes (drop 4 (drop v marks))) byte
-    ∙ ap (λ rest. (w + 4 * x + 16 * y + 64 * z) ∷ mark_bytes rest) (drop-drop 4 v marks)
+module _ (marks : List Mark) (v w x y z : ℕ) where
+  pub byte_at : v < length marks → w ≡ get_or (map bits_of marks) v 0 →
+      x ≡ get_or (map bits_of marks) (v + 1) 0 → y ≡ get_or (map bits_of marks) (v + 2) 0 →
+      z ≡ get_or (map bits_of marks) (v + 3) 0 →
+      mark_bytes (drop v marks) ≡ (w + 4 * x + 16 * y + 64 * z) ∷ mark_bytes (drop (v + 4) marks)
+  byte_at within ew ex ey ez =
+      let at : v + 0 ≡ v = omega arith in
+      let ew' : get_or (map bits_of (drop v marks)) 0 0 ≡ w = bits_behind marks v 0
+      ∙ ap (λ k. get_or (map bits_of marks) k 0) at ∙ sym ew in
+      let ex' : get_or (map bits_of (drop v marks)) 1 0 ≡ x = bits_behind marks v 1 ∙ sym ex in
+      let ey' : get_or (map bits_of (drop v marks)) 2 0 ≡ y = bits_behind marks v 2 ∙ sym ey in
+      let ez' : get_or (map bits_of (drop v marks)) 3 0 ≡ z = bits_behind marks v 3 ∙ sym ez in
+      let byte : get_or (map bits_of (drop v marks)) 0 0 + 4 * get_or (map bits_of (drop v marks)) 1 0 + 16
+      * get_or (map bits_of (drop v marks)) 2 0 + 64 * get_or (map bits_of (drop v marks)) 3 0 ≡ w + 4 * x + 16 * y
+      + 64 * z = omega (arith, ew', ex', ey', ez') in
+      first_byte (drop v marks) (omega (arith, length-drop v marks))
+      ∙ ap (λ b. b ∷ mark_bytes (drop 4 (drop v marks))) byte
+      ∙ ap (λ rest. (w + 4 * x + 16 * y + 64 * z) ∷ mark_bytes rest) (drop-drop 4 v marks)
 
 -- ---- loops over words
 
@@ -115,22 +116,21 @@ typed_stop bools n i rest r within bad whole =
     ∙ whole
 
 -- the same of the words of one vertex
-pub rows_step : (bools width n i : ℕ) (rest : List ℕ) (r : Bool) → i < n →
-    are_typed bools (words_in width rest) ≡ true →
-    list_all (are_typed bools) (rows_in width (n - i) rest) ≡ r →
-    list_all (are_typed bools) (rows_in width (n - (i + 1)) (drop (8 * width) rest)) ≡ r
-rows_step bools width n i rest r within typed whole =
-    sym (ap (λ b. b && list_all (are_typed bools) (rows_in width (n - (i + 1)) (drop (8 * width) rest))) typed)
-    ∙ sym (ap (λ k. list_all (are_typed bools) (rows_in width k rest)) (turns_left n i within))
-    ∙ whole
+module _ (bools width n i : ℕ) (rest : List ℕ) (r : Bool) where
+  pub rows_step : i < n → are_typed bools (words_in width rest) ≡ true →
+      list_all (are_typed bools) (rows_in width (n - i) rest) ≡ r →
+      list_all (are_typed bools) (rows_in width (n - (i + 1)) (drop (8 * width) rest)) ≡ r
+  rows_step within typed whole =
+      sym (ap (λ b. b && list_all (are_typed bools) (rows_in width (n - (i + 1)) (drop (8 * width) rest))) typed)
+      ∙ sym (ap (λ k. list_all (are_typed bools) (rows_in width k rest)) (turns_left n i within))
+      ∙ whole
 
-pub rows_stop : (bools width n i : ℕ) (rest : List ℕ) (r : Bool) → i < n →
-    are_typed bools (words_in width rest) ≡ false →
-    list_all (are_typed bools) (rows_in width (n - i) rest) ≡ r → false ≡ r
-rows_stop bools width n i rest r within bad whole =
-    sym (ap (λ b. b && list_all (are_typed bools) (rows_in width (n - (i + 1)) (drop (8 * width) rest))) bad)
-    ∙ sym (ap (λ k. list_all (are_typed bools) (rows_in width k rest)) (turns_left n i within))
-    ∙ whole
+  pub rows_stop : i < n → are_typed bools (words_in width rest) ≡ false →
+      list_all (are_typed bools) (rows_in width (n - i) rest) ≡ r → false ≡ r
+  rows_stop within bad whole =
+      sym (ap (λ b. b && list_all (are_typed bools) (rows_in width (n - (i + 1)) (drop (8 * width) rest))) bad)
+      ∙ sym (ap (λ k. list_all (are_typed bools) (rows_in width k rest)) (turns_left n i within))
+      ∙ whole
 
 -- room for what is left behind a row
 pub room_step : (size n i room room' : ℕ) → i < n → size * (n - i) ≤ room → room' + size ≡ room →
@@ -160,15 +160,16 @@ words_end n i at rest whole past count all =
     ∙ all
 
 -- one more word is written
-pub push_step : (bytes new : List ℕ) (words : List ℤ) (i : ℕ) (word : ℤ) (whole : List ℕ) → i < length words →
-    word ≡ get_or words i word → new ≡ bytes ++ word_bytes word →
-    bytes ++ flat_map word_bytes (drop i words) ≡ whole → new ++ flat_map word_bytes (drop (i + 1) words) ≡ whole
-push_step bytes new words i word whole within read pushed all =
-    ap (λ front. front ++ flat_map word_bytes (drop (i + 1) words)) pushed
-    ∙ append_assoc bytes (word_bytes word) (flat_map word_bytes (drop (i + 1) words))
-    ∙ ap (λ w. bytes ++ (word_bytes w ++ flat_map word_bytes (drop (i + 1) words))) read
-    ∙ sym (ap (λ ws. bytes ++ flat_map word_bytes ws) (drop_more words i word within))
-    ∙ all
+module _ (bytes new : List ℕ) (words : List ℤ) (i : ℕ) (word : ℤ) (whole : List ℕ) where
+  pub push_step : i < length words → word ≡ get_or words i word → new ≡ bytes ++ word_bytes word →
+      bytes ++ flat_map word_bytes (drop i words) ≡ whole →
+      new ++ flat_map word_bytes (drop (i + 1) words) ≡ whole
+  push_step within read pushed all =
+      ap (λ front. front ++ flat_map word_bytes (drop (i + 1) words)) pushed
+      ∙ append_assoc bytes (word_bytes word) (flat_map word_bytes (drop (i + 1) words))
+      ∙ ap (λ w. bytes ++ (word_bytes w ++ flat_map word_bytes (drop (i + 1) words))) read
+      ∙ sym (ap (λ ws. bytes ++ flat_map word_bytes ws) (drop_more words i word within))
+      ∙ all
 
 -- the bits of a vertex among those of all
 pub bits_read : {X : Type 0} (f : X → State) (xs : List X) (v : ℕ) (x : X) → v < length xs → x ≡ get_or xs v x →
@@ -181,19 +182,19 @@ bits_read f xs v x within read =
     (omega (arith, length-map xs f, length-map (map f xs) mark_of)))
 
 -- a state more is read
-pub state_step : (width : ℕ) (pairs : List ℕ) (i : ℕ) (states : List State) (state : State) (rest others : List ℕ)
-    (whole : List State) → i < length pairs →
-    state ≡ state_with width (mark_with (get_or pairs i 0)) rest →
-    others ≡ words_behind width (mark_with (get_or pairs i 0)) rest →
-    states ++ states_in width (drop i pairs) rest ≡ whole →
-    (states ++ state ∷ []) ++ states_in width (drop (i + 1) pairs) others ≡ whole
-state_step width pairs i states state rest others whole within one behind all =
-    append_assoc states (state ∷ []) (states_in width (drop (i + 1) pairs) others)
-    ∙ ap (λ s. states ++ s ∷ states_in width (drop (i + 1) pairs) others) one
-    ∙ ap (λ left. states ++ state_with width (mark_with (get_or pairs i 0)) rest
-    ∷ states_in width (drop (i + 1) pairs) left) behind
-    ∙ sym (ap (λ ps. states ++ states_in width ps rest) (drop_more pairs i 0 within))
-    ∙ all
+module _ (width : ℕ) (pairs : List ℕ) (i : ℕ) (states : List State) (state : State) (rest others : List ℕ)
+    (whole : List State) where
+  pub state_step : i < length pairs → state ≡ state_with width (mark_with (get_or pairs i 0)) rest →
+      others ≡ words_behind width (mark_with (get_or pairs i 0)) rest →
+      states ++ states_in width (drop i pairs) rest ≡ whole →
+      (states ++ state ∷ []) ++ states_in width (drop (i + 1) pairs) others ≡ whole
+  state_step within one behind all =
+      append_assoc states (state ∷ []) (states_in width (drop (i + 1) pairs) others)
+      ∙ ap (λ s. states ++ s ∷ states_in width (drop (i + 1) pairs) others) one
+      ∙ ap (λ left. states ++ state_with width (mark_with (get_or pairs i 0)) rest
+      ∷ states_in width (drop (i + 1) pairs) left) behind
+      ∙ sym (ap (λ ps. states ++ states_in width ps rest) (drop_more pairs i 0 within))
+      ∙ all
 
 -- room for the words of one vertex, and of those behind it
 room_at : (width pair : ℕ) (pairs : List ℕ) (rest : List ℕ) → 8 * width * started (pair ∷ pairs) ≤ length rest →
@@ -240,12 +241,13 @@ started_read width Broken at words others which read behind = (
 )
 
 -- what is sent of one vertex more is written
-pub sent_step : (bytes new : List ℕ) (states : List State) (i : ℕ) (state : State) (whole : List ℕ) →
-    i < length states → state ≡ get_or states i state → new ≡ bytes ++ sent_bytes state →
-    bytes ++ flat_map sent_bytes (drop i states) ≡ whole → new ++ flat_map sent_bytes (drop (i + 1) states) ≡ whole
-sent_step bytes new states i state whole within read pushed all =
-    ap (λ front. front ++ flat_map sent_bytes (drop (i + 1) states)) pushed
-    ∙ append_assoc bytes (sent_bytes state) (flat_map sent_bytes (drop (i + 1) states))
-    ∙ ap (λ s. bytes ++ (sent_bytes s ++ flat_map sent_bytes (drop (i + 1) states))) read
-    ∙ sym (ap (λ ss. bytes ++ flat_map sent_bytes ss) (drop_more states i state within))
-    ∙ all
+module _ (bytes new : List ℕ) (states : List State) (i : ℕ) (state : State) (whole : List ℕ) where
+  pub sent_step : i < length states → state ≡ get_or states i state → new ≡ bytes ++ sent_bytes state →
+      bytes ++ flat_map sent_bytes (drop i states) ≡ whole →
+      new ++ flat_map sent_bytes (drop (i + 1) states) ≡ whole
+  sent_step within read pushed all =
+      ap (λ front. front ++ flat_map sent_bytes (drop (i + 1) states)) pushed
+      ∙ append_assoc bytes (sent_bytes state) (flat_map sent_bytes (drop (i + 1) states))
+      ∙ ap (λ s. bytes ++ (sent_bytes s ++ flat_map sent_bytes (drop (i + 1) states))) read
+      ∙ sym (ap (λ ss. bytes ++ flat_map sent_bytes ss) (drop_more states i state within))
+      ∙ all

@@ -88,28 +88,31 @@ row_past width words bytes count = drop_at (flat_map word_bytes words) bytes (8 
     ∙ ap (λ n. 8 * n) count)
 
 -- one state more, read from what it sends
-again_at : (width : ℕ) (mark : Mark) (words : List ℤ) (pairs bytes : List ℕ) (tail : List State) →
-    length words ≡ width → AllByRecursion (FitsSigned w64) words → (mark ≡ Fresh → words ≡ replicate width (pos 0)) →
-    states_in width pairs bytes ≡ tail →
-    states_in width (bits_of mark ∷ pairs) (flat_map word_bytes (sent_of mark words) ++ bytes)
-    ≡ record { mark = mark; words = words } ∷ tail
-again_at width Fresh words pairs bytes tail count fits still rest =
-    ap (λ ss. record { mark = Fresh; words = replicate width (pos 0) } ∷ ss) rest
-    ∙ ap (λ ws. record { mark = Fresh; words = ws } ∷ tail) (sym (still refl))
-again_at width Running words pairs bytes tail count fits still rest =
-    ap (λ ws. record { mark = Running; words = ws }
-    ∷ states_in width pairs (drop (8 * width) (flat_map word_bytes words ++ bytes)))
-    (row_again width words bytes count fits)
-    ∙ ap (λ left. record { mark = Running; words = words } ∷ states_in width pairs left)
-    (row_past width words bytes count)
-    ∙ ap (λ ss. record { mark = Running; words = words } ∷ ss) rest
-again_at width Broken words pairs bytes tail count fits still rest =
-    ap (λ ws. record { mark = Broken; words = ws }
-    ∷ states_in width pairs (drop (8 * width) (flat_map word_bytes words ++ bytes)))
-    (row_again width words bytes count fits)
-    ∙ ap (λ left. record { mark = Broken; words = words } ∷ states_in width pairs left)
-    (row_past width words bytes count)
-    ∙ ap (λ ss. record { mark = Broken; words = words } ∷ ss) rest
+module _ (width : ℕ) (words : List ℤ) (pairs bytes : List ℕ) (tail : List State) where
+  again_at : (mark : Mark) → length words ≡ width → AllByRecursion (FitsSigned w64) words →
+      (mark ≡ Fresh → words ≡ replicate width (pos 0)) → states_in width pairs bytes ≡ tail →
+      states_in width (bits_of mark ∷ pairs) (flat_map word_bytes (sent_of mark words) ++ bytes) ≡ record {
+        mark
+            = mark;
+        words = words;
+      } ∷ tail
+  again_at Fresh count fits still rest =
+      ap (λ ss. record { mark = Fresh; words = replicate width (pos 0) } ∷ ss) rest
+      ∙ ap (λ ws. record { mark = Fresh; words = ws } ∷ tail) (sym (still refl))
+  again_at Running count fits still rest =
+      ap (λ ws. record { mark = Running; words = ws }
+      ∷ states_in width pairs (drop (8 * width) (flat_map word_bytes words ++ bytes)))
+      (row_again width words bytes count fits)
+      ∙ ap (λ left. record { mark = Running; words = words } ∷ states_in width pairs left)
+      (row_past width words bytes count)
+      ∙ ap (λ ss. record { mark = Running; words = words } ∷ ss) rest
+  again_at Broken count fits still rest =
+      ap (λ ws. record { mark = Broken; words = ws }
+      ∷ states_in width pairs (drop (8 * width) (flat_map word_bytes words ++ bytes)))
+      (row_again width words bytes count fits)
+      ∙ ap (λ left. record { mark = Broken; words = words } ∷ states_in width pairs left)
+      (row_past width words bytes count)
+      ∙ ap (λ ss. record { mark = Broken; words = words } ∷ ss) rest
 
 -- the pairs of states
 abbrev pub pairs_from : List State → List ℕ
@@ -120,7 +123,7 @@ pub states_again : (width bools : ℕ) (states : List State) → AllByRecursion 
     states_in width (pairs_from states) (flat_map sent_bytes states) ≡ states
 states_again width bools [] each = refl
 states_again width bools (s ∷ states) each =
-    again_at width s.mark s.words (pairs_from states) (flat_map sent_bytes states) states each.0.count each.0.fits
+    again_at width s.words (pairs_from states) (flat_map sent_bytes states) states s.mark each.0.count each.0.fits
     each.0.still (states_again width bools states each.1)
 
 length_at : (width : ℕ) (mark : Mark) (words : List ℤ) (states : List State) → length words ≡ width →
@@ -158,27 +161,28 @@ length-sent width bools (s ∷ states) each = length_at width s.mark s.words sta
 abbrev AreTyped : ℕ → ℕ → List ℕ → List ℕ → Type 0
 AreTyped width bools pairs words = list_all (are_typed bools) (rows_in width (started pairs) words) ≡ true
 
-typed_started : (width bools pair : ℕ) (words : List ℤ) (pairs bytes : List ℕ) →
-    length words ≡ width → AllByRecursion (FitsSigned w64) words → are_typed bools words ≡ true →
-    AreTyped width bools pairs bytes → AreTyped width bools (suc pair ∷ pairs) (flat_map word_bytes words ++ bytes)
-typed_started width bools pair words pairs bytes count fits typed rest =
-    let all = flat_map word_bytes words ++ bytes in
-    ap (λ n. list_all (are_typed bools) (rows_in width n all)) (started-suc pair pairs)
-    ∙ and_from _ _
-    (ap (are_typed bools) (row_again width words bytes count fits) ∙ typed)
-    (ap (λ left. list_all (are_typed bools) (rows_in width (started pairs) left)) (row_past width words bytes count)
-    ∙ rest)
+module _ (width bools pair : ℕ) (words : List ℤ) (pairs bytes : List ℕ) where
+  typed_started : length words ≡ width → AllByRecursion (FitsSigned w64) words → are_typed bools words ≡ true →
+      AreTyped width bools pairs bytes →
+      AreTyped width bools (suc pair ∷ pairs) (flat_map word_bytes words ++ bytes)
+  typed_started count fits typed rest =
+      let all = flat_map word_bytes words ++ bytes in
+      ap (λ n. list_all (are_typed bools) (rows_in width n all)) (started-suc pair pairs)
+      ∙ and_from _ _
+      (ap (are_typed bools) (row_again width words bytes count fits) ∙ typed)
+      (ap (λ left. list_all (are_typed bools) (rows_in width (started pairs) left)) (row_past width words bytes count)
+      ∙ rest)
 
-typed_at : (width bools : ℕ) (mark : Mark) (words : List ℤ) (pairs bytes : List ℕ) →
-    length words ≡ width → AllByRecursion (FitsSigned w64) words → are_typed bools words ≡ true →
-    AreTyped width bools pairs bytes → AreTyped width bools (bits_of mark ∷ pairs)
-    (flat_map word_bytes (sent_of mark words) ++ bytes)
-typed_at width bools Fresh words pairs bytes count fits typed rest =
-    ap (λ n. list_all (are_typed bools) (rows_in width n bytes)) (started-zero pairs) ∙ rest
-typed_at width bools Running words pairs bytes count fits typed rest = typed_started width bools 0 words pairs bytes
-    count fits typed rest
-typed_at width bools Broken words pairs bytes count fits typed rest = typed_started width bools 1 words pairs bytes
-    count fits typed rest
+module _ (width bools : ℕ) where
+  typed_at : (mark : Mark) (words : List ℤ) (pairs bytes : List ℕ) → length words ≡ width →
+      AllByRecursion (FitsSigned w64) words → are_typed bools words ≡ true → AreTyped width bools pairs bytes →
+      AreTyped width bools (bits_of mark ∷ pairs) (flat_map word_bytes (sent_of mark words) ++ bytes)
+  typed_at Fresh words pairs bytes count fits typed rest =
+      ap (λ n. list_all (are_typed bools) (rows_in width n bytes)) (started-zero pairs) ∙ rest
+  typed_at Running words pairs bytes count fits typed rest = typed_started width bools 0 words pairs bytes
+      count fits typed rest
+  typed_at Broken words pairs bytes count fits typed rest = typed_started width bools 1 words pairs bytes
+      count fits typed rest
 
 pub typed-sent : (width bools : ℕ) (states : List State) → AllByRecursion (IsState width bools) states →
     AreTyped width bools (pairs_from states) (flat_map sent_bytes states)

@@ -53,19 +53,20 @@ if_some true m y e = refl
 if_some false m y e = absurd (cc)
 
 -- the messages without the one in the place of a name
-pub cleared_at : (p at i : ℕ) (places : Places) (x : Name) (y : Letter) → LieInPlace p at places →
-    at + i ≡ place_of p x → letter_at x (slice_index_or places i None) ≡ Some y →
-    letters_in (slice_set places i None) ≡ without x (letters_in places)
-cleared_at p at i [] x y lie e here = refl
-cleared_at p at zero (None ∷ places) x y lie e here = absurd (cc)
-cleared_at p at (suc i) (None ∷ places) x y lie e here = cleared_at p (suc at) i places x y lie (omega (arith, e)) here
-cleared_at p at zero (Some m ∷ places) x y lie e here =
-    sym (ap (λ (b : Bool). if b then letters_in places else letter_of m ∷ without x (letters_in places))
-    (if_some (same_name m.name x) (letter_of m) y here))
-cleared_at p at (suc i) (Some m ∷ places) x y lie e here =
-    ap (λ (r : List Letter). letter_of m ∷ r) (cleared_at p (suc at) i places x y lie.2 (omega (arith, e)) here)
-    ∙ sym (ap (λ (b : Bool). if b then letters_in places else letter_of m ∷ without x (letters_in places))
-    (apart_places p m.name x (λ f. omega (arith, e, lie.1, f))))
+module _ (p : ℕ) where
+  pub cleared_at : (at i : ℕ) (places : Places) (x : Name) (y : Letter) → LieInPlace p at places →
+      at + i ≡ place_of p x → letter_at x (slice_index_or places i None) ≡ Some y →
+      letters_in (slice_set places i None) ≡ without x (letters_in places)
+  cleared_at at i [] x y lie e here = refl
+  cleared_at at zero (None ∷ places) x y lie e here = absurd (cc)
+  cleared_at at (suc i) (None ∷ places) x y lie e here = cleared_at (suc at) i places x y lie (omega (arith, e)) here
+  cleared_at at zero (Some m ∷ places) x y lie e here =
+      sym (ap (λ (b : Bool). if b then letters_in places else letter_of m ∷ without x (letters_in places))
+      (if_some (same_name m.name x) (letter_of m) y here))
+  cleared_at at (suc i) (Some m ∷ places) x y lie e here =
+      ap (λ (r : List Letter). letter_of m ∷ r) (cleared_at (suc at) i places x y lie.2 (omega (arith, e)) here)
+      ∙ sym (ap (λ (b : Bool). if b then letters_in places else letter_of m ∷ without x (letters_in places))
+      (apart_places p m.name x (λ f. omega (arith, e, lie.1, f))))
 
 -- a message before all those behind its place
 placed_first : (p at : ℕ) (places : Places) (m : Message) → LieInPlace p at places →
@@ -79,39 +80,44 @@ placed_first p at (Some y ∷ places) m lie all can lt =
     (one_way m.name y.name (place_before p m.name y.name (sym all.0.0) can lie.0 (omega (arith, lt, lie.1))))
 
 -- the messages with one more in the place of its name
-pub filled_at : (p at i : ℕ) (places : Places) (m : Message) → LieInPlace p at places →
-    Together m.name (letters_in places) → CanTake p m.name → at + i ≡ place_of p m.name → i < length places →
-    slice_index_or places i None ≡ None → letters_in (slice_set places i (Some m))
-    ≡ placed (letter_of m) (letters_in places)
-filled_at p at i [] m lie all can e lt free = absurd (omega (arith, lt))
-filled_at p at zero (None ∷ places) m lie all can e lt free = sym
-    (placed_first p (suc at) places m lie all can (omega (arith, e)))
-filled_at p at (suc i) (None ∷ places) m lie all can e lt free = filled_at p (suc at) i places m lie all can
-    (omega (arith, e)) (omega (arith, lt)) free
-filled_at p at zero (Some y ∷ places) m lie all can e lt free = absurd (cc)
-filled_at p at (suc i) (Some y ∷ places) m lie all can e lt free =
-    ap (λ (r : List Letter). letter_of y ∷ r)
-    (filled_at p (suc at) i places m lie.2 all.1 can (omega (arith, e)) (omega (arith, lt)) free)
-    ∙ sym (ap (λ (b : Bool). if b then letter_of y ∷ placed (letter_of m) (letters_in places)
-    else letter_of m ∷ letter_of y ∷ letters_in places)
-    (place_before p y.name m.name all.0.0 lie.0 can (omega (arith, e, lie.1))))
+module _ (p : ℕ) (m : Message) (can : CanTake p m.name) where
+  pub filled_at : (at i : ℕ) (places : Places) → LieInPlace p at places → Together m.name (letters_in places) →
+      at + i ≡ place_of p m.name → i < length places → slice_index_or places i None ≡ None →
+      letters_in (slice_set places i (Some m)) ≡ placed (letter_of m) (letters_in places)
+  filled_at at i [] lie all e lt free = absurd (omega (arith, lt))
+  filled_at at zero (None ∷ places) lie all e lt free = sym
+      (placed_first p (suc at) places m lie all can (omega (arith, e)))
+  filled_at at (suc i) (None ∷ places) lie all e lt free = filled_at (suc at) i places lie all
+      (omega (arith, e)) (omega (arith, lt)) free
+  filled_at at zero (Some y ∷ places) lie all e lt free = absurd (cc)
+  filled_at at (suc i) (Some y ∷ places) lie all e lt free =
+      ap (λ (r : List Letter). letter_of y ∷ r)
+      (filled_at (suc at) i places lie.2 all.1 (omega (arith, e)) (omega (arith, lt)) free)
+      ∙ sym (ap (λ (b : Bool). if b then letter_of y ∷ placed (letter_of m) (letters_in places)
+      else letter_of m ∷ letter_of y ∷ letters_in places)
+      (place_before p y.name m.name all.0.0 lie.0 can (omega (arith, e, lie.1))))
 
 -- the place of a name that isn't held is free
-free_at : (p at i : ℕ) (places : Places) (x : Name) → LieInPlace p at places → Together x (letters_in places) →
-    CanTake p x → at + i ≡ place_of p x → letter_at x (slice_index_or places i None) ≡ None →
-    slice_index_or places i None ≡ None
-free_at p at i [] x lie all can e none = refl
-free_at p at zero (None ∷ places) x lie all can e none = refl
-free_at p at (suc i) (None ∷ places) x lie all can e none = free_at p (suc at) i places x lie all can
-    (omega (arith, e)) none
-free_at p at zero (Some m ∷ places) x lie all can e none =
-    let same : same_name m.name x ≡ true = place_same p m.name x all.0.0 all.0.1 lie.0 can (omega (arith, e, lie.1)) in
-    absurd (some_none (letter_of m) (ap (λ (b : Bool). if b then Some (letter_of m) else None) same) none)
-  where
-    some_none : {r : Option Letter} (y : Letter) → r ≡ Some y → r ≡ None → ⊥
-    some_none y s t = cc
-free_at p at (suc i) (Some m ∷ places) x lie all can e none = free_at p (suc at) i places x lie.2 all.1 can
-    (omega (arith, e)) none
+module _ (p : ℕ) (x : Name) where
+  free_at : (at i : ℕ) (places : Places) → LieInPlace p at places → Together x (letters_in places) →
+      CanTake p x → at + i ≡ place_of p x → letter_at x (slice_index_or places i None) ≡ None →
+      slice_index_or places i None ≡ None
+  free_at at i [] lie all can e none = refl
+  free_at at zero (None ∷ places) lie all can e none = refl
+  free_at at (suc i) (None ∷ places) lie all can e none = free_at (suc at) i places lie all can
+      (omega (arith, e)) none
+  free_at at zero (Some m ∷ places) lie all can e none =
+      let same : same_name m.name x ≡ true = place_same p m.name x all.0.0 all.0.1 lie.0 can (omega (
+        arith,
+        e,
+        lie.1,
+      )) in
+      absurd (some_none (letter_of m) (ap (λ (b : Bool). if b then Some (letter_of m) else None) same) none)
+    where
+      some_none : {r : Option Letter} (y : Letter) → r ≡ Some y → r ≡ None → ⊥
+      some_none y s t = cc
+  free_at at (suc i) (Some m ∷ places) lie all can e none = free_at (suc at) i places lie.2 all.1 can
+      (omega (arith, e)) none
 
 lie_filled : (p at i : ℕ) (places : Places) (m : Message) → LieInPlace p at places → CanTake p m.name →
     at + i ≡ place_of p m.name → LieInPlace p at (slice_set places i (Some m))
@@ -166,9 +172,9 @@ module _ (cap p : ℕ) (places : Places) (sound : AreSound cap p places) where
       let all : Together m.name (letters_in places) =
       recursion_from_All (λ (y : Letter). (y.name.round ≡ m.name.round) × (y.name.to ≡ m.name.to))
       (letters_in places) together in
-      let free = free_at p 0 (place_of p m.name) places m.name sound.lie all can (omega arith) (sym (found_in m.name)
+      let free = free_at p m.name 0 (place_of p m.name) places sound.lie all can (omega arith) (sym (found_in m.name)
       ∙ none) in
-      filled_at p 0 (place_of p m.name) places m sound.lie all can (omega arith)
+      filled_at p m can 0 (place_of p m.name) places sound.lie all (omega arith)
       (omega (arith, has_place p m.name can, sound.size)) free
 
   pub sound_put : (m : Message) → CanTake p m.name → found m.name (letters_in places) ≡ None →
@@ -204,12 +210,14 @@ module _ (cap p : ℕ) (places : Places) (sound : AreSound cap p places) where
   }
 
 -- what holds of all messages held, once one more was put in or one was taken out
-of_round_step : (r to : ℕ) (m y : Letter) (ys rest : List Letter) (b : Bool) → (m.name.round ≡ r) × (m.name.to ≡ to) →
-    AllByRecursion (λ (z : Letter). (z.name.round ≡ r) × (z.name.to ≡ to)) (y ∷ ys) →
-    AllByRecursion (λ (z : Letter). (z.name.round ≡ r) × (z.name.to ≡ to)) rest →
-    AllByRecursion (λ (z : Letter). (z.name.round ≡ r) × (z.name.to ≡ to)) (if b then y ∷ rest else m ∷ y ∷ ys)
-of_round_step r to m y ys rest true is all more = (all.0, more)
-of_round_step r to m y ys rest false is all more = (is, all)
+module _ (r to : ℕ) (m y : Letter) (ys rest : List Letter) where
+  of_round_step : (b : Bool) → (m.name.round ≡ r) × (m.name.to ≡ to) →
+      AllByRecursion (λ (z : Letter). (z.name.round ≡ r) × (z.name.to ≡ to)) (y ∷ ys) →
+      AllByRecursion (λ (z : Letter). (z.name.round ≡ r) × (z.name.to ≡ to)) rest →
+      AllByRecursion (λ (z : Letter). (z.name.round ≡ r) × (z.name.to ≡ to)) (if b then y ∷ rest else m ∷ y ∷
+      ys)
+  of_round_step true is all more = (all.0, more)
+  of_round_step false is all more = (is, all)
 
 of_round_in : (r to : ℕ) (m : Letter) (ms : List Letter) → (m.name.round ≡ r) × (m.name.to ≡ to) →
     AllByRecursion (λ (z : Letter). (z.name.round ≡ r) × (z.name.to ≡ to)) ms →
@@ -248,62 +256,65 @@ abbrev pub held_of : ℕ → List Letter → Held
 held_of p ms = record { machines = p; letters = ms }
 
 -- what a look into the place of a name gives
-pub look_in : (cap p : ℕ) (places : Places) → AreSound cap p places →
-    (x : Name) (at : ℕ) (seen : Places) (held : Held) (r : Option Letter) → at ≡ place_of p x → seen ≡ places →
-    held_of p (letters_in places) ≡ held → r ≡ letter_at x (slice_index_or seen at None) → r ≡ found x held.letters
-look_in cap p places sound x at seen held r e f view is =
-    is ∙ ap (λ (n : ℕ). letter_at x (slice_index_or seen n None)) e
-    ∙ ap (λ (ms : Places). letter_at x (slice_index_or ms (place_of p x) None)) f
-    ∙ sym (found_in cap p places sound x) ∙ ap (λ (h : Held). found x h.letters) view
+module _ (cap p : ℕ) (places : Places) (sound : AreSound cap p places) (x : Name) (at : ℕ) (seen : Places)
+    (held : Held) (r : Option Letter) where
+  pub look_in : at ≡ place_of p x → seen ≡ places → held_of p (letters_in places) ≡ held →
+      r ≡ letter_at x (slice_index_or seen at None) → r ≡ found x held.letters
+  look_in e f view is =
+      is ∙ ap (λ (n : ℕ). letter_at x (slice_index_or seen n None)) e
+      ∙ ap (λ (ms : Places). letter_at x (slice_index_or ms (place_of p x) None)) f
+      ∙ sym (found_in cap p places sound x) ∙ ap (λ (h : Held). found x h.letters) view
 
 -- after a message was put into its place
 pub record IsPut (cap p : ℕ) (new : Places) (held : Held) (m : Message) : Type 0 where
   pub sound : AreSound cap p new
   pub now : held_of p (letters_in new) ≡ with_letter (letter_of m) held
 
-pub put_at : (cap p : ℕ) (places new : Places) → AreSound cap p places → (m : Message) (at : ℕ) (held : Held) →
-    at ≡ place_of p m.name → new ≡ slice_set places at (Some m) → held_of p (letters_in places) ≡ held →
-    CanTake held.machines m.name → found m.name held.letters ≡ None → AreOfRound m.name.round m.name.to held.letters →
-    IsPut cap p new held m
-put_at cap p places new sound m at held e is view one fresh together =
-    let can : CanTake p m.name = subst (λ (h : Held). CanTake h.machines m.name) (sym view) one in
-    let none : found m.name (letters_in places) ≡ None =
-    subst (λ (h : Held). found m.name h.letters ≡ None) (sym view) fresh in
-    let all : AreOfRound m.name.round m.name.to (letters_in places) =
-    subst (λ (h : Held). AreOfRound m.name.round m.name.to h.letters) (sym view) together in
-    let there : new ≡ slice_set places (place_of p m.name) (Some m) =
-    is ∙ ap (λ (n : ℕ). slice_set places n (Some m)) e in
-    record {
-      sound = subst (AreSound cap p) (sym there) (sound_put cap p places sound m can none all);
-      now = ap (λ (ps : Places). held_of p (letters_in ps)) there
-          ∙ ap (held_of p) (put_in cap p places sound m can none all) ∙ ap (with_letter (letter_of m)) view;
-    }
+module _ (cap p : ℕ) (places new : Places) (sound : AreSound cap p places) (m : Message) (at : ℕ) (held : Held) where
+  pub put_at : at ≡ place_of p m.name → new ≡ slice_set places at (Some m) →
+      held_of p (letters_in places) ≡ held → CanTake held.machines m.name → found m.name held.letters ≡ None →
+      AreOfRound m.name.round m.name.to held.letters → IsPut cap p new held m
+  put_at e is view one fresh together =
+      let can : CanTake p m.name = subst (λ (h : Held). CanTake h.machines m.name) (sym view) one in
+      let none : found m.name (letters_in places) ≡ None =
+      subst (λ (h : Held). found m.name h.letters ≡ None) (sym view) fresh in
+      let all : AreOfRound m.name.round m.name.to (letters_in places) =
+      subst (λ (h : Held). AreOfRound m.name.round m.name.to h.letters) (sym view) together in
+      let there : new ≡ slice_set places (place_of p m.name) (Some m) =
+      is ∙ ap (λ (n : ℕ). slice_set places n (Some m)) e in
+      record {
+        sound = subst (AreSound cap p) (sym there) (sound_put cap p places sound m can none all);
+        now = ap (λ (ps : Places). held_of p (letters_in ps)) there
+            ∙ ap (held_of p) (put_in cap p places sound m can none all) ∙ ap (with_letter (letter_of m)) view;
+      }
 
 -- after the place of a name was cleared
 pub record IsLifted (cap p : ℕ) (new : Places) (held : Held) (x : Name) : Type 0 where
   pub sound : AreSound cap p new
   pub now : held_of p (letters_in new) ≡ without_name x held
 
-lift_by : (cap p : ℕ) (places new : Places) → AreSound cap p places → (x : Name) (r : Option Message) →
-    option_map letter_of r ≡ letter_at x (slice_index_or places (place_of p x) None) →
-    new ≡ (if is_some r then slice_set places (place_of p x) None else places) →
-    IsLifted cap p new (held_of p (letters_in places)) x
-lift_by cap p places new sound x None here is = record {
-  sound = subst (AreSound cap p) (sym is) sound;
-  now = ap (λ (ps : Places). held_of p (letters_in ps)) is ∙ ap (held_of p) (keep_in cap p places sound x (sym here));
-}
-lift_by cap p places new sound x (Some m) here is = record {
-  sound = subst (AreSound cap p) (sym is) (sound_lift cap p places sound x (letter_of m) (sym here));
-  now = ap (λ (ps : Places). held_of p (letters_in ps)) is
-      ∙ ap (held_of p) (lift_in cap p places sound x (letter_of m) (sym here));
-}
+module _ (cap p : ℕ) (places new : Places) where
+  lift_by : AreSound cap p places → (x : Name) (r : Option Message) →
+      option_map letter_of r ≡ letter_at x (slice_index_or places (place_of p x) None) →
+      new ≡ (if is_some r then slice_set places (place_of p x) None else places) →
+      IsLifted cap p new (held_of p (letters_in places)) x
+  lift_by sound x None here is = record {
+    sound = subst (AreSound cap p) (sym is) sound;
+    now = ap (λ (ps : Places). held_of p (letters_in ps)) is ∙ ap (held_of p) (keep_in cap p places sound x (sym
+        here));
+  }
+  lift_by sound x (Some m) here is = record {
+    sound = subst (AreSound cap p) (sym is) (sound_lift cap p places sound x (letter_of m) (sym here));
+    now = ap (λ (ps : Places). held_of p (letters_in ps)) is
+        ∙ ap (held_of p) (lift_in cap p places sound x (letter_of m) (sym here));
+  }
 
-pub lift_at : (cap p : ℕ) (places new : Places) → AreSound cap p places →
-    (x : Name) (r : Option Message) (at : ℕ) (held : Held) → at ≡ place_of p x →
-    option_map letter_of r ≡ letter_at x (slice_index_or places at None) →
-    new ≡ (if is_some r then slice_set places at None else places) → held_of p (letters_in places) ≡ held →
-    IsLifted cap p new held x
-lift_at cap p places new sound x r at held e here is view =
-    subst (λ (h : Held). IsLifted cap p new h x) view (lift_by cap p places new sound x r
-    (here ∙ ap (λ (n : ℕ). letter_at x (slice_index_or places n None)) e)
-    (is ∙ ap (λ (n : ℕ). if is_some r then slice_set places n None else places) e))
+module _ (cap p : ℕ) (places new : Places) (sound : AreSound cap p places) (x : Name) (r : Option Message)
+    (at : ℕ) (held : Held) where
+  pub lift_at : at ≡ place_of p x → option_map letter_of r ≡ letter_at x (slice_index_or places at None) →
+      new ≡ (if is_some r then slice_set places at None else places) → held_of p (letters_in places) ≡ held →
+      IsLifted cap p new held x
+  lift_at e here is view =
+      subst (λ (h : Held). IsLifted cap p new h x) view (lift_by cap p places new sound x r
+      (here ∙ ap (λ (n : ℕ). letter_at x (slice_index_or places n None)) e)
+      (is ∙ ap (λ (n : ℕ). if is_some r then slice_set places n None else places) e))

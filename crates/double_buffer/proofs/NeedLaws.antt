@@ -65,35 +65,36 @@ module _ (ring : Ring) where
       one)
       (cases_eq m 0)
 
-  scan_needs : (m r s h : ℕ) (x : Name) → m < ring.machines → s < ring.machines → h ≤ 1 →
-      Has (needs_of ring m (Scan r s h)) x → IsForSpot ring m (Scan r s h) x
-  scan_needs m r s h x within step half has =
-      let p = ring.machines in
-      ⊎_elim
-      (λ rows.
-      let c = has_name_if_cases (nat_lt s (p - 1)) (refresh_name r (chunk_of m s p) m) x rows in
-      let early = below_from s (p - 1) c.0 in
-      subst (λ y. IsForSpot ring m (Scan r s h) y) c.1 (record {
-        one = record {
-          from = mod-lt (m + p - 1 - s) (omega arith);
-          to = within;
-          other = chunk_other m s p within early;
-          step = refl;
-          half = refl;
-        };
-        to = refl;
-        round = refl;
-      }))
-      (λ states.
-      let c = has_name_if_cases (ring.carry && nat_lt 0 s) (dep_name r (s - 1) h (before_machine m p) m) x states in
-      let some = below_from 0 s (and_parts ring.carry (nat_lt 0 s) c.0).1 in
-      subst (λ y. IsForSpot ring m (Scan r s h) y) c.1 (record {
-        one = record { from = refl; to = within; step = omega arith; half = half };
-        to = refl;
-        round = refl;
-      }))
-      (has_append_cases (name_if (nat_lt s (p - 1)) (refresh_name r (chunk_of m s p) m))
-      (name_if (ring.carry && nat_lt 0 s) (dep_name r (s - 1) h (before_machine m p) m)) x has)
+  module _ (m r s h : ℕ) (x : Name) where
+    scan_needs : m < ring.machines → s < ring.machines → h ≤ 1 → Has (needs_of ring m (Scan r s h)) x →
+        IsForSpot ring m (Scan r s h) x
+    scan_needs within step half has =
+        let p = ring.machines in
+        ⊎_elim
+        (λ rows.
+        let c = has_name_if_cases (nat_lt s (p - 1)) (refresh_name r (chunk_of m s p) m) x rows in
+        let early = below_from s (p - 1) c.0 in
+        subst (λ y. IsForSpot ring m (Scan r s h) y) c.1 (record {
+          one = record {
+            from = mod-lt (m + p - 1 - s) (omega arith);
+            to = within;
+            other = chunk_other m s p within early;
+            step = refl;
+            half = refl;
+          };
+          to = refl;
+          round = refl;
+        }))
+        (λ states.
+        let c = has_name_if_cases (ring.carry && nat_lt 0 s) (dep_name r (s - 1) h (before_machine m p) m) x states in
+        let some = below_from 0 s (and_parts ring.carry (nat_lt 0 s) c.0).1 in
+        subst (λ y. IsForSpot ring m (Scan r s h) y) c.1 (record {
+          one = record { from = refl; to = within; step = omega arith; half = half };
+          to = refl;
+          round = refl;
+        }))
+        (has_append_cases (name_if (nat_lt s (p - 1)) (refresh_name r (chunk_of m s p) m))
+        (name_if (ring.carry && nat_lt 0 s) (dep_name r (s - 1) h (before_machine m p) m)) x has)
 
   close_dense_needs : (m r : ℕ) (x : Name) → m < ring.machines → Has (needs_of ring m (Close r true)) x →
       IsForSpot ring m (Close r true) x

@@ -122,12 +122,13 @@ round_same p a b tos can_a can_b froms =
     (same_here a.half b.half _ (can_a.half ∙ sym can_b.half)
     (same_here a.from b.from _ froms (same_here a.to b.to true tos refl)))
 
-step_same : (p s t : ℕ) (a b : Name) → a.to ≡ b.to → IsOfStep p s a → IsOfStep p t b → (a.step ≡ b.step → s ≡ t) →
-    2 * a.step + a.half ≡ 2 * b.step + b.half → same_numbers (last_numbers a) (last_numbers b) ≡ true
-step_same p s t a b tos can_a can_b senders places =
-    let steps : a.step ≡ b.step = omega (arith, can_a.half, can_b.half) in
-    same_here a.step b.step _ steps (same_here a.half b.half _ (omega arith)
-    (same_here a.from b.from _ (can_a.from ∙ senders steps ∙ sym can_b.from) (same_here a.to b.to true tos refl)))
+module _ (p s t : ℕ) (a b : Name) where
+  step_same : a.to ≡ b.to → IsOfStep p s a → IsOfStep p t b → (a.step ≡ b.step → s ≡ t) →
+      2 * a.step + a.half ≡ 2 * b.step + b.half → same_numbers (last_numbers a) (last_numbers b) ≡ true
+  step_same tos can_a can_b senders places =
+      let steps : a.step ≡ b.step = omega (arith, can_a.half, can_b.half) in
+      same_here a.step b.step _ steps (same_here a.half b.half _ (omega arith)
+      (same_here a.from b.from _ (can_a.from ∙ senders steps ∙ sym can_b.from) (same_here a.to b.to true tos refl)))
 
 last_same : (kind : NameKind) (p : ℕ) (a b : Name) → a.to ≡ b.to → CanTakeKind kind p a → CanTakeKind kind p b →
     place_in_row kind a ≡ place_in_row kind b → same_numbers (last_numbers a) (last_numbers b) ≡ true

@@ -24,13 +24,13 @@ bound_covers m (edge ∷ edges) h =
     All-cons (IsBelow m) edge edges (from, to) (bound_covers m edges (omega arith))
 
 -- an entry that no code refuses: its edges stand behind those in front, and the other entries go on
-pub entry_added : (given : Option ℕ) (both : Bool) (fault : ℕ → ℕ → EdgeFault) (number : ℕ) (front more : List Edge)
-    (entry : Entry) (left entries : List Entry) (whole : Result (List Edge) EdgeFault)
-    → left ≡ entry ∷ entries → code_of given both (length front) entry ≡ None → more ≡ front ++ edges_of both entry
-    → edges_from given both fault number front left ≡ whole → edges_from given both fault (number + 1) more entries
-    ≡ whole
-entry_added given both fault number front more entry left entries whole first fine joined reading =
-    rw joined (sym (rw (first, fine) refl) ∙ reading)
+module _ (given : Option ℕ) (both : Bool) (fault : ℕ → ℕ → EdgeFault) (number : ℕ) (front more : List Edge)
+    (entry : Entry) (left entries : List Entry) (whole : Result (List Edge) EdgeFault) where
+  pub entry_added : left ≡ entry ∷ entries → code_of given both (length front) entry ≡ None →
+      more ≡ front ++ edges_of both entry → edges_from given both fault number front left ≡ whole →
+      edges_from given both fault (number + 1) more entries ≡ whole
+  entry_added first fine joined reading =
+      rw joined (sym (rw (first, fine) refl) ∙ reading)
 
 -- its edges keep to the most
 pub few_added : (given : Option ℕ) (both : Bool) (front more : List Edge) (entry : Entry)

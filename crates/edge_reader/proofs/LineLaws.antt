@@ -48,15 +48,15 @@ lines_last s n some e none =
     lines_next s n some e ∙ ap (λ q. take n s ∷ lines_of q) same
 
 -- what a line of three words says
-pub line_three : (line text from to last a b c : List ℕ) → text ≡ without_return line →
-    words_of text ≡ from ∷ words_of a → is_comment from ≡ false → words_of a ≡ to ∷ words_of b →
-    words_of b ≡ last ∷ words_of c → words_of c ≡ [] →
-    entry_of_line line ≡ entry_of_numbers (number_of from) (number_of to) (weight_of last)
-line_three line text from to last a b c e first plain second third none = rw (
-  sym e,
-  first,
-  second,
-  third,
-  none,
-  plain,
-) refl
+module _ (line text from to last a b c : List ℕ) where
+  pub line_three : text ≡ without_return line → words_of text ≡ from ∷ words_of a → is_comment from ≡ false →
+      words_of a ≡ to ∷ words_of b → words_of b ≡ last ∷ words_of c → words_of c ≡ [] →
+      entry_of_line line ≡ entry_of_numbers (number_of from) (number_of to) (weight_of last)
+  line_three e first plain second third none = rw (
+    sym e,
+    first,
+    second,
+    third,
+    none,
+    plain,
+  ) refl

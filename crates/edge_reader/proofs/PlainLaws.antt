@@ -105,23 +105,23 @@ line_says from to separator a b blank =
     rw (whole, words, plain, a, b) refl
 
 -- and the entries of a text that begins with it
-pub plain_entries : (bytes after left : List ℕ) (from to separator end : ℕ) (entry : Entry) →
-    BeginsWith bytes from (separator ∷ after) → is_blank separator ≡ true → BeginsWith after to (end ∷ left) →
-    end ≡ 10 → entry ≡ entry_of_numbers (Some from) (Some to) (Some one) → map entry_of_line (lines_of bytes) ≡ entry
-    ∷ map entry_of_line (lines_of left)
-plain_entries bytes after left from to separator end entry first blank second feed is =
-    let line = first.word ++ separator ∷ second.word in
-    let text : bytes ≡ line ++ 10 ∷ left =
-    first.parts
-    ∙ (ap (λ xs. first.word ++ separator ∷ xs) (second.parts ∙ ap (λ q. second.word ++ q ∷ left) feed)
-    ∙ sym (append_assoc first.word (separator ∷ second.word) (10 ∷ left))) in
-    let lines : lines_of bytes ≡ line ∷ lines_of left =
-    ap lines_of text ∙ lines_plain line left
-    (line_plain first.word second.word separator first.says second.says blank) in
-    let says : entry_of_line line ≡ entry =
-    line_says first.word second.word separator first.says second.says blank
-    ∙ (sym (numbers_capped (Some (value_of first.word)) (Some (value_of second.word)) (Some one))
-    ∙ (ap (λ q. entry_of_numbers (Some q) (Some (min (value_of second.word) 1099511627776)) (Some one))
-    (sym first.value)
-    ∙ (ap (λ q. entry_of_numbers (Some from) (Some q) (Some one)) (sym second.value) ∙ sym is))) in
-    ap (map entry_of_line) lines ∙ ap (λ q. q ∷ map entry_of_line (lines_of left)) says
+module _ (bytes after left : List ℕ) (from to separator end : ℕ) (entry : Entry) where
+  pub plain_entries : BeginsWith bytes from (separator ∷ after) → is_blank separator ≡ true →
+      BeginsWith after to (end ∷ left) → end ≡ 10 → entry ≡ entry_of_numbers (Some from) (Some to) (Some one) →
+      map entry_of_line (lines_of bytes) ≡ entry ∷ map entry_of_line (lines_of left)
+  plain_entries first blank second feed is =
+      let line = first.word ++ separator ∷ second.word in
+      let text : bytes ≡ line ++ 10 ∷ left =
+      first.parts
+      ∙ (ap (λ xs. first.word ++ separator ∷ xs) (second.parts ∙ ap (λ q. second.word ++ q ∷ left) feed)
+      ∙ sym (append_assoc first.word (separator ∷ second.word) (10 ∷ left))) in
+      let lines : lines_of bytes ≡ line ∷ lines_of left =
+      ap lines_of text ∙ lines_plain line left
+      (line_plain first.word second.word separator first.says second.says blank) in
+      let says : entry_of_line line ≡ entry =
+      line_says first.word second.word separator first.says second.says blank
+      ∙ (sym (numbers_capped (Some (value_of first.word)) (Some (value_of second.word)) (Some one))
+      ∙ (ap (λ q. entry_of_numbers (Some q) (Some (min (value_of second.word) 1099511627776)) (Some one))
+      (sym first.value)
+      ∙ (ap (λ q. entry_of_numbers (Some from) (Some q) (Some one)) (sym second.value) ∙ sym is))) in
+      ap (map entry_of_line) lines ∙ ap (λ q. q ∷ map entry_of_line (lines_of left)) says

@@ -24,16 +24,17 @@ digits_are_number [] some digits = absurd (omega arith)
 digits_are_number (byte ∷ word) some digits = digits
 
 -- a text begins with these digits, and a byte stands behind them
-pub begins_short : (text : List ℕ) (value i : ℕ) → list_all is_digit (take i text) ≡ true →
-    value ≡ value_of (take i text) → value < 10 ^ i → i < 8 → 0 < i → i < length text →
-    BeginsWith text value (get_or text i 0 ∷ take (length text - (i + 1)) (drop (i + 1) text))
-begins_short text value i digits is small few some within =
-    let word = take i text in
-    let long : 0 < length word = grind (arith, common_steps) in
-    record {
-      word = word;
-      parts = sym (take-append-drop i text) ∙ ap (λ q. word ++ q)
-          (drop_more text i 0 within ∙ ap (λ q. get_or text i 0 ∷ q) (sym (take_rest text (i + 1))));
-      says = digits_are_number word long digits;
-      value = not_capped value (value_of word) is (short_bound value i small few);
-    }
+module _ (text : List ℕ) (value i : ℕ) where
+  pub begins_short : list_all is_digit (take i text) ≡ true → value ≡ value_of (take i text) → value < 10 ^ i →
+      i < 8 → 0 < i → i < length text →
+      BeginsWith text value (get_or text i 0 ∷ take (length text - (i + 1)) (drop (i + 1) text))
+  begins_short digits is small few some within =
+      let word = take i text in
+      let long : 0 < length word = grind (arith, common_steps) in
+      record {
+        word = word;
+        parts = sym (take-append-drop i text) ∙ ap (λ q. word ++ q)
+            (drop_more text i 0 within ∙ ap (λ q. get_or text i 0 ∷ q) (sym (take_rest text (i + 1))));
+        says = digits_are_number word long digits;
+        value = not_capped value (value_of word) is (short_bound value i small few);
+      }

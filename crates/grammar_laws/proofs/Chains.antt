@@ -72,28 +72,29 @@ left_back l t u h = go (eqb l 3) refl h
     go false e m = (m, refl)
 
 -- an operator of a layer, behind an expression of that layer and before one that binds tighter
-pub pair_form : (k : ℕ) (left x : Tree) (a v : List Placed) (t : Placed) → k < 5 → layer t.kind ≡ suc k →
-    (eqb (suc k) 3 && is_comparison left) ≡ false → Reads (suc k) left a → Reads k x v
-    → Reads (suc k) (Pair (start left) (operator t.kind) left x) (a ++ t ∷ v)
-pair_form k left x a v t lt e n h g =
-    let m = marks_operator t.kind (omega arith) (omega arith) in
-    let is : layer_of (operator t.kind) ≡ suc k = m.1 ∙ e in (
-      omega arith,
-      refl,
-      record {
-        front = a;
-        back = t ∷ v;
-        whole = refl;
-        first = subst (λ n. Reads (left_of n) left a) (sym is) (left_form (suc k) left a h n);
-        second = record {
-          front = t ∷ [];
-          back = v;
+module _ (k : ℕ) (left x : Tree) (a v : List Placed) (t : Placed) where
+  pub pair_form : k < 5 → layer t.kind ≡ suc k → (eqb (suc k) 3 && is_comparison left) ≡ false →
+      Reads (suc k) left a → Reads k x v →
+      Reads (suc k) (Pair (start left) (operator t.kind) left x) (a ++ t ∷ v)
+  pair_form lt e n h g =
+      let m = marks_operator t.kind (omega arith) (omega arith) in
+      let is : layer_of (operator t.kind) ≡ suc k = m.1 ∙ e in (
+        omega arith,
+        refl,
+        record {
+          front = a;
+          back = t ∷ v;
           whole = refl;
-          first = (t.span, ap (λ (y : Kind). token t.span y ∷ []) m.0);
-          second = subst (λ n. Reads (pred n) x v) (sym is) g;
-        };
-      },
-    )
+          first = subst (λ n. Reads (left_of n) left a) (sym is) (left_form (suc k) left a h n);
+          second = record {
+            front = t ∷ [];
+            back = v;
+            whole = refl;
+            first = (t.span, ap (λ (y : Kind). token t.span y ∷ []) m.0);
+            second = subst (λ n. Reads (pred n) x v) (sym is) g;
+          };
+        },
+      )
 
 module _ (lim : Limits) (b k : ℕ) (below : Parser Tree) (lt : k < 5) where
   abbrev Goes : (Tree → Parser Tree) → Type 0
@@ -171,40 +172,42 @@ module _ (lim : Limits) (b k : ℕ) (lt : k < 5)
     goes = layer_is b k (u ++ r) lt ∙ (let e = here t u r h d f in rw e refl);
   }
 
-  turn_on : (turns : ℕ) (s : Span) (op : BinOp) (o : Span) (l x : Tree) (u r front tail : List Placed) →
-      suc b ≤ turns + depth l
-      → tree_at (suc b) (suc k) (front ++ (token o (Mark (mark_of op)) ∷ tail))
-      ≡ chain b (suc k) (tree_at b k) turns l (token o (Mark (mark_of op)) ∷ tail)
-      → u ++ r ≡ front ++ (token o (Mark (mark_of op)) ∷ tail) → tree_at b k tail ≡ Ok (x, r) → depth l ≤ b →
-      (eqb (suc k) 3 && is_comparison l) ≡ false → start l ≡ s → layer_of op ≡ suc k →
-      Reached b k (Pair s op l x) u r
-  turn_on zero s op o l x u r front tail en goes whole operand deep n st is = absurd (omega arith)
-  turn_on (suc f) s op o l x u r front tail en goes whole operand deep n st is = record {
-    turns = f;
-    enough = omega arith;
-    goes = ap (tree_at (suc b) (suc k)) whole ∙ goes
-        ∙ chain_turn b k f (tree_at b k) l x (token o (Mark (mark_of op))) tail r (layer_back op ∙ is) n deep operand
-        ∙ ap (λ (p : Span). chain b (suc k) (tree_at b k) f (Pair p (operator (Mark (mark_of op))) l x) r) st
-        ∙ ap (λ (q : BinOp). chain b (suc k) (tree_at b k) f (Pair s q l x) r) (operator_back op);
-  }
+  module _ (s : Span) (op : BinOp) (o : Span) (l x : Tree) (u r front tail : List Placed)
+      (whole : u ++ r ≡ front ++ (token o (Mark (mark_of op)) ∷ tail)) where
+    turn_on : (turns : ℕ) → suc b ≤ turns + depth l →
+        tree_at (suc b) (suc k) (front ++ (token o (Mark (mark_of op)) ∷ tail)) ≡ chain b (suc k) (tree_at b k)
+        turns l (token o (Mark (mark_of op)) ∷ tail) → tree_at b k tail ≡ Ok (x, r) → depth l ≤ b →
+        (eqb (suc k) 3 && is_comparison l) ≡ false → start l ≡ s → layer_of op ≡ suc k →
+        Reached b k (Pair s op l x) u r
+    turn_on zero en goes operand deep n st is = absurd (omega arith)
+    turn_on (suc f) en goes operand deep n st is = record {
+      turns = f;
+      enough = omega arith;
+      goes = ap (tree_at (suc b) (suc k)) whole ∙ goes
+          ∙ chain_turn b k f (tree_at b k) l x (token o (Mark (mark_of op))) tail r (layer_back op ∙ is) n deep
+          operand
+          ∙ ap (λ (p : Span). chain b (suc k) (tree_at b k) f (Pair p (operator (Mark (mark_of op))) l x) r) st
+          ∙ ap (λ (q : BinOp). chain b (suc k) (tree_at b k) f (Pair s q l x) r) (operator_back op);
+    }
 
-  one_more : (s : Span) (op : BinOp) (l x : Tree) (u r : List Placed) →
-      ((v w : List Placed) → Reads (suc k) l v → depth l ≤ suc b → Ends k w → Reached b k l v w)
-      → layer_of op ≡ suc k → Reads (suc k) (Pair s op l x) u → depth (Pair s op l x) ≤ suc b → Ends k r →
-      Reached b k (Pair s op l x) u r
-  one_more s op l x u r ih is h d f =
-      let p = h.2 in
-      let q = p.second in
-      let o = q.first.0 in
-      let lb = left_back (suc k) l p.front (subst (λ n. Reads (left_of n) l p.front) is p.first) in
-      let hx : Reads k x q.back = subst (λ n. Reads (pred n) x q.back) is q.second in
-      let lay : layer (Mark (mark_of op)) ≡ suc k = layer_back op ∙ is in
-      let before = ih p.front (token o (Mark (mark_of op)) ∷ (q.back ++ r)) lb.0 (omega arith) (omega arith) in
-      let whole : u ++ r ≡ p.front ++ (token o (Mark (mark_of op)) ∷ (q.back ++ r)) =
-      rw (p.whole, q.whole, q.first.1) (append_assoc p.front (token o (Mark (mark_of op)) ∷ q.back) r) in
-      let operand : tree_at b k (q.back ++ r) ≡ Ok (x, r) = inner x q.back r hx (omega arith) f in
-      turn_on before.turns s op o l x u r p.front (q.back ++ r) before.enough before.goes whole operand (omega arith)
-      lb.1 (sym h.1) is
+  module _ (s : Span) (op : BinOp) (l x : Tree) (u r : List Placed) where
+    one_more : ((v w : List Placed) → Reads (suc k) l v → depth l ≤ suc b → Ends k w → Reached b k l v w) →
+        layer_of op ≡ suc k → Reads (suc k) (Pair s op l x) u → depth (Pair s op l x) ≤ suc b → Ends k r →
+        Reached b k (Pair s op l x) u r
+    one_more ih is h d f =
+        let p = h.2 in
+        let q = p.second in
+        let o = q.first.0 in
+        let lb = left_back (suc k) l p.front (subst (λ n. Reads (left_of n) l p.front) is p.first) in
+        let hx : Reads k x q.back = subst (λ n. Reads (pred n) x q.back) is q.second in
+        let lay : layer (Mark (mark_of op)) ≡ suc k = layer_back op ∙ is in
+        let before = ih p.front (token o (Mark (mark_of op)) ∷ (q.back ++ r)) lb.0 (omega arith) (omega arith) in
+        let whole : u ++ r ≡ p.front ++ (token o (Mark (mark_of op)) ∷ (q.back ++ r)) =
+        rw (p.whole, q.whole, q.first.1) (append_assoc p.front (token o (Mark (mark_of op)) ∷ q.back) r) in
+        let operand : tree_at b k (q.back ++ r) ≡ Ok (x, r) = inner x q.back r hx (omega arith) f in
+        turn_on s op o l x u r p.front (q.back ++ r) whole before.turns before.enough before.goes operand (omega
+        arith)
+        lb.1 (sym h.1) is
 
   -- a tree of this layer is of a tighter one, or a chain
   pub reach : (t : Tree) (u r : List Placed) → Reads (suc k) t u → depth t ≤ suc b → Ends k r → Reached b k t u r
@@ -246,13 +249,13 @@ module _ (lim : Limits) (b k : ℕ) (lt : k < 5) (sound : Sound (tree_notion k) 
   Outer ts s = Fault (tree_notion (suc k)) (tree_run (suc k)) (deep lim (suc b)) ts s
 
   -- what the chain does behind its left operand, the whole does
-  from_left : (c : ℕ) (left : Tree) (a more : List Placed) (w : Why) (rest : List Placed) → suc b ≤ c →
-      Reads (suc k) left a → depth left ≤ suc b → Ends k more
-      → ((d f : ℕ) → b ≤ d → suc d ≡ c → chain d (suc k) (tree_at d k) f left more ≡ stop w rest) →
-      tree_at c (suc k) (a ++ more) ≡ stop w rest
-  from_left zero left a more w rest le h d f e = absurd (omega arith)
-  from_left (suc c) left a more w rest le h d f e = let g = reach lim c k lt (complete (suc c)) (complete c) left a
-      more h (omega arith) f in g.goes ∙ e c g.turns (omega arith) refl
+  module _ (left : Tree) (a more : List Placed) (w : Why) (rest : List Placed) where
+    from_left : (c : ℕ) → suc b ≤ c → Reads (suc k) left a → depth left ≤ suc b → Ends k more →
+        ((d f : ℕ) → b ≤ d → suc d ≡ c → chain d (suc k) (tree_at d k) f left more ≡ stop w rest) →
+        tree_at c (suc k) (a ++ more) ≡ stop w rest
+    from_left zero le h d f e = absurd (omega arith)
+    from_left (suc c) le h d f e = let g = reach lim c k lt (complete (suc c)) (complete c) left a
+        more h (omega arith) f in g.goes ∙ e c g.turns (omega arith) refl
 
   -- an operator stands where none may, or where it is too deep
   twice : (left : Tree) (a ts : List Placed) (t : Placed) → Reads (suc k) left a → depth left ≤ suc b →
@@ -271,94 +274,105 @@ module _ (lim : Limits) (b k : ℕ) (lt : k < 5) (sound : Sound (tree_notion k) 
       go c [] le sh = absurd sh
       go c (m ∷ ms) le sh =
           let ml : layer m.kind ≡ suc k = ap (λ (i : Placed). layer i.kind) sh ∙ l in
-          from_left c left a (m ∷ ms) Unexpected (m ∷ ms) le h d (omega arith) (λ e f _ _.
+          from_left left a (m ∷ ms) Unexpected (m ∷ ms) c le h d (omega arith) (λ e f _ _.
           chain_twice e k f (tree_at e k) left m ms ml n)
 
-  too_deep : (left : Tree) (a ts : List Placed) (t : Placed) → Reads (suc k) left a → depth left ≤ suc b →
-      layer t.kind ≡ suc k → (eqb (suc k) 3 && is_comparison left) ≡ false → b < depth left →
-      Outer (a ++ t ∷ ts) (record { why = TooDeep; rest = t ∷ ts })
-  too_deep left a ts t h d l n deeper = record {
-    used = a;
-    parts = refl;
-    front = ([], left, subst (Reads (suc k) left) (sym (append-nil a)) h, d);
-    stays = λ m more c sh. subst (λ (j : ℕ). tree_at j (suc k) (a ++ more) ≡ stop TooDeep more) c.0 (go more sh);
-    beyond = (
-      leaf_tokens,
-      Pair (start left) (operator t.kind) left leaf,
-      subst (Reads (suc k) (Pair (start left) (operator t.kind) left leaf))
-          (sym (append_assoc a (t ∷ []) leaf_tokens)) (pair_form k left leaf a leaf_tokens t lt l n h (leaf_reads k)),
-      tt,
-    );
-  }
-    where
-      go : (more : List Placed) → SameHead more (t ∷ ts) → tree_at (suc b) (suc k) (a ++ more) ≡ stop TooDeep more
-      go [] sh = absurd sh
-      go (m ∷ ms) sh =
-          let ml : layer m.kind ≡ suc k = ap (λ (i : Placed). layer i.kind) sh ∙ l in
-          from_left (suc b) left a (m ∷ ms) TooDeep (m ∷ ms) (omega arith) h d (omega arith) (λ e f le is.
-          chain_deep e k f (tree_at e k) left m ms ml n (omega arith))
+  module _ (left : Tree) (a ts : List Placed) (t : Placed) where
+    too_deep : Reads (suc k) left a → depth left ≤ suc b → layer t.kind ≡ suc k →
+        (eqb (suc k) 3 && is_comparison left) ≡ false → b < depth left →
+        Outer (a ++ t ∷ ts) (record { why = TooDeep; rest = t ∷ ts })
+    too_deep h d l n deeper = record {
+      used = a;
+      parts = refl;
+      front = ([], left, subst (Reads (suc k) left) (sym (append-nil a)) h, d);
+      stays = λ m more c sh. subst (λ (j : ℕ). tree_at j (suc k) (a ++ more) ≡ stop TooDeep more) c.0 (go more sh);
+      beyond = (
+        leaf_tokens,
+        Pair (start left) (operator t.kind) left leaf,
+        subst (Reads (suc k) (Pair (start left) (operator t.kind) left leaf))
+            (sym (append_assoc a (t ∷ []) leaf_tokens)) (pair_form k left leaf a leaf_tokens t lt l n h (leaf_reads
+            k)),
+        tt,
+      );
+    }
+      where
+        go : (more : List Placed) → SameHead more (t ∷ ts) → tree_at (suc b) (suc k) (a ++ more) ≡ stop TooDeep more
+        go [] sh = absurd sh
+        go (m ∷ ms) sh =
+            let ml : layer m.kind ≡ suc k = ap (λ (i : Placed). layer i.kind) sh ∙ l in
+            from_left left a (m ∷ ms) TooDeep (m ∷ ms) (suc b) (omega arith) h d (omega arith) (λ e f le is.
+            chain_deep e k f (tree_at e k) left m ms ml n (omega arith))
 
-  in_operand : (left : Tree) (a ts : List Placed) (t : Placed) (s : Stop) → Reads (suc k) left a →
-      depth left ≤ suc b → layer t.kind ≡ suc k → (eqb (suc k) 3 && is_comparison left) ≡ false → depth left ≤ b →
-      tree_at b k ts ≡ Err s → Outer (a ++ t ∷ ts) s
-  in_operand left a ts t s h d l n fits e =
-      let some : 1 ≤ b = (let q = depth_pos left in omega arith) in
-      let on = λ (u : List Placed) (x : Tree) (more : List Placed) (g : Reads k x (u ++ more)).
-      let q : Reads (suc k) (Pair (start left) (operator t.kind) left x) (((a ++ t ∷ []) ++ u) ++ more) =
-      subst (Reads (suc k) (Pair (start left) (operator t.kind) left x))
-      (sym (ap (λ l. l ++ more) (append_assoc a (t ∷ []) u) ∙ append_assoc a (t ∷ u) more))
-      (pair_form k left x a (u ++ more) t lt l n h g) in q in
-      subst (λ l. Outer l s) (append_assoc a (t ∷ []) ts)
-      (carry (tree_notion k) (tree_notion (suc k)) (tree_run k) (tree_run (suc k)) inside (deep lim (suc b)) ts
-      (a ++ t ∷ []) s (first some ts s e) (λ m c. grows_inside s.why (deep lim (suc b)) m c)
-      (λ u w. (w.0, Pair (start left) (operator t.kind) left w.1, on u w.1 w.0 w.2, (let q = w.3 in omega arith)))
-      (λ u w. (w.0, Pair (start left) (operator t.kind) left w.1, on u w.1 w.0 w.2, (let q = w.3 in omega arith)))
-      (λ u w. (w.0, Pair (start left) (operator t.kind) left w.1, on u w.1 w.0 w.2, tt))
-      (λ m u more w c sh parts q.
-      let le = (grows_covers w (deep lim (suc b)) m c).depth in
-      ap (tree_at m.depth (suc k)) (append_assoc a (t ∷ []) (u ++ more))
-      ∙ from_left m.depth left a (t ∷ (u ++ more)) w more le h d (omega arith)
-      (λ x f xb is. chain_inside x k f (tree_at x k) left t (u ++ more) (record { why = w; rest = more }) l n
-      (omega arith) (subst (λ (j : ℕ). tree_at (pred j) k (u ++ more) ≡ stop w more) (sym is) q))))
+  module _ (left : Tree) (a ts : List Placed) (t : Placed) (s : Stop) where
+    in_operand : Reads (suc k) left a → depth left ≤ suc b → layer t.kind ≡ suc k →
+        (eqb (suc k) 3 && is_comparison left) ≡ false → depth left ≤ b → tree_at b k ts ≡ Err s →
+        Outer (a ++ t ∷ ts) s
+    in_operand h d l n fits e =
+        let some : 1 ≤ b = (let q = depth_pos left in omega arith) in
+        let on = λ (u : List Placed) (x : Tree) (more : List Placed) (g : Reads k x (u ++ more)).
+        let q : Reads (suc k) (Pair (start left) (operator t.kind) left x) (((a ++ t ∷ []) ++ u) ++ more) =
+        subst (Reads (suc k) (Pair (start left) (operator t.kind) left x))
+        (sym (ap (λ l. l ++ more) (append_assoc a (t ∷ []) u) ∙ append_assoc a (t ∷ u) more))
+        (pair_form k left x a (u ++ more) t lt l n h g) in q in
+        subst (λ l. Outer l s) (append_assoc a (t ∷ []) ts)
+        (carry (tree_notion k) (tree_notion (suc k)) (tree_run k) (tree_run (suc k)) inside (deep lim (suc b)) ts
+        (a ++ t ∷ []) s (first some ts s e) (λ m c. grows_inside s.why (deep lim (suc b)) m c)
+        (λ u w. (w.0, Pair (start left) (operator t.kind) left w.1, on u w.1 w.0 w.2, (let q = w.3 in omega arith)))
+        (λ u w. (w.0, Pair (start left) (operator t.kind) left w.1, on u w.1 w.0 w.2, (let q = w.3 in omega arith)))
+        (λ u w. (w.0, Pair (start left) (operator t.kind) left w.1, on u w.1 w.0 w.2, tt))
+        (λ m u more w c sh parts q.
+        let le = (grows_covers w (deep lim (suc b)) m c).depth in
+        ap (tree_at m.depth (suc k)) (append_assoc a (t ∷ []) (u ++ more))
+        ∙ from_left left a (t ∷ (u ++ more)) w more m.depth le h d (omega arith)
+        (λ x f xb is. chain_inside x k (tree_at x k) left t (u ++ more) (record { why = w; rest = more }) f l n
+        (omega arith) (subst (λ (j : ℕ). tree_at (pred j) k (u ++ more) ≡ stop w more) (sym is) q))))
 
-  turn_first : (f : ℕ) (again : Tree → Parser Tree) →
-      ((left : Tree) (a ts : List Placed) (s : Stop) → Reads (suc k) left a → depth left ≤ suc b →
-      suc (suc b) ≤ f + depth left → Ends k ts → again left ts ≡ Err s → Outer (a ++ ts) s)
-      → (left : Tree) (a ts : List Placed) (s : Stop) → Reads (suc k) left a → depth left ≤ suc b →
-      suc b ≤ f + depth left → Ends k ts → turn b (suc k) (tree_at b k) again left ts ≡ Err s → Outer (a ++ ts) s
-  unfolding turn
-  turn_first f again goes left a [] s h d en fo e = absurd cc
-  turn_first f again goes left a (t ∷ ts) s h d en fo e =
-      elim (chosen (eqb (layer t.kind) (suc k)) _ _ _ e) [
-        | inr n ↦ absurd (let q = n.1 in cc)
-        | inl y ↦
-            let l = eqb-true (layer t.kind) (suc k) y.0 in
-            elim (chosen (eqb (suc k) 3 && is_comparison left) _ _ _ y.1) [
-              | inl z ↦ subst (Outer (a ++ t ∷ ts)) (err_is (Tree × List Placed) _ _ z.1) (twice left a ts t h d l z.0)
-              | inr z ↦ elim (chosen (ltb b (depth left)) _ _ _ z.1) [
-                | inl w ↦ subst (Outer (a ++ t ∷ ts)) (err_is (Tree × List Placed) _ _ w.1)
-                    (too_deep left a ts t h d l z.0 (ltb-true b (depth left) w.0))
-                | inr w ↦
-                    let le = ltb-false b (depth left) w.0 in
-                    elim (bind_err (tree_at b k ts) (λ o. again (Pair (start left) (operator t.kind) left o.0) o.1) s
-                    w.1) [
-                      | inl g ↦ in_operand left a ts t s h d l z.0 le g
-                      | inr g ↦
-                          let o = sound ts g.0.0 g.0.1 g.1 in
-                          let whole : (a ++ t ∷ o.used) ++ g.0.1 ≡ a ++ t ∷ ts = append_assoc a (t ∷ o.used) g.0.1
-                          ∙ ap (λ (l : List Placed). a ++ t ∷ l) (sym o.parts) in
-                          subst (λ l. Outer l s) whole
-                          (goes (Pair (start left) (operator t.kind) left g.0.0) (a ++ t ∷ o.used) g.0.1 s
-                          (pair_form k left g.0.0 a o.used t lt l z.0 h o.reads) (let q = o.fits in omega arith)
-                          (let q = o.fits in omega arith) o.ends g.2)
-                    ]
+  module _ (f : ℕ) (again : Tree → Parser Tree)
+      (goes : ((left : Tree) (a ts : List Placed) (s : Stop) → Reads (suc k) left a → depth left ≤ suc b → suc (suc
+      b) ≤ f + depth left → Ends k ts → again left ts ≡ Err s → Outer (a ++ ts) s))
+      (left : Tree) (a : List Placed) where
+    turn_first : (ts : List Placed) (s : Stop) → Reads (suc k) left a → depth left ≤ suc b →
+        suc b ≤ f + depth left → Ends k ts → turn b (suc k) (tree_at b k) again left ts ≡ Err s →
+        Outer (a ++ ts) s
+    unfolding turn
+    turn_first [] s h d en fo e = absurd cc
+    turn_first (t ∷ ts) s h d en fo e =
+        elim (chosen (eqb (layer t.kind) (suc k)) _ _ _ e) [
+          | inr n ↦ absurd (let q = n.1 in cc)
+          | inl y ↦
+              let l = eqb-true (layer t.kind) (suc k) y.0 in
+              elim (chosen (eqb (suc k) 3 && is_comparison left) _ _ _ y.1) [
+                | inl z ↦ subst (Outer (a ++ t ∷ ts)) (err_is (Tree × List Placed) _ _ z.1) (twice left a ts t h d
+                    l z.0)
+                | inr z ↦ elim (chosen (ltb b (depth left)) _ _ _ z.1) [
+                  | inl w ↦ subst (Outer (a ++ t ∷ ts)) (err_is (Tree × List Placed) _ _ w.1)
+                      (too_deep left a ts t h d l z.0 (ltb-true b (depth left) w.0))
+                  | inr w ↦
+                      let le = ltb-false b (depth left) w.0 in
+                      elim (bind_err (tree_at b k ts) (λ o. again (Pair (start left) (operator t.kind) left o.0)
+                      o.1) s
+                      w.1) [
+                        | inl g ↦ in_operand left a ts t s h d l z.0 le g
+                        | inr g ↦
+                            let o = sound ts g.0.0 g.0.1 g.1 in
+                            let whole : (a ++ t ∷ o.used) ++ g.0.1 ≡ a ++ t ∷ ts = append_assoc a (t ∷ o.used) g.0.1
+                            ∙ ap (λ (l : List Placed). a ++ t ∷ l) (sym o.parts) in
+                            subst (λ l. Outer l s) whole
+                            (goes (Pair (start left) (operator t.kind) left g.0.0) (a ++ t ∷ o.used) g.0.1 s
+                            (pair_form k left g.0.0 a o.used t lt l z.0 h o.reads) (let q = o.fits in omega arith)
+                            (let q = o.fits in omega arith) o.ends g.2)
+                      ]
+                ]
               ]
-            ]
-      ]
+        ]
 
-  pub chain_first : (f : ℕ) (left : Tree) (a ts : List Placed) (s : Stop) → Reads (suc k) left a →
+  -- a chain that so many operators may continue: its fault is told behind what was read
+  abbrev pub ChainFirst : ℕ → Type 0
+  ChainFirst f = (left : Tree) (a ts : List Placed) (s : Stop) → Reads (suc k) left a →
       depth left ≤ suc b → suc b ≤ f + depth left → Ends k ts → chain b (suc k) (tree_at b k) f left ts ≡ Err s →
       Outer (a ++ ts) s
+
+  pub chain_first : (f : ℕ) → ChainFirst f
   unfolding chain
   chain_first zero = turn_first zero (λ left. stop TooDeep) (λ left a ts s h d en fo e. absurd (omega arith))
   chain_first (suc f) = turn_first (suc f) (chain b (suc k) (tree_at b k) f) (λ left a ts s h d en fo e.

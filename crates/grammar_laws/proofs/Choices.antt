@@ -93,46 +93,47 @@ choice_depth b c x p q r = omega arith
 colon_follows : Follows (tree_notion 6) tail_notion
 colon_follows x y v r h f = rw (h.whole, h.first) free_colon
 
-pub choice_sound : (lim : Limits) (b : ℕ) → Sound (tree_notion 6) (deep lim b) (tree_at b 6) →
-    (c : Tree) (a ts : List Placed) (x : Tree) (r : List Placed) → Reads 5 c a → depth c ≤ suc b → Ends 5 ts →
-    choice b (tree_at b 6) c ts ≡ Ok (x, r)
-    → Took (tree_notion 6) (deep lim (suc b)) (a ++ ts) x r
-unfolding choice
-choice_sound lim b ih c a [] x r h d f e =
-    subst (λ (w : Tree × List Placed). Took (tree_notion 6) (deep lim (suc b)) (a ++ []) w.0 w.1) (ok_is _ _ e)
-    (record { used = a; parts = refl; reads = Reads-looser 5 6 (omega arith) c a h; fits = d; ends = tt })
-choice_sound lim b ih c a (t ∷ ts) x r h d f e =
-    elim (chosen (is_mark mark.QUESTION t.kind) _ _ _ e) [
-      | inr n ↦
-          subst (λ (w : Tree × List Placed). Took (tree_notion 6) (deep lim (suc b)) (a ++ t ∷ ts) w.0 w.1)
-          (ok_is _ _ n.1)
-          (record {
-            used = a;
-            parts = refl;
-            reads = Reads-looser 5 6 (omega arith) c a h;
-            fits = d;
-            ends = no_six t.kind n.0 f;
-          })
-      | inl y ↦ elim (chosen (ltb b (depth c)) _ _ _ y.1) [
-        | inl w ↦ absurd (let q = w.1 in cc)
-        | inr w ↦
-            let le = ltb-false b (depth c) w.0 in
-            let s = bind_ok (parts_at b ts) (λ o. Ok (choice_of c o.0, o.1)) (x, r) w.1 in
-            let o = both_sound (tree_notion 6) (λ z. tail_notion) (deep lim b) (tree_at b 6) (λ z.
-            both (the_mark mark.COLON) (tree_at b 6)) ih (λ z.
-            both_sound (sign_notion colon) (λ z. tree_notion 6) (deep lim b) (the_mark mark.COLON) (λ z.
-            tree_at b 6) ((expect_reader colon).sound (deep lim b)) (λ z. ih)) ts s.0.0 s.0.1 s.1 in
-            let g : Took (tree_notion 6) (deep lim (suc b)) (a ++ t ∷ ts) (choice_of c s.0.0) s.0.1 = record {
-              used = a ++ t ∷ o.used;
-              parts = ap (λ (l : List Placed). a ++ t ∷ l) o.parts ∙ sym (append_assoc a (t ∷ o.used) s.0.1);
-              reads = choice_form c s.0.0 a o.used t y.0 h o.reads;
-              fits = choice_depth b c s.0.0 le o.fits.0 o.fits.1.1;
-              ends = o.ends;
-            } in
+module _ (lim : Limits) (b : ℕ) (ih : Sound (tree_notion 6) (deep lim b) (tree_at b 6)) (c : Tree)
+    (a : List Placed) where
+  pub choice_sound : (ts : List Placed) (x : Tree) (r : List Placed) → Reads 5 c a → depth c ≤ suc b →
+      Ends 5 ts → choice b (tree_at b 6) c ts ≡ Ok (x, r) →
+      Took (tree_notion 6) (deep lim (suc b)) (a ++ ts) x r
+  unfolding choice
+  choice_sound [] x r h d f e =
+      subst (λ (w : Tree × List Placed). Took (tree_notion 6) (deep lim (suc b)) (a ++ []) w.0 w.1) (ok_is _ _ e)
+      (record { used = a; parts = refl; reads = Reads-looser 5 6 (omega arith) c a h; fits = d; ends = tt })
+  choice_sound (t ∷ ts) x r h d f e =
+      elim (chosen (is_mark mark.QUESTION t.kind) _ _ _ e) [
+        | inr n ↦
             subst (λ (w : Tree × List Placed). Took (tree_notion 6) (deep lim (suc b)) (a ++ t ∷ ts) w.0 w.1)
-            (ok_is _ _ s.2) g
+            (ok_is _ _ n.1)
+            (record {
+              used = a;
+              parts = refl;
+              reads = Reads-looser 5 6 (omega arith) c a h;
+              fits = d;
+              ends = no_six t.kind n.0 f;
+            })
+        | inl y ↦ elim (chosen (ltb b (depth c)) _ _ _ y.1) [
+          | inl w ↦ absurd (let q = w.1 in cc)
+          | inr w ↦
+              let le = ltb-false b (depth c) w.0 in
+              let s = bind_ok (parts_at b ts) (λ o. Ok (choice_of c o.0, o.1)) (x, r) w.1 in
+              let o = both_sound (tree_notion 6) (λ z. tail_notion) (deep lim b) (tree_at b 6) (λ z.
+              both (the_mark mark.COLON) (tree_at b 6)) ih (λ z.
+              both_sound (sign_notion colon) (λ z. tree_notion 6) (deep lim b) (the_mark mark.COLON) (λ z.
+              tree_at b 6) ((expect_reader colon).sound (deep lim b)) (λ z. ih)) ts s.0.0 s.0.1 s.1 in
+              let g : Took (tree_notion 6) (deep lim (suc b)) (a ++ t ∷ ts) (choice_of c s.0.0) s.0.1 = record {
+                used = a ++ t ∷ o.used;
+                parts = ap (λ (l : List Placed). a ++ t ∷ l) o.parts ∙ sym (append_assoc a (t ∷ o.used) s.0.1);
+                reads = choice_form c s.0.0 a o.used t y.0 h o.reads;
+                fits = choice_depth b c s.0.0 le o.fits.0 o.fits.1.1;
+                ends = o.ends;
+              } in
+              subst (λ (w : Tree × List Placed). Took (tree_notion 6) (deep lim (suc b)) (a ++ t ∷ ts) w.0 w.1)
+              (ok_is _ _ s.2) g
+        ]
       ]
-    ]
 
 choice_ends : (b : ℕ) (c : Tree) (r : List Placed) → Ends 6 r → choice b (tree_at b 6) c r ≡ Ok (c, r)
 unfolding choice
@@ -217,14 +218,14 @@ module _ (lim : Limits) (b : ℕ) (sound : Sound (tree_notion 6) (deep lim b) (t
     Outer ts s = Fault (tree_notion 6) (tree_run 6) (deep lim (suc b)) ts s
 
     -- what follows the test, the whole does
-    from_test : (c : ℕ) (left : Tree) (a more : List Placed) (w : Why) (rest : List Placed) → suc b ≤ c →
-        Reads 5 left a → depth left ≤ suc b → Ends 5 more
-        → ((d : ℕ) → b ≤ d → suc d ≡ c → choice d (tree_at d 6) left more ≡ stop w rest) →
-        tree_at c 6 (a ++ more) ≡ stop w rest
-    from_test zero left a more w rest le h d f e = absurd (omega arith)
-    from_test (suc c) left a more w rest le h d f e =
-        six_is c (a ++ more) ∙ ap (λ i. i >>= λ x. choice c (tree_at c 6) x.0 x.1)
-        (five (deep lim (suc c)) left a more h (omega arith) f) ∙ e c (omega arith) refl
+    module _ (left : Tree) (a more : List Placed) (w : Why) (rest : List Placed) where
+      from_test : (c : ℕ) → suc b ≤ c → Reads 5 left a → depth left ≤ suc b → Ends 5 more →
+          ((d : ℕ) → b ≤ d → suc d ≡ c → choice d (tree_at d 6) left more ≡ stop w rest) →
+          tree_at c 6 (a ++ more) ≡ stop w rest
+      from_test zero le h d f e = absurd (omega arith)
+      from_test (suc c) le h d f e =
+          six_is c (a ++ more) ∙ ap (λ i. i >>= λ x. choice c (tree_at c 6) x.0 x.1)
+          (five (deep lim (suc c)) left a more h (omega arith) f) ∙ e c (omega arith) refl
 
     mark_ends : (t : Placed) (ts : List Placed) → is_mark mark.QUESTION t.kind ≡ true → Ends 5 (t ∷ ts)
     mark_ends t ts q = (let w = ap layer (same-true t.kind question q) ∙ layer_question in omega arith)
@@ -270,7 +271,7 @@ module _ (lim : Limits) (b : ℕ) (sound : Sound (tree_notion 6) (deep lim b) (t
         go [] sh = absurd sh
         go (m ∷ ms) sh =
             let mq : is_mark mark.QUESTION m.kind ≡ true = ap (λ (i : Placed). is_mark mark.QUESTION i.kind) sh ∙ q in
-            from_test (suc b) c a (m ∷ ms) TooDeep (m ∷ ms) (omega arith) h d (mark_ends m ms mq) (λ e le is.
+            from_test c a (m ∷ ms) TooDeep (m ∷ ms) (suc b) (omega arith) h d (mark_ends m ms mq) (λ e le is.
             choice_deep e c m ms mq (omega arith))
 
     tail_word : 1 ≤ b → HasWord tail_notion (deep lim b)
@@ -300,28 +301,29 @@ module _ (lim : Limits) (b : ℕ) (sound : Sound (tree_notion 6) (deep lim b) (t
         both (the_mark mark.COLON) (tree_at m.depth 6)) colon_follows (λ z. tail_word some) sound (λ m c. inner m)
         (first some) (λ z. tail_first some)
 
-    in_parts : (c : Tree) (a ts : List Placed) (t : Placed) (s : Stop) → Reads 5 c a → depth c ≤ suc b →
-        is_mark mark.QUESTION t.kind ≡ true → depth c ≤ b → parts_at b ts ≡ Err s → Outer (a ++ t ∷ ts) s
-    in_parts c a ts t s h d q fits e =
-        let some : 1 ≤ b = (let p = depth_pos c in omega arith) in
-        let on = λ (u : List Placed) (x : Tree × (Span × Tree)) (more : List Placed)
-        (g : parts_notion.form x (u ++ more)).
-        let k : Reads 6 (choice_of c x) (((a ++ t ∷ []) ++ u) ++ more) =
-        subst (Reads 6 (choice_of c x)) (sym (ap (λ l. l ++ more) (append_assoc a (t ∷ []) u)
-        ∙ append_assoc a (t ∷ u) more)) (choice_form c x a (u ++ more) t q h g) in k in
-        subst (λ l. Outer l s) (append_assoc a (t ∷ []) ts)
-        (carry parts_notion (tree_notion 6) (λ m. parts_at m.depth) (tree_run 6) inside (deep lim (suc b)) ts
-        (a ++ t ∷ []) s (parts_first some ts s e) (λ m c. grows_inside s.why (deep lim (suc b)) m c)
-        (λ u w. (w.0, choice_of c w.1, on u w.1 w.0 w.2, choice_depth b c w.1 fits w.3.0 w.3.1.1))
-        (λ u w. (w.0, choice_of c w.1, on u w.1 w.0 w.2, choice_depth b c w.1 fits w.3.0 w.3.1.1))
-        (λ u w. (w.0, choice_of c w.1, on u w.1 w.0 w.2, tt))
-        (λ m u more w g sh parts p.
-        let le = (grows_covers w (deep lim (suc b)) m g).depth in
-        ap (tree_at m.depth 6) (append_assoc a (t ∷ []) (u ++ more))
-        ∙ from_test m.depth c a (t ∷ (u ++ more)) w more le h d (mark_ends t (u ++ more) q) (λ x xb is.
-        choice_goes x c t (u ++ more) q (omega arith)
-        ∙ (let z : parts_at x (u ++ more)
-        ≡ stop w more = subst (λ (j : ℕ). parts_at (pred j) (u ++ more) ≡ stop w more) (sym is) p in rw z refl))))
+    module _ (c : Tree) (a ts : List Placed) (t : Placed) (s : Stop) where
+      in_parts : Reads 5 c a → depth c ≤ suc b → is_mark mark.QUESTION t.kind ≡ true → depth c ≤ b →
+          parts_at b ts ≡ Err s → Outer (a ++ t ∷ ts) s
+      in_parts h d q fits e =
+          let some : 1 ≤ b = (let p = depth_pos c in omega arith) in
+          let on = λ (u : List Placed) (x : Tree × (Span × Tree)) (more : List Placed)
+          (g : parts_notion.form x (u ++ more)).
+          let k : Reads 6 (choice_of c x) (((a ++ t ∷ []) ++ u) ++ more) =
+          subst (Reads 6 (choice_of c x)) (sym (ap (λ l. l ++ more) (append_assoc a (t ∷ []) u)
+          ∙ append_assoc a (t ∷ u) more)) (choice_form c x a (u ++ more) t q h g) in k in
+          subst (λ l. Outer l s) (append_assoc a (t ∷ []) ts)
+          (carry parts_notion (tree_notion 6) (λ m. parts_at m.depth) (tree_run 6) inside (deep lim (suc b)) ts
+          (a ++ t ∷ []) s (parts_first some ts s e) (λ m c. grows_inside s.why (deep lim (suc b)) m c)
+          (λ u w. (w.0, choice_of c w.1, on u w.1 w.0 w.2, choice_depth b c w.1 fits w.3.0 w.3.1.1))
+          (λ u w. (w.0, choice_of c w.1, on u w.1 w.0 w.2, choice_depth b c w.1 fits w.3.0 w.3.1.1))
+          (λ u w. (w.0, choice_of c w.1, on u w.1 w.0 w.2, tt))
+          (λ m u more w g sh parts p.
+          let le = (grows_covers w (deep lim (suc b)) m g).depth in
+          ap (tree_at m.depth 6) (append_assoc a (t ∷ []) (u ++ more))
+          ∙ from_test c a (t ∷ (u ++ more)) w more m.depth le h d (mark_ends t (u ++ more) q) (λ x xb is.
+          choice_goes x c t (u ++ more) q (omega arith)
+          ∙ (let z : parts_at x (u ++ more)
+          ≡ stop w more = subst (λ (j : ℕ). parts_at (pred j) (u ++ more) ≡ stop w more) (sym is) p in rw z refl))))
 
     pub choice_first : (c : Tree) (a ts : List Placed) (s : Stop) → Reads 5 c a → depth c ≤ suc b →
         choice b (tree_at b 6) c ts ≡ Err s → Outer (a ++ ts) s

@@ -23,13 +23,13 @@ module _ {A : Type 0} (K : Notion A) (f : Kind → Bool) where
   ]
 
   -- a fault of the reader that was chosen
-  side : (run other : Limits → Parser A) (l : Limits) (ts : List Placed) (s : Stop) (v : Bool) →
-      ((m : Limits) (us : List Placed) → begins f us ≡ v → run m us ≡ other m us) → begins f ts ≡ v →
-      Fault K other l ts s → Fault K run l ts s
-  side run other l ts s v goes e g =
-      carry K K other run (λ m. m) l ts [] s g (λ m c. c) (λ u w. w) (λ u w. w) (λ u w. w)
-      (λ m u more w c sh parts k. goes m (u ++ more)
-      (begins_same f (u ++ more) (u ++ s.rest) (same_behind u more s.rest sh) ∙ ap (begins f) (sym parts) ∙ e) ∙ k)
+  module _ (run other : Limits → Parser A) (l : Limits) (ts : List Placed) (s : Stop) (v : Bool) where
+    side : ((m : Limits) (us : List Placed) → begins f us ≡ v → run m us ≡ other m us) → begins f ts ≡ v →
+        Fault K other l ts s → Fault K run l ts s
+    side goes e g =
+        carry K K other run (λ m. m) l ts [] s g (λ m c. c) (λ u w. w) (λ u w. w) (λ u w. w)
+        (λ m u more w c sh parts k. goes m (u ++ more)
+        (begins_same f (u ++ more) (u ++ s.rest) (same_behind u more s.rest sh) ∙ ap (begins f) (sym parts) ∙ e) ∙ k)
 
   pub either_first : (l : Limits) (p q : Limits → Parser A) → FirstWhere f K p l → First K q l →
       First K (λ m. if_begins f (p m) (q m)) l

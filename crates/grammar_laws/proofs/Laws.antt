@@ -83,18 +83,18 @@ module _ {A B : Type 0} (N : Notion A) (M : Notion B) (g : A → B) where
 
 -- ---- lists
 -- at most so many, each of which begins with a token of a sort; each such token begins one
-pub up_to_reader : {A : Type 0} (N : Notion A) (f : Kind → Bool) (p : Limits → Parser A) (m : Limits → ℕ)
-    (mono : Mono m) → ((x : A) (r : List Placed) → N.follow x r) →
-    ((x : A) (u r : List Placed) → N.form x u → begins f (u ++ r) ≡ true)
-    → ((l : Limits) (t : Placed) → 1 ≤ l.depth → f t.kind ≡ true → (x : A) × (v : List Placed) × N.form x (t ∷ v) ×
-    N.within l x) → IsReader N p → IsReader (list_notion N f m mono) (λ l. up_to f (p l) (m l))
-up_to_reader N f p m mono free opens word h = record {
-  sound = λ l. up_to_sound N f free opens l (p l) (h.sound l) (m l) m mono refl;
-  complete = λ l. up_to_complete N f free opens l (p l) (h.complete l) (m l) m mono refl;
-  first = λ l pos. up_to_first N f free opens l p (h.sound l) (λ k c. h.complete k) (h.first l pos) (λ t e.
-      word l t pos e) (m l) m mono refl;
-  word = λ l pos. ([], [], refl, (tt, omega arith));
-}
+module _ {A : Type 0} (N : Notion A) (f : Kind → Bool) (p : Limits → Parser A) (m : Limits → ℕ) (mono : Mono m) where
+  pub up_to_reader : ((x : A) (r : List Placed) → N.follow x r) →
+      ((x : A) (u r : List Placed) → N.form x u → begins f (u ++ r) ≡ true) →
+      ((l : Limits) (t : Placed) → 1 ≤ l.depth → f t.kind ≡ true → (x : A) × (v : List Placed) × N.form x (t ∷
+      v) × N.within l x) → IsReader N p → IsReader (list_notion N f m mono) (λ l. up_to f (p l) (m l))
+  up_to_reader free opens word h = record {
+    sound = λ l. up_to_sound N f free opens l (p l) (h.sound l) (m l) m mono refl;
+    complete = λ l. up_to_complete N f free opens l (p l) (h.complete l) (m l) m mono refl;
+    first = λ l pos. up_to_first N f free opens l p (h.sound l) (λ k c. h.complete k) (h.first l pos) (λ t e.
+        word l t pos e) (m l) m mono refl;
+    word = λ l pos. ([], [], refl, (tt, omega arith));
+  }
 
 -- any number, each of which begins with a token of a sort and may stand behind any other
 pub many_reader : {A : Type 0} (N : Notion A) (f : Kind → Bool) (p : Limits → Parser A) →

@@ -123,86 +123,88 @@ module _ {A : Type 0} (N : Notion A) (f : Kind → Bool) (free : (x : A) (r : Li
           ) g in
           rw (o, e) refl
 
-  at_limit : (l : Limits) (p : Limits → Parser A) (m : Limits → ℕ) (mono : Mono m) → m l ≡ 0 →
-      ((t : Placed) → f t.kind ≡ true → (x : A) × (v : List Placed) × N.form x (t ∷ v) × N.within l x)
-      → (ts : List Placed) (s : Stop) (v : Bool) → begins f ts ≡ v →
-      ◌≡◌ {A = Result (List A × List Placed) Stop} (cond v (stop TooMany ts) (Ok ([], ts))) (Err s) →
-      Fault (list_notion N f m mono) (λ k. up_to f (p k) (m k)) l ts s
-  at_limit l p m mono is word ts s false h g = absurd cc
-  at_limit l p m mono is word [] s true h g = absurd cc
-  at_limit l p m mono is word (t ∷ ts) s true h g = subst
-      (Fault (list_notion N f m mono) (λ k. up_to f (p k) (m k)) l (t ∷ ts)) (err_is (List A × List Placed) _ _ g)
-      (let w = word t h in record {
-        used = [];
-        parts = refl;
-        front = ([], [], refl, (tt, omega arith));
-        stays = λ k more grows sh.
-            subst (λ n. up_to f (p k) n more ≡ stop TooMany more) (sym (ap m (sym grows) ∙ is))
-            (up_to_zero f (p k) more ∙ (let q : begins f more ≡ true = begins_same f more (t ∷ ts) sh ∙ h in
-            rw q refl));
-        beyond = (
-          w.1,
-          w.0 ∷ [],
-          record {
-            front = t ∷ w.1;
-            back = [];
-            whole = sym (append-nil (t ∷ w.1));
-            first = w.2;
-            second = refl;
-          },
-          (N.weaker l w.0 w.3, tt),
-        );
-      })
+  module _ (l : Limits) (p : Limits → Parser A) (m : Limits → ℕ) (mono : Mono m) where
+    at_limit : m l ≡ 0 →
+        ((t : Placed) → f t.kind ≡ true → (x : A) × (v : List Placed) × N.form x (t ∷ v) × N.within l x) →
+        (ts : List Placed) (s : Stop) (v : Bool) → begins f ts ≡ v →
+        ◌≡◌ {A = Result (List A × List Placed) Stop} (cond v (stop TooMany ts) (Ok ([], ts))) (Err s) →
+        Fault (list_notion N f m mono) (λ k. up_to f (p k) (m k)) l ts s
+    at_limit is word ts s false h g = absurd cc
+    at_limit is word [] s true h g = absurd cc
+    at_limit is word (t ∷ ts) s true h g = subst
+        (Fault (list_notion N f m mono) (λ k. up_to f (p k) (m k)) l (t ∷ ts)) (err_is (List A × List Placed) _ _ g)
+        (let w = word t h in record {
+          used = [];
+          parts = refl;
+          front = ([], [], refl, (tt, omega arith));
+          stays = λ k more grows sh.
+              subst (λ n. up_to f (p k) n more ≡ stop TooMany more) (sym (ap m (sym grows) ∙ is))
+              (up_to_zero f (p k) more ∙ (let q : begins f more ≡ true = begins_same f more (t ∷ ts) sh ∙ h in
+              rw q refl));
+          beyond = (
+            w.1,
+            w.0 ∷ [],
+            record {
+              front = t ∷ w.1;
+              back = [];
+              whole = sym (append-nil (t ∷ w.1));
+              first = w.2;
+              second = refl;
+            },
+            (N.weaker l w.0 w.3, tt),
+          );
+        })
 
-  in_item : (l : Limits) (n : ℕ) (p : Limits → Parser A) (m : Limits → ℕ) (mono : Mono m) → m l ≡ suc n →
-      (ts : List Placed) (s : Stop) → begins f ts ≡ true
-      → Fault (both_notion N (list_notion N f (fewer m) (fewer_mono m mono))) (λ k.
-      both (p k) (up_to f (p k) (fewer m k))) l ts s →
-      Fault (list_notion N f m mono) (λ k. up_to f (p k) (m k)) l ts s
-  in_item l n p m mono is ts s h g =
-      carry (both_notion N (list_notion N f (fewer m) (fewer_mono m mono))) (list_notion N f m mono) (λ k.
-      both (p k) (up_to f (p k) (fewer m k))) (λ k. up_to f (p k) (m k)) (λ k. k) l ts [] s g (λ k le. le)
-      (λ u w. (
-        w.0,
-        w.1.0 ∷ w.1.1,
-        form w.1 (u ++ w.0) w.2,
-        ((w.3.0, w.3.1.0), (let q = w.3.1.1 in let z = fewer_is m l n is in omega arith)),
-      ))
-      (λ u w. (w.0, w.1.0 ∷ w.1.1, form w.1 (u ++ w.0) w.2, w.3))
-      (λ u w. (w.0, w.1.0 ∷ w.1.1, form w.1 (u ++ w.0) w.2, tt))
-      (λ k u more w grows sh parts q.
-      let o : begins f (u ++ more) ≡ true = begins_same f (u ++ more) (u ++ s.rest) (same_behind u more s.rest sh)
-      ∙ ap (begins f) (sym parts) ∙ h in
-      stops k (u ++ more) more w (m k) refl (let c = mono l k (grows_covers w l k grows) in omega arith) o q)
-    where
-      form : (x : A × List A) (u : List Placed) → Then (N.form x.0) (Each N.form x.1) u → Each N.form (x.0 ∷ x.1) u
-      form x u w = record { front = w.front; back = w.back; whole = w.whole; first = w.first; second = w.second }
+  module _ (l : Limits) (n : ℕ) (p : Limits → Parser A) (m : Limits → ℕ) (mono : Mono m) where
+    in_item : m l ≡ suc n → (ts : List Placed) (s : Stop) → begins f ts ≡ true →
+        Fault (both_notion N (list_notion N f (fewer m) (fewer_mono m mono))) (λ k. both (p k) (up_to f (p k)
+        (fewer m k))) l ts s → Fault (list_notion N f m mono) (λ k. up_to f (p k) (m k)) l ts s
+    in_item is ts s h g =
+        carry (both_notion N (list_notion N f (fewer m) (fewer_mono m mono))) (list_notion N f m mono) (λ k.
+        both (p k) (up_to f (p k) (fewer m k))) (λ k. up_to f (p k) (m k)) (λ k. k) l ts [] s g (λ k le. le)
+        (λ u w. (
+          w.0,
+          w.1.0 ∷ w.1.1,
+          form w.1 (u ++ w.0) w.2,
+          ((w.3.0, w.3.1.0), (let q = w.3.1.1 in let z = fewer_is m l n is in omega arith)),
+        ))
+        (λ u w. (w.0, w.1.0 ∷ w.1.1, form w.1 (u ++ w.0) w.2, w.3))
+        (λ u w. (w.0, w.1.0 ∷ w.1.1, form w.1 (u ++ w.0) w.2, tt))
+        (λ k u more w grows sh parts q.
+        let o : begins f (u ++ more) ≡ true = begins_same f (u ++ more) (u ++ s.rest) (same_behind u more s.rest sh)
+        ∙ ap (begins f) (sym parts) ∙ h in
+        stops k (u ++ more) more w (m k) refl (let c = mono l k (grows_covers w l k grows) in omega arith) o q)
+      where
+        form : (x : A × List A) (u : List Placed) → Then (N.form x.0) (Each N.form x.1) u → Each N.form (x.0 ∷ x.1) u
+        form x u w = record { front = w.front; back = w.back; whole = w.whole; first = w.first; second = w.second }
 
-      stops : (k : Limits) (ts more : List Placed) (w : Why) (n : ℕ) → m k ≡ n → 1 ≤ n → begins f ts ≡ true →
-          both (p k) (up_to f (p k) (fewer m k)) ts ≡ stop w more → up_to f (p k) (m k) ts ≡ stop w more
-      stops k ts more w zero e pos o q = absurd (omega arith)
-      stops k ts more w (suc n) e pos o q =
-          let q2 : both (p k) (up_to f (p k) n) ts ≡ stop w more =
-          subst (λ j. both (p k) (up_to f (p k) j) ts ≡ stop w more) (ap pred e) q in
-          subst (λ j. up_to f (p k) j ts ≡ stop w more) (sym e) (up_to_suc f (p k) n ts ∙ rw (o, q2) refl)
+        stops : (k : Limits) (ts more : List Placed) (w : Why) (n : ℕ) → m k ≡ n → 1 ≤ n → begins f ts ≡ true →
+            both (p k) (up_to f (p k) (fewer m k)) ts ≡ stop w more → up_to f (p k) (m k) ts ≡ stop w more
+        stops k ts more w zero e pos o q = absurd (omega arith)
+        stops k ts more w (suc n) e pos o q =
+            let q2 : both (p k) (up_to f (p k) n) ts ≡ stop w more =
+            subst (λ j. both (p k) (up_to f (p k) j) ts ≡ stop w more) (ap pred e) q in
+            subst (λ j. up_to f (p k) j ts ≡ stop w more) (sym e) (up_to_suc f (p k) n ts ∙ rw (o, q2) refl)
 
-  pub up_to_first : (l : Limits) (p : Limits → Parser A) → Sound N l (p l) →
-      ((k : Limits) → Covers l k → Complete N k (p k)) → First N p l
-      → ((t : Placed) → f t.kind ≡ true → (x : A) × (v : List Placed) × N.form x (t ∷ v) × N.within l x)
-      → (n : ℕ) (m : Limits → ℕ) (mono : Mono m) → m l ≡ n → First (list_notion N f m mono) (λ k. up_to f (p k) (m k)) l
-  up_to_first l p hp cp fp word zero m mono is = λ ts s e.
-      at_limit l p m mono is word ts s (begins f ts) refl (sym (up_to_zero f (p l) ts)
-      ∙ subst (λ n. up_to f (p l) n ts ≡ Err s) is e)
-  up_to_first l p hp cp fp word (suc n) m mono is = λ ts s e.
-      elim (chosen (begins f ts) _ _ _ (sym (up_to_suc f (p l) n ts) ∙ subst (λ n. up_to f (p l) n ts ≡ Err s) is e)) [
-        | inr h ↦ absurd (let q = h.1 in cc)
-        | inl h ↦ elim (bind_err (both (p l) (up_to f (p l) n) ts) (λ x. Ok (x.0.0 ∷ x.0.1, x.1)) s h.1) [
-          | inr g ↦ absurd (let q = g.2 in cc)
-          | inl g ↦ in_item l n p m mono is ts s h.0
-              (both_first N (λ x. list_notion N f (fewer m) (fewer_mono m mono)) l p (λ x k.
-              up_to f (p k) (fewer m k)) (list_follows (fewer m) (fewer_mono m mono)) (λ x.
-              ([], [], refl, (tt, omega arith))) hp cp
-              fp (λ x. up_to_first l p hp cp fp word n (fewer m) (fewer_mono m mono) (fewer_is m l n is)) ts s
-              (subst (λ k. both (p l) (up_to f (p l) k) ts ≡ Err s) (sym (fewer_is m l n is)) g))
+  module _ (l : Limits) (p : Limits → Parser A) where
+    pub up_to_first : Sound N l (p l) → ((k : Limits) → Covers l k → Complete N k (p k)) → First N p l →
+        ((t : Placed) → f t.kind ≡ true → (x : A) × (v : List Placed) × N.form x (t ∷ v) × N.within l x) →
+        (n : ℕ) (m : Limits → ℕ) (mono : Mono m) → m l ≡ n →
+        First (list_notion N f m mono) (λ k. up_to f (p k) (m k)) l
+    up_to_first hp cp fp word zero m mono is = λ ts s e.
+        at_limit l p m mono is word ts s (begins f ts) refl (sym (up_to_zero f (p l) ts)
+        ∙ subst (λ n. up_to f (p l) n ts ≡ Err s) is e)
+    up_to_first hp cp fp word (suc n) m mono is = λ ts s e.
+        elim (chosen (begins f ts) _ _ _ (sym (up_to_suc f (p l) n ts) ∙ subst (λ n. up_to f (p l) n ts ≡ Err s) is
+        e)) [
+          | inr h ↦ absurd (let q = h.1 in cc)
+          | inl h ↦ elim (bind_err (both (p l) (up_to f (p l) n) ts) (λ x. Ok (x.0.0 ∷ x.0.1, x.1)) s h.1) [
+            | inr g ↦ absurd (let q = g.2 in cc)
+            | inl g ↦ in_item l n p m mono is ts s h.0
+                (both_first N (λ x. list_notion N f (fewer m) (fewer_mono m mono)) l p (λ x k.
+                up_to f (p k) (fewer m k)) (list_follows (fewer m) (fewer_mono m mono)) (λ x.
+                ([], [], refl, (tt, omega arith))) hp cp
+                fp (λ x. up_to_first hp cp fp word n (fewer m) (fewer_mono m mono) (fewer_is m l n is)) ts s
+                (subst (λ k. both (p l) (up_to f (p l) k) ts ≡ Err s) (sym (fewer_is m l n is)) g))
+          ]
         ]
-      ]

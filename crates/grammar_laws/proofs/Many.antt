@@ -89,10 +89,11 @@ ListEnds-test N f [] r h = h
 ListEnds-test N f (x ∷ []) r h = h.0
 ListEnds-test N f (x ∷ y ∷ ys) r h = ListEnds-test N f (y ∷ ys) r h
 
-ListEnds-cons : {A : Type 0} (N : Notion A) (f : Kind → Bool) (y : A) (ys : List A) (mid used r : List Placed) →
-    mid ≡ used ++ r → Each N.form ys used → N.follow y mid → ListEnds N f ys r → ListEnds N f (y ∷ ys) r
-ListEnds-cons N f y [] mid used r e h g k = (k, subst (N.follow y) (e ∙ ap (λ l. l ++ r) h) g)
-ListEnds-cons N f y (z ∷ zs) mid used r e h g k = k
+module _ {A : Type 0} (N : Notion A) (f : Kind → Bool) (y : A) where
+  ListEnds-cons : (ys : List A) (mid used r : List Placed) → mid ≡ used ++ r → Each N.form ys used →
+      N.follow y mid → ListEnds N f ys r → ListEnds N f (y ∷ ys) r
+  ListEnds-cons [] mid used r e h g k = (k, subst (N.follow y) (e ∙ ap (λ l. l ++ r) h) g)
+  ListEnds-cons (z ∷ zs) mid used r e h g k = k
 
 abbrev pub all_notion : {A : Type 0} → Notion A → (Kind → Bool) → Notion (List A)
 all_notion N f = record {
@@ -126,44 +127,50 @@ module _ {A : Type 0} (N : Notion A) (f : Kind → Bool) (next : (x y : A) (v r 
   shrinks b p h ts x r e = let t = h ts x r e in let l = ap length t.parts ∙ length-append t.used r in
       let s = solid x t.used t.reads in omega arith
 
-  many_sound_by : (b : Limits) (p : Parser A) → Sound N b p → (n : ℕ) (ts : List Placed) → length ts ≤ n →
-      (xs : List A) (r : List Placed) → many f p ts ≡ Ok (xs, r) → Took (all_notion N f) b ts xs r
-  many_sound_by b p hp n ts le xs r e = go n ts le xs r e
-    where
-      stop_here : (ts : List Placed) (xs : List A) (r : List Placed) → begins f ts ≡ false → many f p ts ≡ Ok (xs, r)
-          → Took (all_notion N f) b ts xs r
-      stop_here ts xs r v e = subst (λ (w : List A × List Placed). Took (all_notion N f) b ts w.0 w.1)
-          (ok_is _ _ (sym (many_ends f p ts v) ∙ e))
-          (record { used = []; parts = refl; reads = refl; fits = tt; ends = v })
+  module _ (b : Limits) (p : Parser A) where
+    many_sound_by : Sound N b p → (n : ℕ) (ts : List Placed) → length ts ≤ n → (xs : List A) (r : List Placed) →
+        many f p ts ≡ Ok (xs, r) → Took (all_notion N f) b ts xs r
+    many_sound_by hp n ts le xs r e = go n ts le xs r e
+      where
+        stop_here : (ts : List Placed) (xs : List A) (r : List Placed) → begins f ts ≡ false → many f p ts ≡ Ok
+            (xs, r)
+            → Took (all_notion N f) b ts xs r
+        stop_here ts xs r v e = subst (λ (w : List A × List Placed). Took (all_notion N f) b ts w.0 w.1)
+            (ok_is _ _ (sym (many_ends f p ts v) ∙ e))
+            (record { used = []; parts = refl; reads = refl; fits = tt; ends = v })
 
-      one : (ts : List Placed) (xs : List A) (r : List Placed) → begins f ts ≡ true → (w : Res A) → p ts ≡ w →
-          many f p ts ≡ Ok (xs, r) → ((l : List Placed) → length l < length ts → (ys : List A) (r : List Placed) →
-          many f p l ≡ Ok (ys, r) → Took (all_notion N f) b l ys r) → Took (all_notion N f) b ts xs r
-      one ts xs r v (Err s) q e ih = absurd (let z = sym (many_fails f p ts s v q) ∙ e in cc)
-      one ts xs r v (Ok y) q e ih =
-          let t = hp ts y.0 y.1 q in
-          let k = in_front_ok y.0 (many f p y.1) xs r (sym (many_goes_on f p (shrinks b p hp) ts y.0 y.1 v q) ∙ e) in
-          let u = ih y.1 (shrinks b p hp ts y.0 y.1 q) k.0 r k.1 in
-          subst (λ zs. Took (all_notion N f) b ts zs r) k.2
-          (record {
-            used = t.used ++ u.used;
-            parts = t.parts ∙ ap (λ l. t.used ++ l) u.parts ∙ sym (append_assoc t.used u.used r);
-            reads = record { front = t.used; back = u.used; whole = refl; first = t.reads; second = u.reads };
-            fits = (t.fits, u.fits);
-            ends = ListEnds-cons N f y.0 k.0 y.1 u.used r u.parts u.reads t.ends u.ends;
-          })
+        one : (ts : List Placed) (xs : List A) (r : List Placed) → begins f ts ≡ true → (w : Res A) → p ts ≡ w →
+            many f p ts ≡ Ok (xs, r) → ((l : List Placed) → length l < length ts → (ys : List A) (r : List Placed) →
+            many f p l ≡ Ok (ys, r) → Took (all_notion N f) b l ys r) → Took (all_notion N f) b ts xs r
+        one ts xs r v (Err s) q e ih = absurd (let z = sym (many_fails f p ts s v q) ∙ e in cc)
+        one ts xs r v (Ok y) q e ih =
+            let t = hp ts y.0 y.1 q in
+            let k = in_front_ok y.0 (many f p y.1) xs r (sym (many_goes_on f p (shrinks b p hp) ts y.0 y.1 v q) ∙
+            e) in
+            let u = ih y.1 (shrinks b p hp ts y.0 y.1 q) k.0 r k.1 in
+            subst (λ zs. Took (all_notion N f) b ts zs r) k.2
+            (record {
+              used = t.used ++ u.used;
+              parts = t.parts ∙ ap (λ l. t.used ++ l) u.parts ∙ sym (append_assoc t.used u.used r);
+              reads = record { front = t.used; back = u.used; whole = refl; first = t.reads; second = u.reads };
+              fits = (t.fits, u.fits);
+              ends = ListEnds-cons N f y.0 k.0 y.1 u.used r u.parts u.reads t.ends u.ends;
+            })
 
-      go : (n : ℕ) (ts : List Placed) → length ts ≤ n → (xs : List A) (r : List Placed) → many f p ts ≡ Ok (xs, r) →
-          Took (all_notion N f) b ts xs r
-      go zero [] le xs r e = stop_here [] xs r refl e
-      go zero (t ∷ ts) le xs r e = absurd (omega arith)
-      go (suc n) ts le xs r e = by_test (begins f ts) refl (λ l lt ys r e. go n l (omega arith) ys r e)
-        where
-          by_test : (v : Bool) → begins f ts ≡ v →
-              ((l : List Placed) → length l < length ts → (ys : List A) (r : List Placed) → many f p l ≡ Ok (ys, r) →
-              Took (all_notion N f) b l ys r) → Took (all_notion N f) b ts xs r
-          by_test false v ih = stop_here ts xs r v e
-          by_test true v ih = one ts xs r v (p ts) refl e ih
+        go : (n : ℕ) (ts : List Placed) → length ts ≤ n → (xs : List A) (r : List Placed) → many f p ts ≡ Ok (xs, r) →
+            Took (all_notion N f) b ts xs r
+        go zero [] le xs r e = stop_here [] xs r refl e
+        go zero (t ∷ ts) le xs r e = absurd (omega arith)
+        go (suc n) ts le xs r e = by_test (begins f ts) refl (λ l lt ys r e. go n l (omega arith) ys r e)
+          where
+            by_test : (v : Bool) → begins f ts ≡ v →
+                ((l : List Placed) → length l < length ts → (ys : List A) (r : List Placed) → many f p l ≡ Ok (
+                  ys,
+                  r,
+                ) →
+                Took (all_notion N f) b l ys r) → Took (all_notion N f) b ts xs r
+            by_test false v ih = stop_here ts xs r v e
+            by_test true v ih = one ts xs r v (p ts) refl e ih
 
   pub many_sound : (b : Limits) (p : Parser A) → Sound N b p → Sound (all_notion N f) b (many f p)
   many_sound b p hp ts xs r e = many_sound_by b p hp (length ts) ts (omega arith) xs r e

@@ -149,17 +149,18 @@ pub record IsOperator (m : ℕ) : Type 0 where
   pub mark : m ≡ mark_of (operator_of m)
   pub layer : layer_of (operator_of m) ≡ layer_at m
 
-among : (P : ℕ → Type 0) → P 9 → P 10 → P 11 → P 12 → P 13 → P 14 → P 15 → P 16 → P 17 → P 18 → P 19 → P 20 → P 21 →
-    (m : ℕ) → 9 ≤ m → m ≤ 21 → P m
-among P p9 p10 p11 p12 p13 p14 p15 p16 p17 p18 p19 p20 p21 m lo hi =
-    at 9 p9 lo (λ a. at 10 p10 a (λ b. at 11 p11 b (λ c.
-    at 12 p12 c (λ d. at 13 p13 d (λ e.
-    at 14 p14 e (λ f. at 15 p15 f (λ g.
-    at 16 p16 g (λ h. at 17 p17 h (λ i.
-    at 18 p18 i (λ j. at 19 p19 j (λ k. at 20 p20 k (λ l. at 21 p21 l (λ o. absurd (omega arith))))))))))))))
-  where
-    at : (n : ℕ) → P n → n ≤ m → (suc n ≤ m → P m) → P m
-    at n p le go = elim (cases_lt n m) [ inl lt ↦ go lt | inr ge ↦ (let e : n ≡ m = omega arith in subst P e p) ]
+module _ (P : ℕ → Type 0) (p9 : P 9) (p10 : P 10) (p11 : P 11) (p12 : P 12) (p13 : P 13) (p14 : P 14)
+    (p15 : P 15) (p16 : P 16) where
+  among : P 17 → P 18 → P 19 → P 20 → P 21 → (m : ℕ) → 9 ≤ m → m ≤ 21 → P m
+  among p17 p18 p19 p20 p21 m lo hi =
+      at 9 p9 lo (λ a. at 10 p10 a (λ b. at 11 p11 b (λ c.
+      at 12 p12 c (λ d. at 13 p13 d (λ e.
+      at 14 p14 e (λ f. at 15 p15 f (λ g.
+      at 16 p16 g (λ h. at 17 p17 h (λ i.
+      at 18 p18 i (λ j. at 19 p19 j (λ k. at 20 p20 k (λ l. at 21 p21 l (λ o. absurd (omega arith))))))))))))))
+    where
+      at : (n : ℕ) → P n → n ≤ m → (suc n ≤ m → P m) → P m
+      at n p le go = elim (cases_lt n m) [ inl lt ↦ go lt | inr ge ↦ (let e : n ≡ m = omega arith in subst P e p) ]
 
 operator_is : (m : ℕ) → 9 ≤ m → m ≤ 21 → IsOperator m
 unfolding operator_of layer_at

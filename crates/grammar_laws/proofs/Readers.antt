@@ -146,69 +146,73 @@ module _ {A B : Type 0} (N : Notion A) (M : A → Notion B) where
       let e2 : q z.0 (h.back ++ r) ≡ Ok (z.1, r) = hq z.0 z.1 h.back r h.second w.1 f in
       rw (e1, e2) refl
 
-  pub both_first : (l : Limits) (p : Limits → Parser A) (q : A → Limits → Parser B) → FollowsBy N M →
-      ((x : A) → HasWord (M x) l)
-      → Sound N l (p l) → ((m : Limits) → Covers l m → Complete N m (p m)) → First N p l →
-      ((x : A) → First (M x) (q x) l) → First (both_by_notion N M) (λ m. both_by (p m) (λ x. q x m)) l
-  both_first l p q fol word hp cp fp fq ts s e =
-      elim (bind_err (p l ts) (λ x. q x.0 l x.1 >>= λ y. Ok ((x.0, y.0), y.1)) s e) [
-        | inl h ↦ in_first (fp ts s h)
-        | inr h ↦ in_second h.0 h.1 (elim (bind_err (q h.0.0 l h.0.1) (λ y. Ok ((h.0.0, y.0), y.1)) s h.2)
-            [ inl g ↦ g | inr g ↦ absurd (not_ok _ _ g.2) ])
-      ]
-    where
-      on : (W V : A × B → Type 0) (U : A → Type 0) → ((x : A) → U x → W (x, (word x).0)) → (u : List Placed) →
-          Front N.form U u → Front (both_by_notion N M).form W u
-      on W V U ok u f = let w = word f.1 in (
-        f.0 ++ w.1,
-        (f.1, w.0),
-        record {
-          front = u ++ f.0;
-          back = w.1;
-          whole = sym (append_assoc u f.0 w.1);
-          first = f.2;
-          second = w.2;
-        },
-        ok f.1 f.3,
-      )
+  module _ (l : Limits) (p : Limits → Parser A) (q : A → Limits → Parser B) where
+    pub both_first : FollowsBy N M → ((x : A) → HasWord (M x) l) → Sound N l (p l) →
+        ((m : Limits) → Covers l m → Complete N m (p m)) → First N p l → ((x : A) → First (M x) (q x) l) →
+        First (both_by_notion N M) (λ m. both_by (p m) (λ x. q x m)) l
+    both_first fol word hp cp fp fq ts s e =
+        elim (bind_err (p l ts) (λ x. q x.0 l x.1 >>= λ y. Ok ((x.0, y.0), y.1)) s e) [
+          | inl h ↦ in_first (fp ts s h)
+          | inr h ↦ in_second h.0 h.1 (elim (bind_err (q h.0.0 l h.0.1) (λ y. Ok ((h.0.0, y.0), y.1)) s h.2)
+              [ inl g ↦ g | inr g ↦ absurd (not_ok _ _ g.2) ])
+        ]
+      where
+        on : (W V : A × B → Type 0) (U : A → Type 0) → ((x : A) → U x → W (x, (word x).0)) → (u : List Placed) →
+            Front N.form U u → Front (both_by_notion N M).form W u
+        on W V U ok u f = let w = word f.1 in (
+          f.0 ++ w.1,
+          (f.1, w.0),
+          record {
+            front = u ++ f.0;
+            back = w.1;
+            whole = sym (append_assoc u f.0 w.1);
+            first = f.2;
+            second = w.2;
+          },
+          ok f.1 f.3,
+        )
 
-      in_first : Fault N p l ts s → Fault (both_by_notion N M) (λ m. both_by (p m) (λ x. q x m)) l ts s
-      in_first f = carry N (both_by_notion N M) p (λ m. both_by (p m) (λ x. q x m)) (λ m. m) l ts [] s f (λ m g. g)
-          (on ((both_by_notion N M).within l) ((both_by_notion N M).within l) (N.within l) (λ x h. (h, (word x).3)))
-          (on ((both_by_notion N M).shallow l.depth) ((both_by_notion N M).within l) (N.shallow l.depth) (λ x h.
-          (h, (M x).weaker l (word x).0 (word x).3)))
-          (on Any Any Any (λ x h. tt))
-          (λ m u more w g sh parts k. ap (λ z. z >>= λ x. q x.0 m x.1 >>= λ y. Ok ((x.0, y.0), y.1)) k)
+        in_first : Fault N p l ts s → Fault (both_by_notion N M) (λ m. both_by (p m) (λ x. q x m)) l ts s
+        in_first f = carry N (both_by_notion N M) p (λ m. both_by (p m) (λ x. q x m)) (λ m. m) l ts [] s f (λ m g. g)
+            (on ((both_by_notion N M).within l) ((both_by_notion N M).within l) (N.within l) (λ x h. (h, (word x).3)))
+            (on ((both_by_notion N M).shallow l.depth) ((both_by_notion N M).within l) (N.shallow l.depth) (λ x h.
+            (h, (M x).weaker l (word x).0 (word x).3)))
+            (on Any Any Any (λ x h. tt))
+            (λ m u more w g sh parts k. ap (λ z. z >>= λ x. q x.0 m x.1 >>= λ y. Ok ((x.0, y.0), y.1)) k)
 
-      in_second : (z : A × List Placed) → p l ts ≡ Ok z → q z.0 l z.1 ≡ Err s →
-          Fault (both_by_notion N M) (λ m. both_by (p m) (λ x. q x m)) l ts s
-      in_second z e1 e2 =
-          let t = hp ts z.0 z.1 e1 in
-          let behind : (W : A × B → Type 0) (V : B → Type 0) → ((y : B) → V y → W (z.0, y)) → (u : List Placed) →
-          Front (M z.0).form V u → Front (both_by_notion N M).form W (t.used ++ u) =
-          λ W V ok u f. (
-            f.0,
-            (z.0, f.1),
-            record {
-              front = t.used;
-              back = u ++ f.0;
-              whole = append_assoc t.used u f.0;
-              first = t.reads;
-              second = f.2;
-            },
-            ok f.1 f.3,
-          ) in
-          subst (λ l'. Fault (both_by_notion N M) (λ m. both_by (p m) (λ x. q x m)) l l' s) (sym t.parts)
-          (carry (M z.0) (both_by_notion N M) (q z.0) (λ m. both_by (p m) (λ x. q x m)) (λ m. m) l z.1 t.used s
-          (fq z.0 z.1 s e2) (λ m g. g)
-          (behind ((both_by_notion N M).within l) ((M z.0).within l) (λ y h. (t.fits, h)))
-          (behind ((both_by_notion N M).shallow l.depth) ((M z.0).shallow l.depth) (λ y h. (N.weaker l z.0 t.fits, h)))
-          (behind Any Any (λ y h. tt))
-          (λ m u more w g sh parts k.
-          let c = grows_covers w l m g in
-          let f : N.follow z.0 (u ++ more) =
-          N.ahead z.0 (u ++ more) (u ++ s.rest) (same_behind u more s.rest sh) (subst (N.follow z.0) parts t.ends)
-          in
-          let e3 : p m (t.used ++ (u ++ more)) ≡ Ok (z.0, u ++ more) =
-          cp m c z.0 t.used (u ++ more) t.reads (N.wider l m z.0 c t.fits) f in
-          rw (e3, k) refl))
+        in_second : (z : A × List Placed) → p l ts ≡ Ok z → q z.0 l z.1 ≡ Err s →
+            Fault (both_by_notion N M) (λ m. both_by (p m) (λ x. q x m)) l ts s
+        in_second z e1 e2 =
+            let t = hp ts z.0 z.1 e1 in
+            let behind : (W : A × B → Type 0) (V : B → Type 0) → ((y : B) → V y → W (z.0, y)) → (u : List Placed) →
+            Front (M z.0).form V u → Front (both_by_notion N M).form W (t.used ++ u) =
+            λ W V ok u f. (
+              f.0,
+              (z.0, f.1),
+              record {
+                front = t.used;
+                back = u ++ f.0;
+                whole = append_assoc t.used u f.0;
+                first = t.reads;
+                second = f.2;
+              },
+              ok f.1 f.3,
+            ) in
+            subst (λ l'. Fault (both_by_notion N M) (λ m. both_by (p m) (λ x. q x m)) l l' s) (sym t.parts)
+            (carry (M z.0) (both_by_notion N M) (q z.0) (λ m. both_by (p m) (λ x. q x m)) (λ m. m) l z.1 t.used s
+            (fq z.0 z.1 s e2) (λ m g. g)
+            (behind ((both_by_notion N M).within l) ((M z.0).within l) (λ y h. (t.fits, h)))
+            (behind ((both_by_notion N M).shallow l.depth) ((M z.0).shallow l.depth) (λ y h. (
+              N.weaker l z.0
+                  t.fits,
+              h,
+            )))
+            (behind Any Any (λ y h. tt))
+            (λ m u more w g sh parts k.
+            let c = grows_covers w l m g in
+            let f : N.follow z.0 (u ++ more) =
+            N.ahead z.0 (u ++ more) (u ++ s.rest) (same_behind u more s.rest sh) (subst (N.follow z.0) parts t.ends)
+            in
+            let e3 : p m (t.used ++ (u ++ more)) ≡ Ok (z.0, u ++ more) =
+            cp m c z.0 t.used (u ++ more) t.reads (N.wider l m z.0 c t.fits) f in
+            rw (e3, k) refl))

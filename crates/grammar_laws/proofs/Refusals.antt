@@ -21,14 +21,14 @@ module _ {A : Type 0} (N : Notion A) (run : Limits → Parser A) (complete : (l 
   never l x u w rest h fits e = not_ok _ _ (sym (whole_read l x u h fits) ∙ e)
 
   -- where the reader stops whatever comes behind the next token, no front within these limits goes on
-  stops_fronts : (l : Limits) (W : A → Type 0) (w : Why) (used rest : List Placed) (t : Placed) →
-      ((x : A) → W x → (m : Limits) × Grows w l m × N.within m x)
-      → ((m : Limits) (more : List Placed) → Grows w l m → SameHead more (t ∷ rest) →
-      run m (used ++ more) ≡ stop w more) → Front N.form W (used ++ t ∷ []) → ⊥
-  stops_fronts l W w used rest t enough stays f =
-      let m = enough f.1 f.3 in
-      let whole : (used ++ t ∷ []) ++ f.0 ≡ used ++ t ∷ f.0 = append_assoc used (t ∷ []) f.0 in
-      never m.0 f.1 (used ++ t ∷ f.0) w (t ∷ f.0) (subst (N.form f.1) whole f.2) m.2 (stays m.0 (t ∷ f.0) m.1 refl)
+  module _ (l : Limits) (W : A → Type 0) (w : Why) (used rest : List Placed) (t : Placed) where
+    stops_fronts : ((x : A) → W x → (m : Limits) × Grows w l m × N.within m x) →
+        ((m : Limits) (more : List Placed) → Grows w l m → SameHead more (t ∷ rest) → run m (used ++ more) ≡
+        stop w more) → Front N.form W (used ++ t ∷ []) → ⊥
+    stops_fronts enough stays f =
+        let m = enough f.1 f.3 in
+        let whole : (used ++ t ∷ []) ++ f.0 ≡ used ++ t ∷ f.0 = append_assoc used (t ∷ []) f.0 in
+        never m.0 f.1 (used ++ t ∷ f.0) w (t ∷ f.0) (subst (N.form f.1) whole f.2) m.2 (stays m.0 (t ∷ f.0) m.1 refl)
 
   cause_of : (l : Limits) (w : Why) (used rest : List Placed) →
       ((m : Limits) (more : List Placed) → Grows w l m → SameHead more rest → run m (used ++ more) ≡ stop w more) →

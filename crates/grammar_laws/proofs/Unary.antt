@@ -476,12 +476,12 @@ module _ (l : Limits) (b : ℕ) (ih : (k : ℕ) → k ≤ 6 → Complete (tree_n
   two left right u r h w = two_complete (deep l b) (ih 6 (omega arith)) (two_parts left right u h) u r
       (two_back left right u h) (tt, (omega arith, (tt, (omega arith, tt)))) tt
 
-  member : (s : Span) (name : Named) (x : Option Bool) (u r back : List Placed) → s ≡ name.span →
-      u ++ r ≡ token name.span (Name name.text) ∷ (back ++ r) → named_notion.form (name, x) u →
-      named_notion.follow (name, x) r → named_notion.within no_limits (name, x)
-      → run (u ++ r) ≡ Ok (member_of (name, x), r)
-  member s name x u r back e c form f w = through name.span (Name name.text) (back ++ r) (u ++ r) named_at c
-      (goes_name b (tree_at b) name.span (back ++ r) name.text) ∙ named_goes (name, x) u r form f w
+  module _ (s : Span) (name : Named) (x : Option Bool) (u r back : List Placed) where
+    member : s ≡ name.span → u ++ r ≡ token name.span (Name name.text) ∷ (back ++ r) →
+        named_notion.form (name, x) u → named_notion.follow (name, x) r →
+        named_notion.within no_limits (name, x) → run (u ++ r) ≡ Ok (member_of (name, x), r)
+    member e c form f w = through name.span (Name name.text) (back ++ r) (u ++ r) named_at c
+        (goes_name b (tree_at b) name.span (back ++ r) name.text) ∙ named_goes (name, x) u r form f w
 
   prefix_complete : Complete prefix_notion (deep l (suc b)) (prefixed b (tree_at b))
   prefix_complete (Literal s value) u r h w f = ap (λ v. run (v ++ r)) h.2 ∙ goes_number b (tree_at b) s r h.0

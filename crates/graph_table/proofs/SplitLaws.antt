@@ -56,12 +56,13 @@ later key x [] all j d lt = absurd (omega arith)
 later key x (y ∷ ys) all zero d lt = all.0
 later key x (y ∷ ys) all (suc j) d lt = later key x ys all.1 j d (omega arith)
 
-pairs : {X : Type 0} (key : X → ℕ) (x : X) (xs : List X) → Rises key (x ∷ xs) → IsNonDecreasingBy key xs →
-    (i j : ℕ) (d : X) → i ≤ j → j < length (x ∷ xs) → key (get_or (x ∷ xs) i d) ≤ key (get_or (x ∷ xs) j d)
-pairs key x xs up more zero zero d le within = omega arith
-pairs key x xs up more zero (suc j) d le within = later key x xs up.0 j d (omega arith)
-pairs key x xs up more (suc i) zero d le within = absurd (omega arith)
-pairs key x xs up more (suc i) (suc j) d le within = more i j d (omega arith) (omega arith)
+module _ {X : Type 0} (key : X → ℕ) (x : X) (xs : List X) where
+  pairs : Rises key (x ∷ xs) → IsNonDecreasingBy key xs → (i j : ℕ) (d : X) → i ≤ j → j < length (x ∷ xs) →
+      key (get_or (x ∷ xs) i d) ≤ key (get_or (x ∷ xs) j d)
+  pairs up more zero zero d le within = omega arith
+  pairs up more zero (suc j) d le within = later key x xs up.0 j d (omega arith)
+  pairs up more (suc i) zero d le within = absurd (omega arith)
+  pairs up more (suc i) (suc j) d le within = more i j d (omega arith) (omega arith)
 
 -- by index, where it is by recursion
 pub by_index : {X : Type 0} (key : X → ℕ) (xs : List X) → Rises key xs → IsNonDecreasingBy key xs

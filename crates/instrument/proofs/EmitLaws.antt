@@ -35,35 +35,34 @@ emits-if_else slot s test held others =
     ∙ ap (λ b. body_emits slot held.items || b) (any_of_map (stmt_emits slot) others.items)
 
 -- the first block emits to the slot
-pub held_emits : (slot : ℕ) (s : Span) (test : Expr) (held : Vec Stmt) (otherwise : Option (Vec Stmt)) (stmt : Stmt)
-    (body : List Stmt) →
-    stmt ≡ statements.If s test held otherwise → body ≡ held.items → body_emits slot body ≡ true →
-    true ≡ stmt_emits slot stmt
-held_emits slot s test held None stmt body is same h =
-    sym (ap (stmt_emits slot) is ∙ emits-if slot s test held ∙ sym (ap (body_emits slot) same) ∙ h)
-held_emits slot s test held (Some others) stmt body is same h =
-    sym (ap (stmt_emits slot) is ∙ emits-if_else slot s test held others
-    ∙ ap (λ b. b || body_emits slot others.items) (sym (ap (body_emits slot) same) ∙ h))
+module _ (slot : ℕ) (s : Span) (test : Expr) (held : Vec Stmt) where
+  pub held_emits : (otherwise : Option (Vec Stmt)) (stmt : Stmt) (body : List Stmt) →
+      stmt ≡ statements.If s test held otherwise → body ≡ held.items → body_emits slot body ≡ true →
+      true ≡ stmt_emits slot stmt
+  held_emits None stmt body is same h =
+      sym (ap (stmt_emits slot) is ∙ emits-if slot s test held ∙ sym (ap (body_emits slot) same) ∙ h)
+  held_emits (Some others) stmt body is same h =
+      sym (ap (stmt_emits slot) is ∙ emits-if_else slot s test held others
+      ∙ ap (λ b. b || body_emits slot others.items) (sym (ap (body_emits slot) same) ∙ h))
 
 -- the first block doesn't, and there is no other
-pub none_emits : (slot : ℕ) (s : Span) (test : Expr) (held : Vec Stmt) (otherwise : Option (Vec Stmt)) (stmt : Stmt)
-    (body : List Stmt) →
-    stmt ≡ statements.If s test held otherwise → otherwise ≡ None → body ≡ held.items → body_emits slot body ≡ false →
-    false ≡ stmt_emits slot stmt
-none_emits slot s test held otherwise stmt body is none same h =
-    sym (ap (stmt_emits slot) (is ∙ ap (statements.If s test held) none) ∙ emits-if slot s test held
-    ∙ sym (ap (body_emits slot) same) ∙ h)
+module _ (slot : ℕ) (s : Span) (test : Expr) (held : Vec Stmt) (otherwise : Option (Vec Stmt)) (stmt : Stmt)
+    (body : List Stmt) where
+  pub none_emits : stmt ≡ statements.If s test held otherwise → otherwise ≡ None → body ≡ held.items →
+      body_emits slot body ≡ false → false ≡ stmt_emits slot stmt
+  none_emits is none same h =
+      sym (ap (stmt_emits slot) (is ∙ ap (statements.If s test held) none) ∙ emits-if slot s test held
+      ∙ sym (ap (body_emits slot) same) ∙ h)
 
 -- the first block doesn't, and the other may
-pub others_emit : (slot : ℕ) (s : Span) (test : Expr) (held : Vec Stmt) (otherwise : Option (Vec Stmt))
-    (others : Vec Stmt) (stmt : Stmt) (body rest : List Stmt) →
-    stmt ≡ statements.If s test held otherwise → otherwise ≡ Some others → body ≡ held.items → rest ≡ others.items →
-    body_emits slot body ≡ false →
-    body_emits slot rest ≡ stmt_emits slot stmt
-others_emit slot s test held otherwise others stmt body rest is some same same_rest h =
-    sym (ap (stmt_emits slot) (is ∙ ap (statements.If s test held) some) ∙ emits-if_else slot s test held others
-    ∙ ap (λ b. b || body_emits slot others.items) (sym (ap (body_emits slot) same) ∙ h)
-    ∙ ap (body_emits slot) (sym same_rest))
+module _ (slot : ℕ) (s : Span) (test : Expr) (held : Vec Stmt) (otherwise : Option (Vec Stmt))
+    (others : Vec Stmt) (stmt : Stmt) (body rest : List Stmt) where
+  pub others_emit : stmt ≡ statements.If s test held otherwise → otherwise ≡ Some others → body ≡ held.items →
+      rest ≡ others.items → body_emits slot body ≡ false → body_emits slot rest ≡ stmt_emits slot stmt
+  others_emit is some same same_rest h =
+      sym (ap (stmt_emits slot) (is ∙ ap (statements.If s test held) some) ∙ emits-if_else slot s test held others
+      ∙ ap (λ b. b || body_emits slot others.items) (sym (ap (body_emits slot) same) ∙ h)
+      ∙ ap (body_emits slot) (sym same_rest))
 
 -- one slot more
 pub one_slot : (test : ℕ → Bool) (n : ℕ) →
@@ -73,17 +72,17 @@ one_slot test n =
     ∙ filter_of_map_range_with_len_more test (λ i. i) 0 n n (omega arith)
     ∙ ap (λ l. filter test l ++ cond (test n) (n ∷ []) []) (map-id (range_with_len 0 n))
 
-pub slot_taken : (test : ℕ → Bool) (n : ℕ) (b : Bool) (before now : List ℕ) →
-    before ≡ filter test (range_with_len 0 n) → b ≡ test n → b ≡ true → now ≡ before ++ n ∷ [] →
-    now ≡ filter test (range_with_len 0 (n + 1))
-slot_taken test n b before now e is holds h =
-    h ∙ ap (λ l. l ++ n ∷ []) e
-    ∙ ap (λ t. filter test (range_with_len 0 n) ++ cond t (n ∷ []) []) (sym (sym is ∙ holds))
-    ∙ sym (one_slot test n)
+module _ (test : ℕ → Bool) (n : ℕ) (b : Bool) (before now : List ℕ) where
+  pub slot_taken : before ≡ filter test (range_with_len 0 n) → b ≡ test n → b ≡ true → now ≡ before ++ n ∷ [] →
+      now ≡ filter test (range_with_len 0 (n + 1))
+  slot_taken e is holds h =
+      h ∙ ap (λ l. l ++ n ∷ []) e
+      ∙ ap (λ t. filter test (range_with_len 0 n) ++ cond t (n ∷ []) []) (sym (sym is ∙ holds))
+      ∙ sym (one_slot test n)
 
-pub slot_left : (test : ℕ → Bool) (n : ℕ) (b : Bool) (before now : List ℕ) → before ≡ filter test (range_with_len 0 n) →
-    b ≡ test n → b ≡ false → now ≡ before → now ≡ filter test (range_with_len 0 (n + 1))
-slot_left test n b before now e is fails h =
-    h ∙ e ∙ sym (append-nil (filter test (range_with_len 0 n)))
-    ∙ ap (λ t. filter test (range_with_len 0 n) ++ cond t (n ∷ []) []) (sym (sym is ∙ fails))
-    ∙ sym (one_slot test n)
+  pub slot_left : before ≡ filter test (range_with_len 0 n) → b ≡ test n → b ≡ false → now ≡ before →
+      now ≡ filter test (range_with_len 0 (n + 1))
+  slot_left e is fails h =
+      h ∙ e ∙ sym (append-nil (filter test (range_with_len 0 n)))
+      ∙ ap (λ t. filter test (range_with_len 0 n) ++ cond t (n ∷ []) []) (sym (sym is ∙ fails))
+      ∙ sym (one_slot test n)

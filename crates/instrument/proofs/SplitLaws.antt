@@ -208,17 +208,17 @@ module _ (d : Dense) (env : Env) where
         (same_with (loop_split d) (whole s d env a) so_far (segment s d env received b) same)
 
     -- where a segment broke there is no other
-    by_end : (s : Scene) (a b : List Edge) (now : Ran) (rest : List Ran) (flow : Flow) → now.flow ≡ flow →
-        SameOutcome (whole s d env a) now →
-        (now.flow ≡ Going → SameOutcome (whole s d env (a ++ b)) (with_segments (loop_split d) now rest)) →
-        SameOutcome (whole s d env (a ++ b)) (with_segments (loop_split d) now (unless_broke now.flow rest))
-    by_end s a b now rest Broke e same onward =
-        subst (λ f. SameOutcome (whole s d env (a ++ b)) (with_segments (loop_split d) now (unless_broke f rest)))
-        (sym e)
-        (subst (λ r. SameOutcome r now) (sym (ends s a b (same.flow ∙ e))) same)
-    by_end s a b now rest Going e same onward =
-        subst (λ f. SameOutcome (whole s d env (a ++ b)) (with_segments (loop_split d) now (unless_broke f rest)))
-        (sym e) (onward e)
+    module _ (s : Scene) (a b : List Edge) (now : Ran) (rest : List Ran) where
+      by_end : (flow : Flow) → now.flow ≡ flow → SameOutcome (whole s d env a) now →
+          (now.flow ≡ Going → SameOutcome (whole s d env (a ++ b)) (with_segments (loop_split d) now rest)) →
+          SameOutcome (whole s d env (a ++ b)) (with_segments (loop_split d) now (unless_broke now.flow rest))
+      by_end Broke e same onward =
+          subst (λ f. SameOutcome (whole s d env (a ++ b)) (with_segments (loop_split d) now (unless_broke f rest)))
+          (sym e)
+          (subst (λ r. SameOutcome r now) (sym (ends s a b (same.flow ∙ e))) same)
+      by_end Going e same onward =
+          subst (λ f. SameOutcome (whole s d env (a ++ b)) (with_segments (loop_split d) now (unless_broke f rest)))
+          (sym e) (onward e)
 
     all_parts : (s : Scene) (parts : List (List Edge)) (a : List Edge) (so_far : Ran) (received : Option (List ℤ)) →
         (whole s d env a).flow ≡ Going → SameOutcome (whole s d env a) so_far →

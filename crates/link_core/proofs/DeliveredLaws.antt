@@ -147,97 +147,97 @@ module _ (work : Work) (sound : State → Type 0) (lawful : IsLawful work sound)
         (λ (later : Has (sent_in work gone es) l). inr later)
         (has_append_cases (work.sent s) (sent_in work gone es) l sent)
 
-  go_delivers : (w : World) (t : IsTied sound split parts w) (m : ℕ) (o : Option State) (es : List Event) →
-      slice_get w.sites m ≡ o → can_act o ≡ true →
-      ((v : World) (u : IsTied sound split parts v) → all_possible work v es ≡ true → Delivers v u.k es) →
-      all_possible work (cluster.go_at work w m o) es ≡ true → Delivers w t.k (plain.Go m ∷ es)
-  go_delivers w t m None es here can rest more = absurd (false≢true can)
-  go_delivers w t m (Some s) es here can rest more =
-      let v : World = cluster.go_at work w m (Some s) in
-      let d = rest v (go_tied w t m s here can es) more in
-      let is : step work w (plain.Go m) ≡ v = ap (cluster.go_at work w m) here in
-      let sent : sent_in work w (plain.Go m ∷ es) ≡ work.sent s ++ sent_in work v es =
-      ap (λ q. sent_with work (slice_get w.sites m) ++ sent_in work q es) is
-      ∙ ap (λ o. sent_with work o ++ sent_in work v es) here in
-      let taken : taken_in work w (plain.Go m ∷ es) ≡ taken_in work v es = ap (λ q. taken_in work q es) is in
-      record {
-        from = λ l h.
-            subst (λ ls. (found l.name w.under_way ≡ Some l) ⊎ Has ls l) (sym sent)
-            (from_before w t m s here can es l (d.from l (subst (λ ls. Has ls l) taken h)));
-        once = subst (λ ls. EachOnce (names_of ls)) (sym taken) d.once;
-        new = λ l h. d.new l (subst (λ ls. Has ls l) taken h);
-        all = λ over l there.
-            subst (λ ls. Has ls l) (sym taken)
-            (d.all (subst (λ q. finished (after work q es) ≡ true) is over) l
-            (to_behind w t m s here can es l
-            (subst (λ ls. (found l.name w.under_way ≡ Some l) ⊎ Has ls l) sent there)));
-      }
+  module _ (w : World) (t : IsTied sound split parts w) (m : ℕ) where
+    go_delivers : (o : Option State) (es : List Event) → slice_get w.sites m ≡ o → can_act o ≡ true →
+        ((v : World) (u : IsTied sound split parts v) → all_possible work v es ≡ true → Delivers v u.k es) →
+        all_possible work (cluster.go_at work w m o) es ≡ true → Delivers w t.k (plain.Go m ∷ es)
+    go_delivers None es here can rest more = absurd (false≢true can)
+    go_delivers (Some s) es here can rest more =
+        let v : World = cluster.go_at work w m (Some s) in
+        let d = rest v (go_tied w t m s here can es) more in
+        let is : step work w (plain.Go m) ≡ v = ap (cluster.go_at work w m) here in
+        let sent : sent_in work w (plain.Go m ∷ es) ≡ work.sent s ++ sent_in work v es =
+        ap (λ q. sent_with work (slice_get w.sites m) ++ sent_in work q es) is
+        ∙ ap (λ o. sent_with work o ++ sent_in work v es) here in
+        let taken : taken_in work w (plain.Go m ∷ es) ≡ taken_in work v es = ap (λ q. taken_in work q es) is in
+        record {
+          from = λ l h.
+              subst (λ ls. (found l.name w.under_way ≡ Some l) ⊎ Has ls l) (sym sent)
+              (from_before w t m s here can es l (d.from l (subst (λ ls. Has ls l) taken h)));
+          once = subst (λ ls. EachOnce (names_of ls)) (sym taken) d.once;
+          new = λ l h. d.new l (subst (λ ls. Has ls l) taken h);
+          all = λ over l there.
+              subst (λ ls. Has ls l) (sym taken)
+              (d.all (subst (λ q. finished (after work q es) ≡ true) is over) l
+              (to_behind w t m s here can es l
+              (subst (λ ls. (found l.name w.under_way ≡ Some l) ⊎ Has ls l) sent there)));
+        }
 
-  take_delivers : (w : World) (t : IsTied sound split parts w) (x : Name) (o : Option Letter) (es : List Event) →
-      found x w.under_way ≡ o → is_some o ≡ true →
-      ((v : World) (u : IsTied sound split parts v) → all_possible work v es ≡ true → Delivers v u.k es) →
-      all_possible work (step work w (plain.Take x)) es ≡ true → Delivers w t.k (plain.Take x ∷ es)
-  take_delivers w t x None es there can rest more = absurd (false≢true can)
-  take_delivers w t x (Some l) es there can rest more =
-      let k : Skeleton = t.k in
-      let j : Skeleton = take.next work sound lawful split parts few one w k t.alike t.reached x l there in
-      let v : World = take.gone work sound lawful split parts few one w k t.alike t.reached x l there in
-      let is : step work w (plain.Take x) ≡ v =
-      take.gone_is work sound lawful split parts few one w k t.alike t.reached x l there in
-      let u : IsTied sound split parts v = record {
-        k = j;
-        reached = take.next_reached work sound lawful split parts few one w k t.alike t.reached x l there;
-        alike = take.gone_tied work sound lawful split parts few one w k t.alike t.reached x l there;
-      } in
-      let d = rest v u (subst (λ q. all_possible work q es ≡ true) is more) in
-      let named : l.name ≡ x = found_name x w.under_way l there in
-      let own : found l.name w.under_way ≡ Some l = ap (λ z. found z w.under_way) named ∙ there in
-      let sent : sent_in work w (plain.Take x ∷ es) ≡ sent_in work v es = ap (λ q. sent_in work q es) is in
-      let taken : taken_in work w (plain.Take x ∷ es) ≡ l ∷ taken_in work v es =
-      ap (λ q. taken_at (found x w.under_way) ++ taken_in work q es) is
-      ∙ ap (λ o. taken_at o ++ taken_in work v es) there in
-      let later : (q : Letter) → Has (taken_in work v es) q →
-      (same_name q.name x ≡ false) × (has_name q.name k.taken ≡ false) =
-      λ q h. not_either (same_name q.name x) (has_name q.name k.taken) (d.new q h) in
-      record {
-        from = λ q h.
-            subst (λ ls. (found q.name w.under_way ≡ Some q) ⊎ Has ls q) (sym sent)
-            (⊎_elim
-            (λ (first : l ≡ q). inl (subst (λ z. found z.name w.under_way ≡ Some z) first own))
-            (λ (h : Has (taken_in work v es) q).
-            ⊎_elim
-            (λ (flies : found q.name v.under_way ≡ Some q).
-            inl (without_is x q.name w.under_way q t.alike.ascends flies))
-            (λ (s : Has (sent_in work v es) q). inr s)
-            (d.from q h))
-            (subst (λ ls. Has ls q) taken h));
-        once =
-            subst (λ ls. EachOnce (names_of ls)) (sym taken) (
-              once_not (taken_in work v es) l.name
-                  (λ q h. subst (λ z. same_name q.name z ≡ false) (sym named) (later q h).0),
-              d.once,
-            );
-        new = λ q h.
-            ⊎_elim
-            (λ (first : l ≡ q).
-            subst (λ z. has_name z.name k.taken ≡ false) first
-            (ap (λ z. has_name z k.taken) named
-            ∙ (take.can work sound lawful split parts few one w k t.alike t.reached x l there).new))
-            (λ (h : Has (taken_in work v es) q). (later q h).1)
-            (subst (λ ls. Has ls q) taken h);
-        all = λ over q where_it_is.
-            let still = d.all (subst (λ q. finished (after work q es) ≡ true) is over) q in
-            subst (λ ls. Has ls q) (sym taken)
-            (⊎_elim
-            (λ (flies : found q.name w.under_way ≡ Some q).
-            ⊎_elim
-            (λ (first : l ≡ q). inl first)
-            (λ (left : (if same_name x q.name then None else found q.name w.under_way) ≡ Some q).
-            inr (still (inl (taken_law x w.under_way q.name t.alike.ascends ∙ left))))
-            (left_or_taken x l w.under_way q (same_name x q.name) refl there flies))
-            (λ (s : Has (sent_in work v es) q). inr (still (inr s)))
-            (subst (λ ls. (found q.name w.under_way ≡ Some q) ⊎ Has ls q) sent where_it_is));
-      }
+  module _ (w : World) (t : IsTied sound split parts w) (x : Name) where
+    take_delivers : (o : Option Letter) (es : List Event) → found x w.under_way ≡ o → is_some o ≡ true →
+        ((v : World) (u : IsTied sound split parts v) → all_possible work v es ≡ true → Delivers v u.k es) →
+        all_possible work (step work w (plain.Take x)) es ≡ true → Delivers w t.k (plain.Take x ∷ es)
+    take_delivers None es there can rest more = absurd (false≢true can)
+    take_delivers (Some l) es there can rest more =
+        let k : Skeleton = t.k in
+        let j : Skeleton = take.next work sound lawful split parts few one w k t.alike t.reached x l there in
+        let v : World = take.gone work sound lawful split parts few one w k t.alike t.reached x l there in
+        let is : step work w (plain.Take x) ≡ v =
+        take.gone_is work sound lawful split parts few one w k t.alike t.reached x l there in
+        let u : IsTied sound split parts v = record {
+          k = j;
+          reached = take.next_reached work sound lawful split parts few one w k t.alike t.reached x l there;
+          alike = take.gone_tied work sound lawful split parts few one w k t.alike t.reached x l there;
+        } in
+        let d = rest v u (subst (λ q. all_possible work q es ≡ true) is more) in
+        let named : l.name ≡ x = found_name x w.under_way l there in
+        let own : found l.name w.under_way ≡ Some l = ap (λ z. found z w.under_way) named ∙ there in
+        let sent : sent_in work w (plain.Take x ∷ es) ≡ sent_in work v es = ap (λ q. sent_in work q es) is in
+        let taken : taken_in work w (plain.Take x ∷ es) ≡ l ∷ taken_in work v es =
+        ap (λ q. taken_at (found x w.under_way) ++ taken_in work q es) is
+        ∙ ap (λ o. taken_at o ++ taken_in work v es) there in
+        let later : (q : Letter) → Has (taken_in work v es) q →
+        (same_name q.name x ≡ false) × (has_name q.name k.taken ≡ false) =
+        λ q h. not_either (same_name q.name x) (has_name q.name k.taken) (d.new q h) in
+        record {
+          from = λ q h.
+              subst (λ ls. (found q.name w.under_way ≡ Some q) ⊎ Has ls q) (sym sent)
+              (⊎_elim
+              (λ (first : l ≡ q). inl (subst (λ z. found z.name w.under_way ≡ Some z) first own))
+              (λ (h : Has (taken_in work v es) q).
+              ⊎_elim
+              (λ (flies : found q.name v.under_way ≡ Some q).
+              inl (without_is x q.name w.under_way q t.alike.ascends flies))
+              (λ (s : Has (sent_in work v es) q). inr s)
+              (d.from q h))
+              (subst (λ ls. Has ls q) taken h));
+          once =
+              subst (λ ls. EachOnce (names_of ls)) (sym taken) (
+                once_not (taken_in work v es) l.name
+                    (λ q h. subst (λ z. same_name q.name z ≡ false) (sym named) (later q h).0),
+                d.once,
+              );
+          new = λ q h.
+              ⊎_elim
+              (λ (first : l ≡ q).
+              subst (λ z. has_name z.name k.taken ≡ false) first
+              (ap (λ z. has_name z k.taken) named
+              ∙ (take.can work sound lawful split parts few one w k t.alike t.reached x l there).new))
+              (λ (h : Has (taken_in work v es) q). (later q h).1)
+              (subst (λ ls. Has ls q) taken h);
+          all = λ over q where_it_is.
+              let still = d.all (subst (λ q. finished (after work q es) ≡ true) is over) q in
+              subst (λ ls. Has ls q) (sym taken)
+              (⊎_elim
+              (λ (flies : found q.name w.under_way ≡ Some q).
+              ⊎_elim
+              (λ (first : l ≡ q). inl first)
+              (λ (left : (if same_name x q.name then None else found q.name w.under_way) ≡ Some q).
+              inr (still (inl (taken_law x w.under_way q.name t.alike.ascends ∙ left))))
+              (left_or_taken x l w.under_way q (same_name x q.name) refl there flies))
+              (λ (s : Has (sent_in work v es) q). inr (still (inr s)))
+              (subst (λ ls. (found q.name w.under_way ≡ Some q) ⊎ Has ls q) sent where_it_is));
+        }
 
   delivers : (es : List Event) (w : World) (t : IsTied sound split parts w) → all_possible work w es ≡ true →
       Delivers w t.k es

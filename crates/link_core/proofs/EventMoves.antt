@@ -30,15 +30,16 @@ pub played_free : (before : Linked) (e : LinkEvent) → finished before.world �
     link_fault_of before e ≡ None
 played_free before e on none = ap (λ b. if b then Some (Plain RunOver) else fault_within before e) on ∙ none
 
-pub played_driven : (work : Work) (sound : State → Type 0) (lawful : IsLawful work sound) (before : Linked)
-    (e : LinkEvent) (cluster : Driven) (wire : Wire) → IsLinkReached work sound before →
-    finished before.world ≡ false → IsPlayed work before e cluster wire → AreDriven work sound cluster wire
-played_driven work sound lawful before e cluster wire r on played =
-    let can = (free work sound lawful before r e).1 (played_free before e on played.free) in
-    record {
-      on = ap (λ (d : Driven). d.ended) played.world;
-      settled = played.traffic.settled;
-      reached =
-          subst (IsLinkReached work sound) (sym (played_links work before e cluster wire played))
-          (link_steps_on work sound before e r can);
-    }
+module _ (work : Work) (sound : State → Type 0) (lawful : IsLawful work sound) (before : Linked) (e : LinkEvent)
+    (cluster : Driven) (wire : Wire) where
+  pub played_driven : IsLinkReached work sound before → finished before.world ≡ false →
+      IsPlayed work before e cluster wire → AreDriven work sound cluster wire
+  played_driven r on played =
+      let can = (free work sound lawful before r e).1 (played_free before e on played.free) in
+      record {
+        on = ap (λ (d : Driven). d.ended) played.world;
+        settled = played.traffic.settled;
+        reached =
+            subst (IsLinkReached work sound) (sym (played_links work before e cluster wire played))
+            (link_steps_on work sound before e r can);
+      }

@@ -94,23 +94,23 @@ no_line e behind is same = starts (event_front e) same
     starts [] same = cc
     starts (x ∷ xs) same = cc
 
-lines_settle : (es fs : List LinkEvent) (a b : List ℕ) → AllByRecursion IsLinkEvent es →
-    AllByRecursion IsLinkEvent fs → HasNoLink a → HasNoLink b → flat_map event_line es ++ a
-    ≡ flat_map event_line fs ++ b →
-    (es ≡ fs) × (a ≡ b)
-lines_settle [] [] a b is also none bare same = (refl, same)
-lines_settle [] (f ∷ fs) a b is also none bare same =
-    absurd (none f (flat_map event_line fs ++ b) also.0
-    (same ∙ append_assoc (event_line f) (flat_map event_line fs) b))
-lines_settle (e ∷ es) [] a b is also none bare same =
-    absurd (bare e (flat_map event_line es ++ a) is.0
-    (sym same ∙ append_assoc (event_line e) (flat_map event_line es) a))
-lines_settle (e ∷ es) (f ∷ fs) a b is also none bare same =
-    let one = one_link e f (flat_map event_line es ++ a) (flat_map event_line fs ++ b) is.0 also.0
-    (sym (append_assoc (event_line e) (flat_map event_line es) a) ∙ same
-    ∙ append_assoc (event_line f) (flat_map event_line fs) b) in
-    let rest = lines_settle es fs a b is.1 also.1 none bare one.1 in
-    (ap (λ (x : LinkEvent). x ∷ es) one.0 ∙ ap (λ (xs : List LinkEvent). f ∷ xs) rest.0, rest.1)
+module _ (a b : List ℕ) where
+  lines_settle : (es fs : List LinkEvent) → AllByRecursion IsLinkEvent es → AllByRecursion IsLinkEvent fs →
+      HasNoLink a → HasNoLink b → flat_map event_line es ++ a ≡ flat_map event_line fs ++ b →
+      (es ≡ fs) × (a ≡ b)
+  lines_settle [] [] is also none bare same = (refl, same)
+  lines_settle [] (f ∷ fs) is also none bare same =
+      absurd (none f (flat_map event_line fs ++ b) also.0
+      (same ∙ append_assoc (event_line f) (flat_map event_line fs) b))
+  lines_settle (e ∷ es) [] is also none bare same =
+      absurd (bare e (flat_map event_line es ++ a) is.0
+      (sym same ∙ append_assoc (event_line e) (flat_map event_line es) a))
+  lines_settle (e ∷ es) (f ∷ fs) is also none bare same =
+      let one = one_link e f (flat_map event_line es ++ a) (flat_map event_line fs ++ b) is.0 also.0
+      (sym (append_assoc (event_line e) (flat_map event_line es) a) ∙ same
+      ∙ append_assoc (event_line f) (flat_map event_line fs) b) in
+      let rest = lines_settle es fs is.1 also.1 none bare one.1 in
+      (ap (λ (x : LinkEvent). x ∷ es) one.0 ∙ ap (λ (xs : List LinkEvent). f ∷ xs) rest.0, rest.1)
 
 headers_settle : (m n : ℕ) (r s : List ℕ) → m ≤ 64 → n ≤ 64 → header_line m ++ r ≡ header_line n ++ s →
     (m ≡ n) × (r ≡ s)
@@ -120,15 +120,15 @@ headers_settle m n r s few less same =
     (sym (append_assoc (front m) (10 ∷ []) r) ∙ same ∙ append_assoc (front n) (10 ∷ []) s) in
     (decimal_injective m n (omega (arith, few)) (omega (arith, less)) (ap (drop 20) both.0), both.1)
 
-texts_settle : (m n : ℕ) (es fs : List LinkEvent) (a b : List ℕ) → m ≤ 64 → n ≤ 64 → AllByRecursion IsLinkEvent es →
-    AllByRecursion IsLinkEvent fs → HasNoLink a → HasNoLink b → links_text m es ++ a ≡ links_text n fs ++ b →
-    (m ≡ n) × (es ≡ fs) × (a ≡ b)
-texts_settle m n es fs a b few less is also none bare same =
-    let both = headers_settle m n (flat_map event_line es ++ a) (flat_map event_line fs ++ b) few less
-    (sym (append_assoc (header_line m) (flat_map event_line es) a) ∙ same
-    ∙ append_assoc (header_line n) (flat_map event_line fs) b) in
-    let rest = lines_settle es fs a b is also none bare both.1 in
-    (both.0, rest.0, rest.1)
+module _ (m n : ℕ) (es fs : List LinkEvent) (a b : List ℕ) where
+  texts_settle : m ≤ 64 → n ≤ 64 → AllByRecursion IsLinkEvent es → AllByRecursion IsLinkEvent fs → HasNoLink a →
+      HasNoLink b → links_text m es ++ a ≡ links_text n fs ++ b → (m ≡ n) × (es ≡ fs) × (a ≡ b)
+  texts_settle few less is also none bare same =
+      let both = headers_settle m n (flat_map event_line es ++ a) (flat_map event_line fs ++ b) few less
+      (sym (append_assoc (header_line m) (flat_map event_line es) a) ∙ same
+      ∙ append_assoc (header_line n) (flat_map event_line fs) b) in
+      let rest = lines_settle a b es fs is also none bare both.1 in
+      (both.0, rest.0, rest.1)
 
 -- a text tells one run
 pub tells_one : LinksStandForOne

@@ -57,14 +57,14 @@ abbrev grown : ℕ → ℕ
 grown n = min (n + 1) 255
 
 -- past a pile of another name
-past_count : (x y : Name) (p : Pile) (f : ℕ → ℕ) (n m : ℕ) (s t : Bool) → same_name x y ≡ s →
-    same_name p.name y ≡ t → same_name p.name x ≡ false →
-    (if t then p.count else if s then f n else m)
-    ≡ (if s then f (if same_name p.name x then p.count else n) else if t then p.count else m)
-past_count x y p f n m true true e g other = absurd (false≢true (sym other ∙ both_same x y p.name e g))
-past_count x y p f n m true false e g other = ap (λ (b : Bool). f (if b then p.count else n)) (sym other)
-past_count x y p f n m false true e g other = refl
-past_count x y p f n m false false e g other = refl
+module _ (x y : Name) (p : Pile) (f : ℕ → ℕ) (n m : ℕ) where
+  past_count : (s t : Bool) → same_name x y ≡ s → same_name p.name y ≡ t → same_name p.name x ≡ false →
+      (if t then p.count else if s then f n else m) ≡ (if s then f (if same_name p.name x then p.count else n)
+      else if t then p.count else m)
+  past_count true true e g other = absurd (false≢true (sym other ∙ both_same x y p.name e g))
+  past_count true false e g other = ap (λ (b : Bool). f (if b then p.count else n)) (sym other)
+  past_count false true e g other = refl
+  past_count false false e g other = refl
 
 -- at the pile of the name
 at_count : (x y : Name) (p : Pile) (f : ℕ → ℕ) (n m : ℕ) → same_name p.name x ≡ true →
@@ -85,18 +85,18 @@ new_count : (x y : Name) (qs : List Pile) → count_of x qs ≡ 0 →
     (if same_name x y then 1 else count_of y qs) ≡ (if same_name x y then grown (count_of x qs) else count_of y qs)
 new_count x y qs none = ap (λ (n : ℕ). if same_name x y then grown n else count_of y qs) (sym none)
 
-count_more_step : (x y : Name) (p : Pile) (ps : List Pile) (b c : Bool) → is_before p.name x ≡ b →
-    same_name p.name x ≡ c → Ascend (p ∷ ps) →
-    count_of y (more x ps) ≡ (if same_name x y then grown (count_of x ps) else count_of y ps) →
-    count_of y (if b then p ∷ more x ps else if c then risen p ∷ ps else one_of x ∷ p ∷ ps)
-    ≡ (if same_name x y then grown (count_of x (p ∷ ps)) else count_of y (p ∷ ps))
-count_more_step x y p ps true c e f up rest =
-    ap (λ (n : ℕ). if same_name p.name y then p.count else n) rest
-    ∙ past_count x y p grown (count_of x ps) (count_of y ps) (same_name x y) (same_name p.name y) refl refl
-    (apart (numbers_of p.name) (numbers_of x) e)
-count_more_step x y p ps false true e f up rest = at_count x y p grown (count_of x ps) (count_of y ps) f
-count_more_step x y p ps false false e f up rest =
-    new_count x y (p ∷ ps) (none_behind x (p ∷ ps) (first_before x p ps up e f)).none
+module _ (x y : Name) (p : Pile) (ps : List Pile) where
+  count_more_step : (b c : Bool) → is_before p.name x ≡ b → same_name p.name x ≡ c → Ascend (p ∷ ps) →
+      count_of y (more x ps) ≡ (if same_name x y then grown (count_of x ps) else count_of y ps) →
+      count_of y (if b then p ∷ more x ps else if c then risen p ∷ ps else one_of x ∷ p ∷ ps) ≡ (if same_name x
+      y then grown (count_of x (p ∷ ps)) else count_of y (p ∷ ps))
+  count_more_step true c e f up rest =
+      ap (λ (n : ℕ). if same_name p.name y then p.count else n) rest
+      ∙ past_count x y p grown (count_of x ps) (count_of y ps) (same_name x y) (same_name p.name y) refl refl
+      (apart (numbers_of p.name) (numbers_of x) e)
+  count_more_step false true e f up rest = at_count x y p grown (count_of x ps) (count_of y ps) f
+  count_more_step false false e f up rest =
+      new_count x y (p ∷ ps) (none_behind x (p ∷ ps) (first_before x p ps up e f)).none
 
 pub count_more : (x y : Name) (ps : List Pile) → Ascend ps →
     count_of y (more x ps) ≡ (if same_name x y then min (count_of x ps + 1) 255 else count_of y ps)
@@ -135,16 +135,16 @@ count_last x y p ps same few up =
         ap (λ (b : Bool). if b then p.count else count_of y ps)
         (sym (ap (λ n. same_name n y) (names_law p.name x same) ∙ e))
 
-count_fewer_step : (x y : Name) (p : Pile) (ps : List Pile) (b c : Bool) → same_name p.name x ≡ b →
-    nat_le p.count 1 ≡ c → Ascend (p ∷ ps) →
-    count_of y (fewer x ps) ≡ (if same_name x y then count_of x ps - 1 else count_of y ps) →
-    count_of y (if b then if c then ps else fallen p ∷ ps else p ∷ fewer x ps)
-    ≡ (if same_name x y then count_of x (p ∷ ps) - 1 else count_of y (p ∷ ps))
-count_fewer_step x y p ps true true e f up rest = count_last x y p ps e f up
-count_fewer_step x y p ps true false e f up rest = at_count x y p (λ n. n - 1) (count_of x ps) (count_of y ps) e
-count_fewer_step x y p ps false c e f up rest =
-    ap (λ (n : ℕ). if same_name p.name y then p.count else n) rest
-    ∙ past_count x y p (λ n. n - 1) (count_of x ps) (count_of y ps) (same_name x y) (same_name p.name y) refl refl e
+module _ (x y : Name) (p : Pile) (ps : List Pile) where
+  count_fewer_step : (b c : Bool) → same_name p.name x ≡ b → nat_le p.count 1 ≡ c → Ascend (p ∷ ps) →
+      count_of y (fewer x ps) ≡ (if same_name x y then count_of x ps - 1 else count_of y ps) →
+      count_of y (if b then if c then ps else fallen p ∷ ps else p ∷ fewer x ps) ≡ (if same_name x y then
+      count_of x (p ∷ ps) - 1 else count_of y (p ∷ ps))
+  count_fewer_step true true e f up rest = count_last x y p ps e f up
+  count_fewer_step true false e f up rest = at_count x y p (λ n. n - 1) (count_of x ps) (count_of y ps) e
+  count_fewer_step false c e f up rest =
+      ap (λ (n : ℕ). if same_name p.name y then p.count else n) rest
+      ∙ past_count x y p (λ n. n - 1) (count_of x ps) (count_of y ps) (same_name x y) (same_name p.name y) refl refl e
 
 pub count_fewer : (x y : Name) (ps : List Pile) → Ascend ps →
     count_of y (fewer x ps) ≡ (if same_name x y then count_of x ps - 1 else count_of y ps)
@@ -153,12 +153,12 @@ count_fewer x y (p ∷ ps) up =
     count_fewer_step x y p ps (same_name p.name x) (nat_le p.count 1) refl refl up (count_fewer x y ps up.1)
 
 -- ---- the order stays
-behind_more_step : (w x : Name) (p : Pile) (ps rest : List Pile) (b c : Bool) → is_before w x ≡ true →
-    Behind w (p ∷ ps) → Behind w rest →
-    Behind w (if b then p ∷ rest else if c then risen p ∷ ps else one_of x ∷ p ∷ ps)
-behind_more_step w x p ps rest true c e all after = (all.0, after)
-behind_more_step w x p ps rest false true e all after = all
-behind_more_step w x p ps rest false false e all after = (e, all)
+module _ (w x : Name) (p : Pile) (ps rest : List Pile) where
+  behind_more_step : (b c : Bool) → is_before w x ≡ true → Behind w (p ∷ ps) → Behind w rest →
+      Behind w (if b then p ∷ rest else if c then risen p ∷ ps else one_of x ∷ p ∷ ps)
+  behind_more_step true c e all after = (all.0, after)
+  behind_more_step false true e all after = all
+  behind_more_step false false e all after = (e, all)
 
 behind_more : (w x : Name) (ps : List Pile) → is_before w x ≡ true → Behind w ps → Behind w (more x ps)
 behind_more w x [] e all = (e, tt)
@@ -166,12 +166,12 @@ behind_more w x (p ∷ ps) e all =
     behind_more_step w x p ps (more x ps) (is_before p.name x) (same_name p.name x) e all
     (behind_more w x ps e all.1)
 
-more_step : (x : Name) (p : Pile) (ps : List Pile) (b c : Bool) → is_before p.name x ≡ b →
-    same_name p.name x ≡ c → Ascend (p ∷ ps) → Ascend (more x ps) →
-    Ascend (if b then p ∷ more x ps else if c then risen p ∷ ps else one_of x ∷ p ∷ ps)
-more_step x p ps true c e f up rest = (behind_more p.name x ps e up.0, rest)
-more_step x p ps false true e f up rest = up
-more_step x p ps false false e f up rest = (first_before x p ps up e f, up)
+module _ (x : Name) (p : Pile) (ps : List Pile) where
+  more_step : (b c : Bool) → is_before p.name x ≡ b → same_name p.name x ≡ c → Ascend (p ∷ ps) →
+      Ascend (more x ps) → Ascend (if b then p ∷ more x ps else if c then risen p ∷ ps else one_of x ∷ p ∷ ps)
+  more_step true c e f up rest = (behind_more p.name x ps e up.0, rest)
+  more_step false true e f up rest = up
+  more_step false false e f up rest = (first_before x p ps up e f, up)
 
 pub more_ascends : (x : Name) (ps : List Pile) → Ascend ps → Ascend (more x ps)
 more_ascends x [] up = (tt, tt)

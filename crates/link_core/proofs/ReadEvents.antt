@@ -19,25 +19,26 @@ some_line : (e : LinkEvent) (rest : List ℕ) → 0 < length (event_line e ++ re
 some_line e rest =
     omega (arith, length-append (event_line e) rest, length-append (event_front e) (10 ∷ []))
 
-pub front_more : (machines : ℕ) (done new : List LinkEvent) (rest behind : List ℕ) (event : LinkEvent) (m : ℕ)
-    (es : List LinkEvent) → 0 < length rest → new ≡ done ++ event ∷ [] →
-    ((e : LinkEvent) (b : List ℕ) → IsLinkEvent e → rest ≡ event_line e ++ b → (event ≡ e) × (behind ≡ b)) →
-    IsFront machines done rest m es → IsFront machines new behind m es
-front_more machines done new rest behind event m es some n read front = by front.others front.is front.each front.left
-  where
-    by : (others : List LinkEvent) → es ≡ done ++ others → AllByRecursion IsLinkEvent others →
-        rest ≡ flat_map event_line others → IsFront machines new behind m es
-    by [] is each left = absurd (omega (arith, ap length left, some))
-    by (e ∷ os) is each left =
-        let one = read e (flat_map event_line os) each.0 left in
-        record {
-          same = front.same;
-          others = os;
-          is = is ∙ ap (λ x. done ++ x ∷ os) (sym one.0) ∙ sym (append_assoc done (event ∷ []) os)
-              ∙ ap (λ xs. xs ++ os) (sym n);
-          each = each.1;
-          left = one.1;
-        }
+module _ (machines : ℕ) (done new : List LinkEvent) (rest behind : List ℕ) (event : LinkEvent) (m : ℕ)
+    (es : List LinkEvent) where
+  pub front_more : 0 < length rest → new ≡ done ++ event ∷ [] →
+      ((e : LinkEvent) (b : List ℕ) → IsLinkEvent e → rest ≡ event_line e ++ b → (event ≡ e) × (behind ≡ b)) →
+      IsFront machines done rest m es → IsFront machines new behind m es
+  front_more some n read front = by front.others front.is front.each front.left
+    where
+      by : (others : List LinkEvent) → es ≡ done ++ others → AllByRecursion IsLinkEvent others →
+          rest ≡ flat_map event_line others → IsFront machines new behind m es
+      by [] is each left = absurd (omega (arith, ap length left, some))
+      by (e ∷ os) is each left =
+          let one = read e (flat_map event_line os) each.0 left in
+          record {
+            same = front.same;
+            others = os;
+            is = is ∙ ap (λ x. done ++ x ∷ os) (sym one.0) ∙ sym (append_assoc done (event ∷ []) os)
+                ∙ ap (λ xs. xs ++ os) (sym n);
+            each = each.1;
+            left = one.1;
+          }
 
 pub front_bad : (machines : ℕ) (done : List LinkEvent) (rest : List ℕ) (m : ℕ) (es : List LinkEvent) →
     0 < length rest → ((e : LinkEvent) (b : List ℕ) → IsLinkEvent e → rest ≡ event_line e ++ b → ⊥) →
@@ -89,18 +90,18 @@ more_is machines done new event is one n =
           (all_append IsLinkEvent done (event ∷ []) is.each (one, tt));
     }
 
-pub more : (text : List ℕ) (machines : ℕ) (done new : List LinkEvent) (event : LinkEvent) (rest behind : List ℕ) →
-    text ≡ links_text machines done ++ rest → rest ≡ event_line event ++ behind → new ≡ done ++ event ∷ [] →
-    text ≡ links_text machines new ++ behind
-more text machines done new event rest behind spelled line n =
-    let header = header_line machines in
-    let lines = flat_map event_line done in
-    let last = event_line event in
-    let joined : flat_map event_line (done ++ event ∷ []) ≡ lines ++ last =
-    flat_map-append event_line done (event ∷ []) ∙ ap (λ t. lines ++ t) (append-nil last) in
-    spelled
-    ∙ ap (λ t. (header ++ lines) ++ t) line
-    ∙ sym (append_assoc (header ++ lines) last behind)
-    ∙ ap (λ t. t ++ behind) (append_assoc header lines last)
-    ∙ ap (λ t. (header ++ t) ++ behind) (sym joined)
-    ∙ ap (λ xs. links_text machines xs ++ behind) (sym n)
+module _ (text : List ℕ) (machines : ℕ) (done new : List LinkEvent) (event : LinkEvent) (rest behind : List ℕ) where
+  pub more : text ≡ links_text machines done ++ rest → rest ≡ event_line event ++ behind →
+      new ≡ done ++ event ∷ [] → text ≡ links_text machines new ++ behind
+  more spelled line n =
+      let header = header_line machines in
+      let lines = flat_map event_line done in
+      let last = event_line event in
+      let joined : flat_map event_line (done ++ event ∷ []) ≡ lines ++ last =
+      flat_map-append event_line done (event ∷ []) ∙ ap (λ t. lines ++ t) (append-nil last) in
+      spelled
+      ∙ ap (λ t. (header ++ lines) ++ t) line
+      ∙ sym (append_assoc (header ++ lines) last behind)
+      ∙ ap (λ t. t ++ behind) (append_assoc header lines last)
+      ∙ ap (λ t. (header ++ t) ++ behind) (sym joined)
+      ∙ ap (λ xs. links_text machines xs ++ behind) (sym n)

@@ -79,14 +79,15 @@ names_behind work sound lawful s t is =
     ∙ sym (lawful.sent_names s)
 
 -- ---- a machine's spot is one of its ring
-spot_of : (ring : Ring) (m : ℕ) (ruling : Ruling) (spot : Spot) (round limit : ℕ) → HasSpot ring m ruling spot →
-    round ≡ round_of round spot → round ≤ limit + 1 → limit ≤ 10000 → IsSpotOf ring spot
-spot_of ring m ruling Tell round limit has at within few = tt
-spot_of ring m ruling (Judge r) round limit has at within few = omega arith
-spot_of ring m ruling (Begin r) round limit has at within few = omega arith
-spot_of ring m ruling (Scan r s h) round limit has at within few = (omega arith, has.1, has.2)
-spot_of ring m ruling (Close r dense) round limit has at within few = omega arith
-spot_of ring m ruling Over round limit has at within few = tt
+module _ (ring : Ring) (m : ℕ) (ruling : Ruling) where
+  spot_of : (spot : Spot) (round limit : ℕ) → HasSpot ring m ruling spot → round ≡ round_of round spot →
+      round ≤ limit + 1 → limit ≤ 10000 → IsSpotOf ring spot
+  spot_of Tell round limit has at within few = tt
+  spot_of (Judge r) round limit has at within few = omega arith
+  spot_of (Begin r) round limit has at within few = omega arith
+  spot_of (Scan r s h) round limit has at within few = (omega arith, has.1, has.2)
+  spot_of (Close r dense) round limit has at within few = omega arith
+  spot_of Over round limit has at within few = tt
 
 module _ (work : Work) (sound : State → Type 0) (lawful : IsLawful work sound) (w : World)
     (r : IsReached work sound w) where

@@ -105,16 +105,16 @@ not_there x xs none =
     (λ (e : has_name x xs ≡ false). e)
     (cases_Bool (has_name x xs))
 
-once_sent_step : (x y : Name) (ys : List Name) (t : Traffic) (b : Bool) → IsTraffic t → same_name x y ≡ b →
-    Once (y ∷ ys) → (b || has_name x ys) ≡ true →
-    (has_name x ys ≡ true → counts_of x (all_sent ys (sent y t)) ≡ grown (counts_of x (sent y t))) →
-    counts_of x (all_sent ys (sent y t)) ≡ grown (counts_of x t)
-once_sent_step x y ys t true is e once there rest =
-    let same : x ≡ y = names_law x y e in
-    none_sent x ys (sent y t) (sent_is y t is) (not_there x ys (subst (λ z. Has ys z → ⊥) (sym same) once.0))
-    ∙ subst (λ z. counts_of x (sent z t) ≡ grown (counts_of x t)) same (counts_same x t is)
-once_sent_step x y ys t false is e once there rest =
-    rest there ∙ ap grown (counts_other x y t is (same_swap y x ∙ e))
+module _ (x y : Name) (ys : List Name) (t : Traffic) where
+  once_sent_step : (b : Bool) → IsTraffic t → same_name x y ≡ b → Once (y ∷ ys) → (b || has_name x ys) ≡ true →
+      (has_name x ys ≡ true → counts_of x (all_sent ys (sent y t)) ≡ grown (counts_of x (sent y t))) →
+      counts_of x (all_sent ys (sent y t)) ≡ grown (counts_of x t)
+  once_sent_step true is e once there rest =
+      let same : x ≡ y = names_law x y e in
+      none_sent x ys (sent y t) (sent_is y t is) (not_there x ys (subst (λ z. Has ys z → ⊥) (sym same) once.0))
+      ∙ subst (λ z. counts_of x (sent z t) ≡ grown (counts_of x t)) same (counts_same x t is)
+  once_sent_step false is e once there rest =
+      rest there ∙ ap grown (counts_other x y t is (same_swap y x ∙ e))
 
 -- a name that is among them, once, has one more of both
 pub once_sent : (x : Name) (xs : List Name) (t : Traffic) → IsTraffic t → Once xs → has_name x xs ≡ true →

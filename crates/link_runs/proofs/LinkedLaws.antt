@@ -45,26 +45,37 @@ not_over w e ends = by_test (finished w) refl
     by_test true is = let none : Some e ≡ None = ends.1 is in cc
 
 -- a recording from the first state of the machines of a graph's parts
-pub lossy_runs : (work : Work) (play : Play) (seed : ℕ) (name : List ℕ) (l : Linked) → AreMachines play.machines →
-    IsFirstWorld work play.program play.graph play.machines play.draws l.world → l ≡ linked_anew l.world →
-    (old new : Outside) (outcome : Option Fault) →
-    RecordsOn (by_links work play.lines) (links_text play.machines) (IsDrawnFar work play.machines) name [] l
-    (generator_of seed) old new outcome → Goes (IsLossyPlay work play seed name) old new outcome
-lossy_runs work play seed name l few is_first anew old new outcome on =
-    let at = subst (λ (k : Linked). RecordsOn (by_links work play.lines) (links_text play.machines)
-    (IsDrawnFar work play.machines) name [] k (generator_of seed) old new outcome) anew on in
-    Ran (recorded_as (by_links work play.lines) (links_text play.machines) name [] (linked_anew l.world) at.events)
-    (record { first = l.world; is_first = is_first; events = at.events; few = few; drawn = at.drawn; course_is = refl })
-    at.leaves
+module _ (work : Work) (play : Play) (seed : ℕ) (name : List ℕ) (l : Linked) where
+  pub lossy_runs : AreMachines play.machines →
+      IsFirstWorld work play.program play.graph play.machines play.draws l.world → l ≡ linked_anew l.world →
+      (old new : Outside) (outcome : Option Fault) →
+      RecordsOn (by_links work play.lines) (links_text play.machines) (IsDrawnFar work play.machines) name [] l
+      (generator_of seed) old new outcome → Goes (IsLossyPlay work play seed name) old new outcome
+  lossy_runs few is_first anew old new outcome on =
+      let at = subst (λ (k : Linked). RecordsOn (by_links work play.lines) (links_text play.machines)
+      (IsDrawnFar work play.machines) name [] k (generator_of seed) old new outcome) anew on in
+      Ran (recorded_as (by_links work play.lines) (links_text play.machines) name [] (linked_anew l.world) at.events)
+      (record {
+        first = l.world;
+        is_first = is_first;
+        events = at.events;
+        few = few;
+        drawn = at.drawn;
+        course_is =
+            refl;
+      })
+      at.leaves
 
 -- a followed text from there
-pub linked_follows : (work : Work) (play : Play) (events : List LinkEvent) (l : Linked) →
-    IsFirstWorld work play.program play.graph play.machines play.draws l.world → l ≡ linked_anew l.world →
-    (old new : Held) (outcome : Option Fault) →
-    FollowsUp (by_links work play.lines) l (listed_links 1 events) old new outcome → (shelf : Kept) (input : Left) →
-    Goes (IsLinkedPlay work play events) (outside shelf old input) (outside shelf new input) outcome
-linked_follows work play events l is_first anew old new outcome up shelf input =
-    let at = subst (λ (k : Linked). FollowsUp (by_links work play.lines) k (listed_links 1 events) old new outcome) anew
-    up in
-    Ran (followed_as (by_links work play.lines) (linked_anew l.world) (listed_links 1 events))
-    (record { first = l.world; is_first = is_first; course_is = refl }) (at shelf input)
+module _ (work : Work) (play : Play) (events : List LinkEvent) (l : Linked) where
+  pub linked_follows : IsFirstWorld work play.program play.graph play.machines play.draws l.world →
+      l ≡ linked_anew l.world → (old new : Held) (outcome : Option Fault) →
+      FollowsUp (by_links work play.lines) l (listed_links 1 events) old new outcome →
+      (shelf : Kept) (input : Left) →
+      Goes (IsLinkedPlay work play events) (outside shelf old input) (outside shelf new input) outcome
+  linked_follows is_first anew old new outcome up shelf input =
+      let at = subst (λ (k : Linked). FollowsUp (by_links work play.lines) k (listed_links 1 events) old new
+      outcome) anew
+      up in
+      Ran (followed_as (by_links work play.lines) (linked_anew l.world) (listed_links 1 events))
+      (record { first = l.world; is_first = is_first; course_is = refl }) (at shelf input)

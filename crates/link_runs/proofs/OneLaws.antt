@@ -89,33 +89,36 @@ long_behind machines Ends added e es (inr long) = inr (subst (λ (xs : List Link
     SCHEDULE_BYTES < length (links_text machines xs)) (sym (append_assoc added (e ∷ []) es)) long)
 
 -- of machines
-pub one_drawn : (work : Work) (lines : Lines) (name : List ℕ) (machines : ℕ) (added : List LinkEvent) (l : Linked)
-    (g : Lcg) (es fs : List LinkEvent) → length (links_text machines added) ≤ SCHEDULE_BYTES →
-    IsDrawnFar work machines added l g es → IsDrawnFar work machines added l g fs →
-    recorded_as (by_links work lines) (links_text machines) name added l es
-    ≡ recorded_as (by_links work lines) (links_text machines) name added l fs
-one_drawn work lines name machines =
-    one_far (by_links work lines) (λ l. finished l.world) link_drawn name machines (IsDrawnFar work machines) (record {
-      on = λ added l g e es is. (is.0.0, is.0.1);
-      behind = λ added l g e es is.
-          (is.0.2, long_behind machines (finished (link_after work l (e ∷ es)).world ≡ true) added e es is.1);
-      ends = λ added l g is. is.1;
-    })
+module _ (work : Work) (lines : Lines) (name : List ℕ) (machines : ℕ) where
+  pub one_drawn : (added : List LinkEvent) (l : Linked) (g : Lcg) (es fs : List LinkEvent) →
+      length (links_text machines added) ≤ SCHEDULE_BYTES → IsDrawnFar work machines added l g es →
+      IsDrawnFar work machines added l g fs →
+      recorded_as (by_links work lines) (links_text machines) name added l es ≡ recorded_as (by_links work
+      lines) (links_text machines) name added l fs
+  one_drawn =
+      one_far (by_links work lines) (λ l. finished l.world) link_drawn name machines (IsDrawnFar work machines)
+      (record {
+        on = λ added l g e es is. (is.0.0, is.0.1);
+        behind = λ added l g e es is.
+            (is.0.2, long_behind machines (finished (link_after work l (e ∷ es)).world ≡ true) added e es is.1);
+        ends = λ added l g is. is.1;
+      })
 
 -- of the source's run
-pub one_in_order : (lines : Lines) (src : Source) (name : List ℕ) (machines : ℕ) (added : List LinkEvent)
-    (s : Ordered) (g : Lcg) (es fs : List LinkEvent) → length (links_text machines added) ≤ SCHEDULE_BYTES →
-    IsFarOrder src machines added s g es → IsFarOrder src machines added s g fs →
-    recorded_as (by_source_links lines src) (links_text machines) name added s es
-    ≡ recorded_as (by_source_links lines src) (links_text machines) name added s fs
-one_in_order lines src name machines =
-    one_far (by_source_links lines src) (λ s. is_finished s.order) (next_drawn (ring_in src)) name machines
-    (IsFarOrder src machines) (record {
-      on = λ added s g e es is. (is.0.0, is.0.1);
-      behind = λ added s g e es is.
-          (is.0.2, long_behind machines (is_finished (ordered_after src s (e ∷ es)).order ≡ true) added e es is.1);
-      ends = λ added s g is. is.1;
-    })
+module _ (lines : Lines) (src : Source) (name : List ℕ) (machines : ℕ) where
+  pub one_in_order : (added : List LinkEvent) (s : Ordered) (g : Lcg) (es fs : List LinkEvent) →
+      length (links_text machines added) ≤ SCHEDULE_BYTES → IsFarOrder src machines added s g es →
+      IsFarOrder src machines added s g fs →
+      recorded_as (by_source_links lines src) (links_text machines) name added s es ≡ recorded_as
+      (by_source_links lines src) (links_text machines) name added s fs
+  one_in_order =
+      one_far (by_source_links lines src) (λ s. is_finished s.order) (next_drawn (ring_in src)) name machines
+      (IsFarOrder src machines) (record {
+        on = λ added s g e es is. (is.0.0, is.0.1);
+        behind = λ added s g e es is.
+            (is.0.2, long_behind machines (is_finished (ordered_after src s (e ∷ es)).order ≡ true) added e es is.1);
+        ends = λ added s g is. is.1;
+      })
 
 -- ---- how long a text is
 -- the first line alone is within the limit

@@ -151,21 +151,22 @@ module _ (work : Work) (lines : Lines) where
       record { can = refl; lacks = is; text = λ quiet. append-nil (table_of work l.world) }
   at_last l (Some what) is fine = absurd (cc)
 
-  at_event : (l : Linked) (e : LinkEvent) (es : List LinkEvent) (line : ℕ) (rest : Course) →
-      (course_end rest ≡ None → ComesToEnd (link_step work l e) es rest) → (o : Option LinkFault) →
-      link_fault_of l e ≡ o →
-      course_end (unless_refused (option_map (why_not e) o) line (told_event (by_links work lines) l e rest)) ≡ None →
-      ComesToEnd l (e ∷ es)
-      (unless_refused (option_map (why_not e) o) line (told_event (by_links work lines) l e rest))
-  at_event l e es line rest more None is fine =
-      let behind = more fine in record {
-        can = and_from (link_possible l e) (links_possible work (link_step work l e) es) (link_not_refused l e is)
-            behind.can;
-        lacks = behind.lacks;
-        text = λ quiet. link_text_behind work lines quiet l e (plain_part work (link_step work l e) es)
-            (course_text rest) (behind.text quiet);
-      }
-  at_event l e es line rest more (Some why) is fine = absurd (cc)
+  module _ (l : Linked) (e : LinkEvent) (es : List LinkEvent) (line : ℕ) (rest : Course) where
+    at_event : (course_end rest ≡ None → ComesToEnd (link_step work l e) es rest) → (o : Option LinkFault) →
+        link_fault_of l e ≡ o →
+        course_end (unless_refused (option_map (why_not e) o) line (told_event (by_links work lines) l e rest))
+        ≡ None →
+        ComesToEnd l (e ∷ es) (unless_refused (option_map (why_not e) o) line (told_event (by_links work lines)
+        l e rest))
+    at_event more None is fine =
+        let behind = more fine in record {
+          can = and_from (link_possible l e) (links_possible work (link_step work l e) es) (link_not_refused l e is)
+              behind.can;
+          lacks = behind.lacks;
+          text = λ quiet. link_text_behind work lines quiet l e (plain_part work (link_step work l e) es)
+              (course_text rest) (behind.text quiet);
+        }
+    at_event more (Some why) is fine = absurd (cc)
 
   pub followed_over_plain : (count : ℕ) (l : Linked) (es : List LinkEvent) →
       course_end (followed_as (by_links work lines) l (listed_links count es)) ≡ None →

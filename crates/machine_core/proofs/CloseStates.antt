@@ -14,17 +14,18 @@ use Rattle.work_laws.proofs.Closes.{close_go_fits}
 use Rattle.vertex_work.specs.Closing.{Closes}
 
 -- a state with what the close leaves is the closed one
-pub closed_state : (s : State) (r : ℕ) (dense : Bool) (own : List Row) (came : List (List Partial))
-    (loops : List LoopState) (reading reads : List (List ℕ)) → Closes s r dense own came loops →
-    reading ≡ map (λ v. []) (targets s) → reads ≡ s.reading →
-    record s { rows = own; partials = came; ring = loops; reading = reading; reads = reads } ≡ close_go s r dense
-closed_state s r dense own came loops reading reads closes none turned = λ j. record s {
-  rows = closes.rows j;
-  partials = closes.partials j;
-  ring = closes.ring j;
-  reading = none j;
-  reads = turned j;
-}
+module _ (s : State) (r : ℕ) (dense : Bool) (own : List Row) (came : List (List Partial))
+    (loops : List LoopState) (reading reads : List (List ℕ)) where
+  pub closed_state : Closes s r dense own came loops → reading ≡ map (λ v. []) (targets s) → reads ≡ s.reading →
+      record s { rows = own; partials = came; ring = loops; reading = reading; reads = reads } ≡ close_go s r
+      dense
+  closed_state closes none turned = λ j. record s {
+    rows = closes.rows j;
+    partials = closes.partials j;
+    ring = closes.ring j;
+    reading = none j;
+    reads = turned j;
+  }
 
 -- it keeps what a core keeps
 pub closed_sound : (s : State) (r : ℕ) (dense : Bool) → s.at.spot ≡ Close r dense → ∥ core_sound s ∥₁ →

@@ -96,19 +96,20 @@ module _ (m : ℕ) (held : List Letter) where
       [ true ↦ λ on. h refl | false ↦ λ on. none (k + 1) ]
   stays ring ruling r Over h = λ on. cc
 
-pub moved_buffer : (ring : Ring) (p m round : ℕ) (spot : Spot) (ruling : Ruling) (held new : Held) →
-    round ≡ round_of round spot → IsBuffer p m round spot held →
-    new ≡ record held { letters = held_at (next_spot ring m spot ruling) held.letters } →
-    IsBuffer p m (round_of (round_ruled round spot) (next_spot ring m spot ruling)) (next_spot ring m spot ruling) new
-moved_buffer ring p m round spot ruling held new of_spot buffer is =
-    subst (IsBuffer p m (round_of (round_ruled round spot) (next_spot ring m spot ruling))
-    (next_spot ring m spot ruling))
-    (sym is)
-    (record {
-      machines = buffer.machines;
-      together = stays m held.letters ring ruling round spot
-          (λ on. subst (λ (r : ℕ). AreOfRound r m held.letters) of_spot (buffer.together on));
-    })
+module _ (ring : Ring) (p m round : ℕ) (spot : Spot) (ruling : Ruling) (held new : Held) where
+  pub moved_buffer : round ≡ round_of round spot → IsBuffer p m round spot held →
+      new ≡ record held { letters = held_at (next_spot ring m spot ruling) held.letters } →
+      IsBuffer p m (round_of (round_ruled round spot) (next_spot ring m spot ruling)) (next_spot ring m spot
+      ruling) new
+  moved_buffer of_spot buffer is =
+      subst (IsBuffer p m (round_of (round_ruled round spot) (next_spot ring m spot ruling))
+      (next_spot ring m spot ruling))
+      (sym is)
+      (record {
+        machines = buffer.machines;
+        together = stays m held.letters ring ruling round spot
+            (λ on. subst (λ (r : ℕ). AreOfRound r m held.letters) of_spot (buffer.together on));
+      })
 
 -- no action leads back to the first spot
 pub never_first : (ring : Ring) (m : ℕ) (spot : Spot) (ruling : Ruling) → next_spot ring m spot ruling ≢ Tell
@@ -132,31 +133,32 @@ never_first ring m (Close r dense) ruling = elim (m == 0) as (λ b. (if b then J
 never_first ring m Over ruling = λ e. cc
 
 -- where machine 0 stands in a round from 1 on, it has judged
-summed_zero : (ring : Ring) (ruling : Ruling) (r : ℕ) (spot : Spot) (n t : ℕ) → r ≡ round_of r spot →
-    (1 ≤ r → n ≡ t) → ((k : ℕ) → spot ≡ Judge k → n ≡ t) →
-    1 ≤ round_of (round_ruled r spot) (next_spot ring 0 spot ruling) → n ≡ t
-summed_zero ring ruling r Tell n t e old judge low = absurd (omega arith)
-summed_zero ring ruling r (Judge k) n t e old judge low = judge k refl
-summed_zero ring Stop r (Begin k) n t e old judge low = old (omega arith)
-summed_zero ring Dense r (Begin k) n t e old judge low = old (omega arith)
-summed_zero ring Sparse r (Begin k) n t e old judge low = old (omega arith)
-summed_zero ring ruling r (Scan k s h) n t e old judge low =
-    by (h == 0) (nat_lt s (ring.machines - 1)) low
-  where
-    by : (a b : Bool) →
-        1 ≤ round_of k (if a then Scan k s 1 else if b then Scan k (s + 1) 0 else Close k true) → n ≡ t
-    by true b low = old (omega arith)
-    by false true low = old (omega arith)
-    by false false low = old (omega arith)
-summed_zero ring ruling r (Close k dense) n t e old judge low = old (omega arith)
-summed_zero ring ruling r Over n t e old judge low = old low
+module _ (ring : Ring) (r n t : ℕ) where
+  summed_zero : (ruling : Ruling) (spot : Spot) → r ≡ round_of r spot → (1 ≤ r → n ≡ t) →
+      ((k : ℕ) → spot ≡ Judge k → n ≡ t) → 1 ≤ round_of (round_ruled r spot) (next_spot ring 0 spot ruling) →
+      n ≡ t
+  summed_zero ruling Tell e old judge low = absurd (omega arith)
+  summed_zero ruling (Judge k) e old judge low = judge k refl
+  summed_zero Stop (Begin k) e old judge low = old (omega arith)
+  summed_zero Dense (Begin k) e old judge low = old (omega arith)
+  summed_zero Sparse (Begin k) e old judge low = old (omega arith)
+  summed_zero ruling (Scan k s h) e old judge low =
+      by (h == 0) (nat_lt s (ring.machines - 1)) low
+    where
+      by : (a b : Bool) →
+          1 ≤ round_of k (if a then Scan k s 1 else if b then Scan k (s + 1) 0 else Close k true) → n ≡ t
+      by true b low = old (omega arith)
+      by false true low = old (omega arith)
+      by false false low = old (omega arith)
+  summed_zero ruling (Close k dense) e old judge low = old (omega arith)
+  summed_zero ruling Over e old judge low = old low
 
-pub summed_onward : (ring : Ring) (m : ℕ) (ruling : Ruling) (r : ℕ) (spot : Spot) (n t : ℕ) → r ≡ round_of r spot →
-    (1 ≤ r → n ≡ t) → ((k : ℕ) → spot ≡ Judge k → n ≡ t) → m ≡ 0 →
-    1 ≤ round_of (round_ruled r spot) (next_spot ring m spot ruling) → n ≡ t
-summed_onward ring m ruling r spot n t e old judge zeroth low =
-    summed_zero ring ruling r spot n t e old judge
-    (subst (λ (k : ℕ). 1 ≤ round_of (round_ruled r spot) (next_spot ring k spot ruling)) zeroth low)
+module _ (ring : Ring) (m : ℕ) (ruling : Ruling) (r : ℕ) (spot : Spot) (n t : ℕ) where
+  pub summed_onward : r ≡ round_of r spot → (1 ≤ r → n ≡ t) → ((k : ℕ) → spot ≡ Judge k → n ≡ t) → m ≡ 0 →
+      1 ≤ round_of (round_ruled r spot) (next_spot ring m spot ruling) → n ≡ t
+  summed_onward e old judge zeroth low =
+      summed_zero ring r n t ruling spot e old judge
+      (subst (λ (k : ℕ). 1 ≤ round_of (round_ruled r spot) (next_spot ring k spot ruling)) zeroth low)
 
 -- the begin of a round keeps what a core keeps, and so does what is left to do
 pub begun_sound : (s : State) (r : ℕ) → s.at.spot ≡ Begin r → ∥ core_sound s ∥₁ → ∥ core_sound (begin_go s r) ∥₁

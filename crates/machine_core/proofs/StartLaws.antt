@@ -20,16 +20,17 @@ use Rattle.symple_face.proofs.ChunkLaws.{lies_within}
 use Rattle.work_laws.proofs.Sees.{among_lies}
 
 -- the row of the own vertex at a place is among those of all
-pub own_within : (part : PlainPart) (split : Split) → CanRun part split → (before place : ℕ) (all : List Row) →
-    before ≡ start_of part.ends part.at.machine → length all ≡ vertices_of part.ends →
-    place < length (chunk_vertices part.ends part.at.machine) → before + place < length all
-own_within part split can before place all starts whole low =
-    let at = can.place in
-    let ends = can.whole.machine in
-    let v : ℕ = start_of part.ends part.at.machine + place in
-    let within = lies_within 64 part.ends can.ends part.at.machine v (omega (arith, at, ends))
-    (among_lies part v (omega arith, omega (arith, low))) in
-    omega (arith, within, starts, whole)
+module _ (part : PlainPart) (split : Split) where
+  pub own_within : CanRun part split → (before place : ℕ) (all : List Row) →
+      before ≡ start_of part.ends part.at.machine → length all ≡ vertices_of part.ends →
+      place < length (chunk_vertices part.ends part.at.machine) → before + place < length all
+  own_within can before place all starts whole low =
+      let at = can.place in
+      let ends = can.whole.machine in
+      let v : ℕ = start_of part.ends part.at.machine + place in
+      let within = lies_within 64 part.ends can.ends part.at.machine v (omega (arith, at, ends))
+      (among_lies part v (omega arith, omega (arith, low))) in
+      omega (arith, within, starts, whole)
 
 -- a row that was read is that at its place
 pub row_read : (rows : List Row) (v : ℕ) (row : Row) → v < length rows → row ≡ get_or rows v row → row ≡ row_at rows v

@@ -27,14 +27,13 @@ active_more rows i one lt is =
     (length-cond (row_at rows i).active (row_at rows i) ∙ sym is)
 
 -- the edges of the vertex at a place
-pub edges_here : (rows : List Row) (degrees : List Degree) (place x : ℕ) (d : Degree) (active : Bool)
-    → place < length degrees →
-    x ≡ (if active then (get_or degrees place d).outs else 0) → active ≡ (row_at rows place).active
-    → x ≡ edges_at rows degrees place
-edges_here rows degrees place x d active lt is flag =
-    is
-    ∙ ap (λ (e : Degree). if active then e.outs else 0) (get_or_default degrees place d no_degree lt)
-    ∙ ap (λ b. if b then (get_or degrees place no_degree).outs else 0) flag
+module _ (rows : List Row) (degrees : List Degree) (place x : ℕ) (d : Degree) (active : Bool) where
+  pub edges_here : place < length degrees → x ≡ (if active then (get_or degrees place d).outs else 0) →
+      active ≡ (row_at rows place).active → x ≡ edges_at rows degrees place
+  edges_here lt is flag =
+      is
+      ∙ ap (λ (e : Degree). if active then e.outs else 0) (get_or_default degrees place d no_degree lt)
+      ∙ ap (λ b. if b then (get_or degrees place no_degree).outs else 0) flag
 
 -- one number more
 pub sum_more : (f : ℕ → ℕ) (n x : ℕ) → x ≡ f n → sum (map f (range_with_len 0 (n + 1)))

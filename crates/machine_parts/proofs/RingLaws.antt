@@ -18,41 +18,43 @@ marks_in (m ∷ marks) [] e = absurd (omega arith)
 marks_in (m ∷ marks) (ws ∷ lists) e = ap (λ ms. m ∷ ms) (marks_in marks lists (omega arith))
 
 -- what is sent of one vertex more is written
-pub sent_more : (bytes new : List ℕ) (states : List State) (i : ℕ) (state : State) (whole : List ℕ) → i < length states
-    → state ≡ state_at states i → new ≡ bytes ++ sent_bytes state →
-    bytes ++ flat_map sent_bytes (drop i states) ≡ whole → new ++ flat_map sent_bytes (drop (i + 1) states) ≡ whole
-sent_more bytes new states i state whole within read pushed all =
-    let rest = flat_map sent_bytes (drop (i + 1) states) in
-    ap (λ front. front ++ rest) pushed
-    ∙ append_assoc bytes (sent_bytes state) rest
-    ∙ ap (λ s. bytes ++ (sent_bytes s ++ rest)) read
-    ∙ sym (ap (λ ss. bytes ++ flat_map sent_bytes ss) (drop_more states i (fresh_state 0) within))
-    ∙ all
+module _ (bytes new : List ℕ) (states : List State) (i : ℕ) (state : State) (whole : List ℕ) where
+  pub sent_more : i < length states → state ≡ state_at states i → new ≡ bytes ++ sent_bytes state →
+      bytes ++ flat_map sent_bytes (drop i states) ≡ whole →
+      new ++ flat_map sent_bytes (drop (i + 1) states) ≡ whole
+  sent_more within read pushed all =
+      let rest = flat_map sent_bytes (drop (i + 1) states) in
+      ap (λ front. front ++ rest) pushed
+      ∙ append_assoc bytes (sent_bytes state) rest
+      ∙ ap (λ s. bytes ++ (sent_bytes s ++ rest)) read
+      ∙ sym (ap (λ ss. bytes ++ flat_map sent_bytes ss) (drop_more states i (fresh_state 0) within))
+      ∙ all
 
 -- one state more is read
-pub read_more : (width : ℕ) (pairs : List ℕ) (i : ℕ) (states new : List State) (mark : Mark) (rest others : List ℕ)
-    (whole : List State) → i < length pairs → i < length states → mark ≡ mark_with (get_or pairs i 0)
-    → new ≡ set states i (state_with width mark rest) → others ≡ words_behind width mark rest
-    → take i states ++ states_in width (drop i pairs) rest ≡ whole
-    → take (i + 1) new ++ states_in width (drop (i + 1) pairs) others ≡ whole
-read_more width pairs i states new mark rest others whole within inside here put behind all =
-    let one = state_with width mark rest in
-    let left = states_in width (drop (i + 1) pairs) others in
-    ap (λ ss. take (i + 1) ss ++ left) put
-    ∙ ap (λ ss. ss ++ left) (take_more_set states i one inside)
-    ∙ state_step width pairs i (take i states) one rest others whole within
-    (ap (λ m. state_with width m rest) here)
-    (behind ∙ ap (λ m. words_behind width m rest) here) all
+module _ (width : ℕ) (pairs : List ℕ) (i : ℕ) (states new : List State) (mark : Mark) (rest others : List ℕ)
+    (whole : List State) where
+  pub read_more : i < length pairs → i < length states → mark ≡ mark_with (get_or pairs i 0) →
+      new ≡ set states i (state_with width mark rest) → others ≡ words_behind width mark rest →
+      take i states ++ states_in width (drop i pairs) rest ≡ whole →
+      take (i + 1) new ++ states_in width (drop (i + 1) pairs) others ≡ whole
+  read_more within inside here put behind all =
+      let one = state_with width mark rest in
+      let left = states_in width (drop (i + 1) pairs) others in
+      ap (λ ss. take (i + 1) ss ++ left) put
+      ∙ ap (λ ss. ss ++ left) (take_more_set states i one inside)
+      ∙ state_step width pairs i (take i states) one rest others whole within
+      (ap (λ m. state_with width m rest) here)
+      (behind ∙ ap (λ m. words_behind width m rest) here) all
 
 -- all states are read
-pub read_done : (width : ℕ) (pairs : List ℕ) (i : ℕ) (states : List State) (rest : List ℕ) (whole : List State)
-    → length pairs ≤ i → length states ≤ i → take i states ++ states_in width (drop i pairs) rest ≡ whole
-    → states ≡ whole
-read_done width pairs i states rest whole within inside all =
-    sym (take_all i states inside)
-    ∙ sym (append-nil (take i states))
-    ∙ sym (ap (λ ps. take i states ++ states_in width ps rest) (drop_all i pairs within))
-    ∙ all
+module _ (width : ℕ) (pairs : List ℕ) (i : ℕ) (states : List State) (rest : List ℕ) (whole : List State) where
+  pub read_done : length pairs ≤ i → length states ≤ i →
+      take i states ++ states_in width (drop i pairs) rest ≡ whole → states ≡ whole
+  read_done within inside all =
+      sym (take_all i states inside)
+      ∙ sym (append-nil (take i states))
+      ∙ sym (ap (λ ps. take i states ++ states_in width ps rest) (drop_all i pairs within))
+      ∙ all
 
 -- the loop of a started vertex has begun
 pub not_fresh : {X : Type 0} (mark : Mark) → (mark ≡ Running) ⊎ (mark ≡ Broken) → mark ≡ Fresh → X
@@ -63,20 +65,21 @@ not_fresh Broken which fresh = absurd (cc)
 
 -- ---- words laid into a row
 -- one word more stands in the row
-pub laid_more : (width column : ℕ) (row new : List ℤ) (word : ℤ) (rest others : List ℕ) (whole : List ℤ)
-    → column < width → length row ≡ width → new ≡ set row column word → word ≡ word_of (take 8 rest)
-    → others ≡ drop 8 rest → take column row ++ words_in (width - column) rest ≡ whole
-    → take (column + 1) new ++ words_in (width - (column + 1)) others ≡ whole
-laid_more width column row new word rest others whole within wide put is behind all =
-    let left = width - (column + 1) in
-    let one : width - column ≡ suc left = omega arith in
-    let front : take (column + 1) new ≡ take column row ++ word ∷ [] =
-    ap (take (column + 1)) put ∙ take_more_set row column word (omega arith) in
-    let here : word ∷ words_in left others ≡ words_in (suc left) rest = λ i. is i ∷ words_in left (behind i) in
-    ap (λ ws. ws ++ words_in left others) front
-    ∙ append_assoc (take column row) (word ∷ []) (words_in left others)
-    ∙ ap (λ ws. take column row ++ ws) (here ∙ ap (λ k. words_in k rest) (sym one))
-    ∙ all
+module _ (width column : ℕ) (row new : List ℤ) (word : ℤ) (rest others : List ℕ) (whole : List ℤ) where
+  pub laid_more : column < width → length row ≡ width → new ≡ set row column word →
+      word ≡ word_of (take 8 rest) → others ≡ drop 8 rest →
+      take column row ++ words_in (width - column) rest ≡ whole →
+      take (column + 1) new ++ words_in (width - (column + 1)) others ≡ whole
+  laid_more within wide put is behind all =
+      let left = width - (column + 1) in
+      let one : width - column ≡ suc left = omega arith in
+      let front : take (column + 1) new ≡ take column row ++ word ∷ [] =
+      ap (take (column + 1)) put ∙ take_more_set row column word (omega arith) in
+      let here : word ∷ words_in left others ≡ words_in (suc left) rest = λ i. is i ∷ words_in left (behind i) in
+      ap (λ ws. ws ++ words_in left others) front
+      ∙ append_assoc (take column row) (word ∷ []) (words_in left others)
+      ∙ ap (λ ws. take column row ++ ws) (here ∙ ap (λ k. words_in k rest) (sym one))
+      ∙ all
 
 -- a row that is put where one was put stands alone there
 pub put_again : {X : Type 0} (first now new : List (List X)) (place : ℕ) (row : List X) → place < length first

@@ -112,30 +112,29 @@ bit_within f list at body is lt = has_bit (sends_upto f at list) body at is (ome
 ))
 
 -- one vertex more
-pub vertex_told : (sparse : Sparse) (rows : List Row) (degrees : List Degree) (start at : ℕ) (list : List VertexId)
-    (d : VertexId) (e : Degree)
-    (first now read env : Env) (old new : List ℕ) → ArePlaced start (length rows) list → length degrees ≡ length
-    rows → at < length list →
-    settled now ≡ settled first → read ≡ with_row (row_at rows ((get_or list at d).0 - start)) now →
-    env ≡ entered (get_or list at d).0 (get_or degrees ((get_or list at d).0 - start) e) 0 read →
-    old ≡ push_body (sends_upto (λ v. own_sends sparse rows degrees start first (v.0 - start)) at list) →
-    TellsSends old at (sends_at (Some sparse) env) new →
-    (settled env ≡ settled first) × (new ≡ push_body (sends_upto (λ v. own_sends sparse rows degrees start first
-    (v.0 - start)) (at + 1) list))
-vertex_told sparse rows degrees start at list d e first now read env old new placed each lt same read_is entered_is
-    so_far tells =
-    let f : VertexId → Option (List ℤ) = λ v. own_sends sparse rows degrees start first (v.0 - start) in
-    let place : ℕ = (get_or list at d).0 - start in
-    let own = placed at d lt in
-    let whole : (get_or list at d).0 ≡ start + ((get_or list at d).0 - start) = omega (arith, own.0) in
-    let inside : (get_or list at d).0 - start < length degrees = omega (arith, own.1, each) in
-    let here : env ≡ entered (start + ((get_or list at d).0 - start)) (get_or degrees ((get_or list at d).0 -
-    start) e) 0 read =
-    entered_is ∙ ap (λ v. entered v (get_or degrees place e) 0 read) whole in
-    let sends : List Sends = sends_upto f at list in (
-      settled_here rows degrees start place first now read env e same read_is here,
-      tells sends so_far (omega (arith, upto_count f list at (omega arith))) (upto_rest f list at (omega arith))
-          ∙ ap (λ s. push_body (set sends at s)) (ap (sends_at (Some sparse)) (own_here rows degrees start place first
-          now read env e same read_is here inside))
-          ∙ ap push_body (upto_more f list at d lt),
-    )
+module _ (sparse : Sparse) (rows : List Row) (degrees : List Degree) (start at : ℕ) (list : List VertexId)
+    (d : VertexId) (e : Degree) (first now read env : Env) (old new : List ℕ) where
+  pub vertex_told : ArePlaced start (length rows) list → length degrees ≡ length rows → at < length list →
+      settled now ≡ settled first → read ≡ with_row (row_at rows ((get_or list at d).0 - start)) now →
+      env ≡ entered (get_or list at d).0 (get_or degrees ((get_or list at d).0 - start) e) 0 read →
+      old ≡ push_body (sends_upto (λ v. own_sends sparse rows degrees start first (v.0 - start)) at list) →
+      TellsSends old at (sends_at (Some sparse) env) new →
+      (settled env ≡ settled first) × (new ≡ push_body (sends_upto (λ v. own_sends sparse rows degrees start
+      first (v.0 - start)) (at + 1) list))
+  vertex_told placed each lt same read_is entered_is so_far tells =
+      let f : VertexId → Option (List ℤ) = λ v. own_sends sparse rows degrees start first (v.0 - start) in
+      let place : ℕ = (get_or list at d).0 - start in
+      let own = placed at d lt in
+      let whole : (get_or list at d).0 ≡ start + ((get_or list at d).0 - start) = omega (arith, own.0) in
+      let inside : (get_or list at d).0 - start < length degrees = omega (arith, own.1, each) in
+      let here : env ≡ entered (start + ((get_or list at d).0 - start)) (get_or degrees ((get_or list at d).0 -
+      start) e) 0 read =
+      entered_is ∙ ap (λ v. entered v (get_or degrees place e) 0 read) whole in
+      let sends : List Sends = sends_upto f at list in (
+        settled_here rows degrees start place first now read env e same read_is here,
+        tells sends so_far (omega (arith, upto_count f list at (omega arith))) (upto_rest f list at (omega arith))
+            ∙ ap (λ s. push_body (set sends at s)) (ap (sends_at (Some sparse)) (own_here rows degrees start place
+            first
+            now read env e same read_is here inside))
+            ∙ ap push_body (upto_more f list at d lt),
+      )

@@ -228,47 +228,48 @@ pub spanning_none : (end : Edge → ℕ) (edges : List Edge) (spans : List Span)
     spans
 spanning_none end edges spans none = subst (IsSpanning end edges 0) (sym none) (none_yet end edges)
 
-pub spanning_more : (end : Edge → ℕ) (edges : List Edge) (start stop k : ℕ) (d : Edge) (spans more : List Span)
-    (span : Span) →
-    IsNonDecreasingBy end edges → start < length edges → k ≡ end (get_or edges start d) →
-    stop ≡ start + prefix_len (λ e. end e == k) (drop start edges) →
-    span ≡ record { vertex = record { 0 = k }; start = start; end = stop } → more ≡ spans ++ span ∷ [] →
-    IsSpanning end edges start spans → IsSpanning end edges stop more
-spanning_more end edges start stop k d spans more span order inside is at here added so_far =
-    let before : (i : ℕ) → i < start → end (get_or edges i d) < k = λ i lt. let low =
-    so_far.before i start d lt (omega arith) inside in omega arith in
-    let count : ℕ = prefix_len (λ e. end e == k) (drop start edges) in
-    let within : start + prefix_len (λ e. end e == k) (drop start edges) ≤ length edges =
-    run_within end edges order start k d inside is before in
-    let one : IsSpan end edges (record {
-      vertex = record { 0 = k };
-      start = start;
-      end =
-          start + prefix_len (λ e. end e == k) (drop start edges);
-    }) = record {
-      some = run_some end edges order start k d inside is before;
-      within = within;
-      stand = run_edges end edges order start k d inside is before;
-    } in
-    let last : IsSpan end edges span = subst (IsSpan end edges)
-    (ap (λ z. record { vertex = record { 0 = k }; start = start; end = z }) (sym at) ∙ sym here) one in
-    record {
-      within = omega arith;
-      before = λ i j e lt le inside'.
-          let low : i < length edges = omega arith in
-          let low' = below_next end edges order start k d inside is before i j (omega arith) (omega arith) inside' in
-          subst (λ (x : ℕ). x < end (get_or edges j e)) (ap end (get_or_default edges i d e low))
-          (subst (λ (x : ℕ). end (get_or edges i d) < x) (ap end (get_or_default edges j d e inside')) low');
-      vertices = λ n below.
-          let small : k < n = subst (λ (x : ℕ). x < n) (sym is) (below start d inside) in
-          let vertex : vertex_of span ≡ k = ap vertex_of here in
-          ap (map vertex_of) added ∙ map_push vertex_of spans span
-          ∙ ap (λ vs. vs ++ vertex_of span ∷ []) (so_far.vertices n below)
-          ∙ ap (λ v. ends_met end n (take start edges) ++ v ∷ []) vertex
-          ∙ sym (run_met end edges order start k d inside is before n small)
-          ∙ ap (λ z. ends_met end n (take z edges)) (sym at);
-      each = subst (All (IsSpan end edges)) (sym added) (All-push (IsSpan end edges) spans span so_far.each last);
-    }
+module _ (end : Edge → ℕ) (edges : List Edge) (start stop k : ℕ) (d : Edge) (spans more : List Span)
+    (span : Span) where
+  pub spanning_more : IsNonDecreasingBy end edges → start < length edges → k ≡ end (get_or edges start d) →
+      stop ≡ start + prefix_len (λ e. end e == k) (drop start edges) →
+      span ≡ record { vertex = record { 0 = k }; start = start; end = stop } → more ≡ spans ++ span ∷ [] →
+      IsSpanning end edges start spans → IsSpanning end edges stop more
+  spanning_more order inside is at here added so_far =
+      let before : (i : ℕ) → i < start → end (get_or edges i d) < k = λ i lt. let low =
+      so_far.before i start d lt (omega arith) inside in omega arith in
+      let count : ℕ = prefix_len (λ e. end e == k) (drop start edges) in
+      let within : start + prefix_len (λ e. end e == k) (drop start edges) ≤ length edges =
+      run_within end edges order start k d inside is before in
+      let one : IsSpan end edges (record {
+        vertex = record { 0 = k };
+        start = start;
+        end =
+            start + prefix_len (λ e. end e == k) (drop start edges);
+      }) = record {
+        some = run_some end edges order start k d inside is before;
+        within = within;
+        stand = run_edges end edges order start k d inside is before;
+      } in
+      let last : IsSpan end edges span = subst (IsSpan end edges)
+      (ap (λ z. record { vertex = record { 0 = k }; start = start; end = z }) (sym at) ∙ sym here) one in
+      record {
+        within = omega arith;
+        before = λ i j e lt le inside'.
+            let low : i < length edges = omega arith in
+            let low' = below_next end edges order start k d inside is before i j (omega arith) (omega arith)
+            inside' in
+            subst (λ (x : ℕ). x < end (get_or edges j e)) (ap end (get_or_default edges i d e low))
+            (subst (λ (x : ℕ). end (get_or edges i d) < x) (ap end (get_or_default edges j d e inside')) low');
+        vertices = λ n below.
+            let small : k < n = subst (λ (x : ℕ). x < n) (sym is) (below start d inside) in
+            let vertex : vertex_of span ≡ k = ap vertex_of here in
+            ap (map vertex_of) added ∙ map_push vertex_of spans span
+            ∙ ap (λ vs. vs ++ vertex_of span ∷ []) (so_far.vertices n below)
+            ∙ ap (λ v. ends_met end n (take start edges) ++ v ∷ []) vertex
+            ∙ sym (run_met end edges order start k d inside is before n small)
+            ∙ ap (λ z. ends_met end n (take z edges)) (sym at);
+        each = subst (All (IsSpan end edges)) (sym added) (All-push (IsSpan end edges) spans span so_far.each last);
+      }
 
 pub spanning_all : (end : Edge → ℕ) (edges : List Edge) (start n : ℕ) (spans : List Span) → length edges ≤ start →
     All (λ e. end e < n) edges → IsSpanning end edges start spans → AreSpans end n edges spans
@@ -278,14 +279,13 @@ spanning_all end edges start n spans done below so_far = record {
 }
 
 -- the first edges of a list that have an end, where another one follows
-pub run_stops : (end : Edge → ℕ) (v : ℕ) (xs : List Edge) (n x : ℕ) (d : Edge) → n < length xs → x ≡ end (get_or xs
-    n d)
-    → (x ≡ v → ⊥) →
-    ((k : ℕ) (e : Edge) → k < n → end (get_or xs k e) ≡ v) → n ≡ prefix_len (λ e. end e == v) xs
-run_stops end v xs n x d lt is other same =
-    sym (prefix_len_is (λ e. end e == v) xs n d (omega arith)
-    (λ k low. eq-eqb (end (get_or xs k d)) v (same k d low))
-    (λ _. ne_eqb (end (get_or xs n d)) v (λ e. other (is ∙ e))))
+module _ (end : Edge → ℕ) (v : ℕ) (xs : List Edge) (n x : ℕ) (d : Edge) where
+  pub run_stops : n < length xs → x ≡ end (get_or xs n d) → (x ≡ v → ⊥) →
+      ((k : ℕ) (e : Edge) → k < n → end (get_or xs k e) ≡ v) → n ≡ prefix_len (λ e. end e == v) xs
+  run_stops lt is other same =
+      sym (prefix_len_is (λ e. end e == v) xs n d (omega arith)
+      (λ k low. eq-eqb (end (get_or xs k d)) v (same k d low))
+      (λ _. ne_eqb (end (get_or xs n d)) v (λ e. other (is ∙ e))))
 
 -- and where there are no more
 pub run_ends : (end : Edge → ℕ) (v n : ℕ) (xs : List Edge) → length xs ≤ n
@@ -296,15 +296,15 @@ run_ends end v n (x ∷ xs) le same =
     (λ k low. eq-eqb (end (get_or (x ∷ xs) k x)) v (same k x (omega arith))) (λ lt. absurd (omega arith)))
 
 -- a run reaches at most to the end, and has the edge at its front
-pub run_fits : (end : Edge → ℕ) (edges rest : List Edge) (start count k : ℕ) (d : Edge) → start < length edges
-    → k ≡ end (get_or edges start d) →
-    rest ≡ drop start edges → count ≡ prefix_len (λ e. end e == k) rest → (start + count ≤ length edges) × (0 < count)
-run_fits end edges rest start count k d inside is here run =
-    let same : Edge → Bool = λ e. end e == k in
-    let at : count ≡ prefix_len (λ e. end e == k) (drop start edges) = run ∙ ap (prefix_len same) here in (
-      omega (arith, at, prefix_len-le-length same (drop start edges), length-drop start edges),
-      omega (arith, at, prefix_len-drop_yes same edges start d inside (eq-eqb _ _ (sym is))),
-    )
+module _ (end : Edge → ℕ) (edges rest : List Edge) (start count k : ℕ) (d : Edge) where
+  pub run_fits : start < length edges → k ≡ end (get_or edges start d) → rest ≡ drop start edges →
+      count ≡ prefix_len (λ e. end e == k) rest → (start + count ≤ length edges) × (0 < count)
+  run_fits inside is here run =
+      let same : Edge → Bool = λ e. end e == k in
+      let at : count ≡ prefix_len (λ e. end e == k) (drop start edges) = run ∙ ap (prefix_len same) here in (
+        omega (arith, at, prefix_len-le-length same (drop start edges), length-drop start edges),
+        omega (arith, at, prefix_len-drop_yes same edges start d inside (eq-eqb _ _ (sym is))),
+      )
 
 rises_at : (end : Edge → ℕ) (xs : List Edge) → Rises end xs → (i j : ℕ) (d : Edge) → i ≤ j → j < length xs
     → end (get_or xs i d) ≤ end (get_or xs j d)
@@ -326,22 +326,21 @@ ordered_below end n xs ys is = subst (All (λ e. end e < n)) (sym is)
     (All-from_recursion (λ e. end e < n) (in_order end n xs) (in_order_below end n xs))
 
 -- the sources of the first edges of a vertex
-pub first_sources_are : (edges : List Edge) (span : Span) (sources part : List VertexId) (count : ℕ) → span.start +
-    count ≤ span.end →
-    IsSpan target edges span → map (λ v. v.0) sources ≡ map source edges → part ≡ slice_range sources span.start
-    (span.start + count) →
-    map (λ v. v.0) part ≡ map source (take count (bucket target span.vertex.0 edges))
-first_sources_are edges span sources part count within is same here =
-    let number : VertexId → ℕ = λ v. v.0 in
-    let size : span.start + count - span.start ≡ count = omega arith in
-    let less : count ≤ span.end - span.start = omega arith in
-    ap (map number) (here ∙ ap (λ n. take n (drop span.start sources)) size)
-    ∙ sym (take-map number count (drop span.start sources) ∙ refl)
-    ∙ ap (take count) (sym (drop-map number span.start sources) ∙ ap (drop span.start) same ∙ drop-map source
-    span.start edges)
-    ∙ take-map source count (drop span.start edges)
-    ∙ ap (map source) (sym (take-take count (span.end - span.start) (drop span.start edges) less) ∙ ap (take count)
-    is.stand)
+module _ (edges : List Edge) (span : Span) (sources part : List VertexId) (count : ℕ) where
+  pub first_sources_are : span.start + count ≤ span.end → IsSpan target edges span →
+      map (λ v. v.0) sources ≡ map source edges → part ≡ slice_range sources span.start (span.start + count) →
+      map (λ v. v.0) part ≡ map source (take count (bucket target span.vertex.0 edges))
+  first_sources_are within is same here =
+      let number : VertexId → ℕ = λ v. v.0 in
+      let size : span.start + count - span.start ≡ count = omega arith in
+      let less : count ≤ span.end - span.start = omega arith in
+      ap (map number) (here ∙ ap (λ n. take n (drop span.start sources)) size)
+      ∙ sym (take-map number count (drop span.start sources) ∙ refl)
+      ∙ ap (take count) (sym (drop-map number span.start sources) ∙ ap (drop span.start) same ∙ drop-map source
+      span.start edges)
+      ∙ take-map source count (drop span.start edges)
+      ∙ ap (map source) (sym (take-take count (span.end - span.start) (drop span.start edges) less) ∙ ap (take count)
+      is.stand)
 
 -- where a test holds of the first elements alone, these are those that pass it
 module _ {X : Type 0} (p q : X → Bool) (xs : List X) (i : ℕ) (d : X) (within : i ≤ length xs)

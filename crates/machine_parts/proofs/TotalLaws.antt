@@ -40,19 +40,19 @@ zip_next f (a ∷ xs) (b ∷ ys) (suc i) x y lt lt' = ap (λ zs. f a b ∷ zs)
     (zip_next f xs ys i x y (omega arith) (omega arith))
 
 -- one value more
-pub values_more : (env : Env) (totals : List TotalDecl) (held words new : List ℤ) (i : ℕ) (t d : TotalDecl) (e x : ℤ)
-    → i < length totals → i < length held →
-    t ≡ get_or totals i d → words ≡ values_added env (take i totals) (take i held)
-    → x ≡ combined_of t.op (get_or held i e) (value_of t.value env) →
-    new ≡ words ++ x ∷ [] → new ≡ values_added env (take (i + 1) totals) (take (i + 1) held)
-values_more env totals held words new i t d e x lt lt' here so_far value pushed =
-    let next : suc i ≡ i + 1 = omega arith in
-    pushed
-    ∙ ap (λ ws. ws ++ x ∷ []) so_far
-    ∙ ap (λ w. values_added env (take i totals) (take i held) ++ w ∷ [])
-    (value ∙ ap (λ (u : TotalDecl). combined_of u.op (get_or held i e) (value_of u.value env)) here)
-    ∙ sym (zip_next (λ (u : TotalDecl) word. combined_of u.op word (value_of u.value env)) totals held i d e lt lt')
-    ∙ ap (λ n. values_added env (take n totals) (take n held)) next
+module _ (env : Env) (totals : List TotalDecl) (held words new : List ℤ) (i : ℕ) (t d : TotalDecl) (e x : ℤ) where
+  pub values_more : i < length totals → i < length held → t ≡ get_or totals i d →
+      words ≡ values_added env (take i totals) (take i held) →
+      x ≡ combined_of t.op (get_or held i e) (value_of t.value env) → new ≡ words ++ x ∷ [] →
+      new ≡ values_added env (take (i + 1) totals) (take (i + 1) held)
+  values_more lt lt' here so_far value pushed =
+      let next : suc i ≡ i + 1 = omega arith in
+      pushed
+      ∙ ap (λ ws. ws ++ x ∷ []) so_far
+      ∙ ap (λ w. values_added env (take i totals) (take i held) ++ w ∷ [])
+      (value ∙ ap (λ (u : TotalDecl). combined_of u.op (get_or held i e) (value_of u.value env)) here)
+      ∙ sym (zip_next (λ (u : TotalDecl) word. combined_of u.op word (value_of u.value env)) totals held i d e lt lt')
+      ∙ ap (λ n. values_added env (take n totals) (take n held)) next
 
 -- the totals over one vertex more
 pub totals_more : (rows : List Row) (degrees : List Degree) (start place : ℕ) (first env : Env)

@@ -229,22 +229,21 @@ module _ (key place i : ℕ) (told : List (Option ℤ)) (first now : Rows Partia
         ∙ (λ j. record first { rows = set-set first.rows place old (with_values key (take (i + 1) told) row) j })
 
 -- what is left, over the partials with one vertex more
-merge_more : (start key slots reduced i n v d : ℕ) (ids rest behind : List ℕ) (now new all : List (List Partial))
-    → i < n → n ≡ length ids → v ≡ get_or ids i d →
-    behind ≡ behind_sent slots reduced rest → new ≡ set now (v - start)
-    (with_sent key (sent_at slots reduced rest) (get_or now (v - start) [])) →
-    merged start key (drop i ids) (sents_read slots reduced (n - i) rest) now ≡ all →
-    merged start key (drop (i + 1) ids) (sents_read slots reduced (n - (i + 1)) behind) new ≡ all
-merge_more start key slots reduced i n v d ids rest behind now new all lt count here later put so_far =
-    let front : drop i ids ≡ v ∷ drop (i + 1) ids = drop_more ids i d (omega (arith, count))
-    ∙ ap (λ u. u ∷ drop (i + 1) ids) (sym here) in
-    let left : n - i ≡ suc (n - (i + 1)) = omega arith in
-    ap (λ bytes. merged start key (drop (i + 1) ids) (sents_read slots reduced (n - (i + 1)) bytes) new) later
-    ∙ ap (λ ps. merged start key (drop (i + 1) ids) (sents_read slots reduced (n - (i + 1))
-    (behind_sent slots reduced rest)) ps) put
-    ∙ sym (ap (λ us. merged start key us (sents_read slots reduced (n - i) rest) now) front
-    ∙ ap (λ k. merged start key (v ∷ drop (i + 1) ids) (sents_read slots reduced k rest) now) left)
-    ∙ so_far
+module _ (start key slots reduced i n v d : ℕ) (ids rest behind : List ℕ) (now new all : List (List Partial)) where
+  merge_more : i < n → n ≡ length ids → v ≡ get_or ids i d → behind ≡ behind_sent slots reduced rest →
+      new ≡ set now (v - start) (with_sent key (sent_at slots reduced rest) (get_or now (v - start) [])) →
+      merged start key (drop i ids) (sents_read slots reduced (n - i) rest) now ≡ all →
+      merged start key (drop (i + 1) ids) (sents_read slots reduced (n - (i + 1)) behind) new ≡ all
+  merge_more lt count here later put so_far =
+      let front : drop i ids ≡ v ∷ drop (i + 1) ids = drop_more ids i d (omega (arith, count))
+      ∙ ap (λ u. u ∷ drop (i + 1) ids) (sym here) in
+      let left : n - i ≡ suc (n - (i + 1)) = omega arith in
+      ap (λ bytes. merged start key (drop (i + 1) ids) (sents_read slots reduced (n - (i + 1)) bytes) new) later
+      ∙ ap (λ ps. merged start key (drop (i + 1) ids) (sents_read slots reduced (n - (i + 1))
+      (behind_sent slots reduced rest)) ps) put
+      ∙ sym (ap (λ us. merged start key us (sents_read slots reduced (n - i) rest) now) front
+      ∙ ap (λ k. merged start key (v ∷ drop (i + 1) ids) (sents_read slots reduced k rest) now) left)
+      ∙ so_far
 
 abbrev number : VertexId → ℕ
 number v = v.0
@@ -289,16 +288,18 @@ module _ (start key slots reduced i : ℕ) (list : List VertexId) (d : VertexId)
       (sym (get_or-map number list i d 0 lt)) later (ap (λ (p : Rows Partial). p.rows) put) so_far
 
 -- when all is told
-pub merged_end : (start key slots reduced i : ℕ) (list : List VertexId) (rest : List ℕ) (sents : List Sent)
-    (first now : List (List Partial)) → length list ≤ i →
-    merged start key (drop i (map (λ v. v.0) list)) (sents_read slots reduced (length list - i) rest) now
-    ≡ merged start key (map (λ v. v.0) list) sents first →
-    StandOnce start (length first) (map (λ v. v.0) list) → now ≡ with_sents start key (map (λ v. v.0) list) sents first
-merged_end start key slots reduced i list rest sents first now past so_far once =
-    sym (ap (λ us. merged start key us (sents_read slots reduced (length list - i) rest) now)
-    (drop_all i (map number list) (omega (arith, length-map list number))))
-    ∙ so_far
-    ∙ merged_is start key (map number list) sents first once
+module _ (start key slots reduced i : ℕ) (list : List VertexId) (rest : List ℕ) (sents : List Sent)
+    (first now : List (List Partial)) where
+  pub merged_end : length list ≤ i →
+      merged start key (drop i (map (λ v. v.0) list)) (sents_read slots reduced (length list - i) rest) now ≡
+      merged start key (map (λ v. v.0) list) sents first →
+      StandOnce start (length first) (map (λ v. v.0) list) →
+      now ≡ with_sents start key (map (λ v. v.0) list) sents first
+  merged_end past so_far once =
+      sym (ap (λ us. merged start key us (sents_read slots reduced (length list - i) rest) now)
+      (drop_all i (map number list) (omega (arith, length-map list number))))
+      ∙ so_far
+      ∙ merged_is start key (map number list) sents first once
 
 -- the vertices of a list that ascends stand once
 once_from : (start count : ℕ) (vs : List ℕ) → All (λ v. (start ≤ v) × (v - start < count)) vs

@@ -56,12 +56,13 @@ parts_same machines draws graph a b of also =
     ∙ ap (λ (list : List Edge). parts_of also.one.ends also.one.draws list) (of.edges_are ∙ sym also.edges_are)
     ∙ sym also.one.parts_are
 
-pub first_same : (work : Work) (program : Program) (graph : Graph) (machines draws : ℕ) (v w : World) →
-    IsFirstWorld work program graph machines draws v → IsFirstWorld work program graph machines draws w → v ≡ w
-first_same work program graph machines draws v w a b =
-    a.here
-    ∙ ap (λ (split : Split). first_world work split a.parts)
-    (splits_are_one a.split b.split (a.program_is ∙ sym b.program_is))
-    ∙ ap (λ (parts : List PlainPart). first_world work b.split parts)
-    (parts_same machines draws graph a.parts b.parts a.of_graph b.of_graph)
-    ∙ sym b.here
+module _ (work : Work) (program : Program) (graph : Graph) (machines draws : ℕ) (v w : World) where
+  pub first_same : IsFirstWorld work program graph machines draws v →
+      IsFirstWorld work program graph machines draws w → v ≡ w
+  first_same a b =
+      a.here
+      ∙ ap (λ (split : Split). first_world work split a.parts)
+      (splits_are_one a.split b.split (a.program_is ∙ sym b.program_is))
+      ∙ ap (λ (parts : List PlainPart). first_world work b.split parts)
+      (parts_same machines draws graph a.parts b.parts a.of_graph b.of_graph)
+      ∙ sym b.here

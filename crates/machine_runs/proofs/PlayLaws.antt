@@ -38,13 +38,15 @@ module _ {S : Type 0} (held : S → Option (List ℕ)) (faults spare : S → ℕ
   after_is old new text w = held_same (of old) (of new) _ (faults old) w.whole w.counted
 
   -- a text was put, and then the rest came
-  pub put_goes : (old new : S) (text : List ℕ) → Writes held faults spare old new text (Ok tt) → (next : Order)
-      (shelf : Kept) (input : Left) (after : Outside) (outcome : Option Fault) →
-      Leaves NoTask next (outside shelf (of new) input) after outcome →
-      Leaves NoTask (Puts text next) (outside shelf (of old) input) after outcome
-  put_goes old new text w next shelf input after outcome rest =
-      Gained (spare new) w.spared
-      (subst (λ (h : Held). Leaves NoTask next (outside shelf h input) after outcome) (after_is old new text w) rest)
+  module _ (old new : S) (text : List ℕ) where
+    pub put_goes : Writes held faults spare old new text (Ok tt) →
+        (next : Order) (shelf : Kept) (input : Left) (after : Outside) (outcome : Option Fault) →
+        Leaves NoTask next (outside shelf (of new) input) after outcome →
+        Leaves NoTask (Puts text next) (outside shelf (of old) input) after outcome
+    put_goes w next shelf input after outcome rest =
+        Gained (spare new) w.spared
+        (subst (λ (h : Held). Leaves NoTask next (outside shelf h input) after outcome) (after_is old new text w)
+        rest)
 
   -- a text could not be put
   pub put_stops : (old new : S) (text : List ℕ) (fault : SinkFault) →
@@ -60,13 +62,14 @@ module _ {S : Type 0} (held : S → Option (List ℕ)) (faults spare : S → ℕ
   put_wants sink text next shelf input = WantsAtPut (record { same = refl; memory = refl })
 
 -- a text was put, as far as memory and the sink last
-pub plays_goes : (text : List ℕ) (old new : Held) → Plays text old new (Ok tt) → (next : Order) (shelf : Kept)
-    (input : Left) (after : Outside) (outcome : Option Fault) →
-    Leaves NoTask next (outside shelf new input) after outcome →
-    Leaves NoTask (Puts text next) (outside shelf old input) after outcome
-plays_goes text old new plays next shelf input after outcome rest =
-    Gained new.spare plays.spared
-    (subst (λ (h : Held). Leaves NoTask next (outside shelf h input) after outcome) plays.same rest)
+module _ (text : List ℕ) (old new : Held) where
+  pub plays_goes : Plays text old new (Ok tt) →
+      (next : Order) (shelf : Kept) (input : Left) (after : Outside) (outcome : Option Fault) →
+      Leaves NoTask next (outside shelf new input) after outcome →
+      Leaves NoTask (Puts text next) (outside shelf old input) after outcome
+  plays_goes plays next shelf input after outcome rest =
+      Gained new.spare plays.spared
+      (subst (λ (h : Held). Leaves NoTask next (outside shelf h input) after outcome) plays.same rest)
 
 pub plays_stops : (text : List ℕ) (old new : Held) (why : Failure) → Plays text old new (Err why) → (next : Order)
     (shelf : Kept) (input : Left) →

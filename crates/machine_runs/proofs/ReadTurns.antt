@@ -32,12 +32,12 @@ abbrev pub step_text : Work → World → ℕ → ℕ → ℕ → List ℕ
 step_text work w c v step = sources_text (read_in_step work w c v step)
 
 -- it is what the machine there tells
-pub read_there : (work : Work) (w : World) (c v step machine : ℕ) (s : State) (sources : List VertexId) →
-    machine ≡ order_of c step (length w.sites) → slice_get w.sites machine ≡ Some s →
-    map (λ u. u.0) sources ≡ work.reads s v → map (λ u. u.0) sources ≡ read_in_step work w c v step
-read_there work w c v step machine s sources is at same =
-    same ∙ sym (ap (reads_with work v) at)
-    ∙ ap (λ (m : ℕ). reads_with work v (slice_get w.sites m)) is
+module _ (work : Work) (w : World) (c v step machine : ℕ) (s : State) (sources : List VertexId) where
+  pub read_there : machine ≡ order_of c step (length w.sites) → slice_get w.sites machine ≡ Some s →
+      map (λ u. u.0) sources ≡ work.reads s v → map (λ u. u.0) sources ≡ read_in_step work w c v step
+  read_there is at same =
+      same ∙ sym (ap (reads_with work v) at)
+      ∙ ap (λ (m : ℕ). reads_with work v (slice_get w.sites m)) is
 
 -- the texts of all steps are that of the whole line
 pub steps_text : (work : Work) (w : World) (c v : ℕ) (steps : List ℕ) →

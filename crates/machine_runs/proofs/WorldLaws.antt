@@ -103,12 +103,13 @@ pub own_lies : (ends others : List ℕ) (v m number : ℕ) → Holds ends v m �
 own_lies ends others v m number h same is =
     ap (λ (es : List ℕ). lies_in es number v) same ∙ ap (λ (k : ℕ). lies_in ends k v) is ∙ owner_lies ends v m h
 
-pub row_is : (work : Work) (w : World) (ends : List ℕ) (v k : ℕ) (s : State) → ends_in w ≡ ends →
-    owner_of ends v ≡ k → slice_get w.sites k ≡ Some s → row_in work w v ≡ work.row s v
-row_is work w ends v k s same is at =
-    ap (λ (es : List ℕ). row_with work v (slice_get w.sites (owner_of es v))) same
-    ∙ ap (λ (j : ℕ). row_with work v (slice_get w.sites j)) is
-    ∙ ap (row_with work v) at
+module _ (work : Work) (w : World) (ends : List ℕ) (v k : ℕ) (s : State) where
+  pub row_is : ends_in w ≡ ends → owner_of ends v ≡ k → slice_get w.sites k ≡ Some s →
+      row_in work w v ≡ work.row s v
+  row_is same is at =
+      ap (λ (es : List ℕ). row_with work v (slice_get w.sites (owner_of es v))) same
+      ∙ ap (λ (j : ℕ). row_with work v (slice_get w.sites j)) is
+      ∙ ap (row_with work v) at
 
 -- ---- the lines of the vertices, one after another
 module _ (work : Work) (w : World) (k : ℕ) (s : State) (at : slice_get w.sites 0 ≡ Some s) where

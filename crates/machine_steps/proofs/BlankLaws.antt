@@ -38,19 +38,20 @@ reduced_append (Carried ∷ cs) ds = reduced_append cs ds
 reduced_append (Reduced op ∷ cs) ds = ap (λ ops. op ∷ ops) (reduced_append cs ds)
 
 -- the partial of one let more
-pub reduced_more : (classes : List Class) (i : ℕ) (c d : Class) (before now new : List Partial) → i < length classes →
-    c ≡ get_or classes i d → now ≡ before ++ map empty_partial (reduced_ops (take i classes)) →
-    new ≡ now ++ map empty_partial (reduced_ops (c ∷ [])) →
-    new ≡ before ++ map empty_partial (reduced_ops (take (i + 1) classes))
-reduced_more classes i c d before now new lt here so_far is =
-    let front : List Class = take i classes in
-    is ∙ ap (λ ps. ps ++ map empty_partial (reduced_ops (c ∷ []))) so_far
-    ∙ append_assoc before (map empty_partial (reduced_ops front)) (map empty_partial (reduced_ops (c ∷ [])))
-    ∙ ap (λ ps. before ++ ps)
-    (sym (map-append empty_partial (reduced_ops front) (reduced_ops (c ∷ [])))
-    ∙ ap (map empty_partial) (sym (reduced_append front (c ∷ [])))
-    ∙ ap (λ x. map empty_partial (reduced_ops (front ++ x ∷ []))) here
-    ∙ ap (λ cs. map empty_partial (reduced_ops cs)) (sym (take_more classes i d lt)))
+module _ (classes : List Class) (i : ℕ) (c d : Class) (before now new : List Partial) where
+  pub reduced_more : i < length classes → c ≡ get_or classes i d →
+      now ≡ before ++ map empty_partial (reduced_ops (take i classes)) →
+      new ≡ now ++ map empty_partial (reduced_ops (c ∷ [])) →
+      new ≡ before ++ map empty_partial (reduced_ops (take (i + 1) classes))
+  reduced_more lt here so_far is =
+      let front : List Class = take i classes in
+      is ∙ ap (λ ps. ps ++ map empty_partial (reduced_ops (c ∷ []))) so_far
+      ∙ append_assoc before (map empty_partial (reduced_ops front)) (map empty_partial (reduced_ops (c ∷ [])))
+      ∙ ap (λ ps. before ++ ps)
+      (sym (map-append empty_partial (reduced_ops front) (reduced_ops (c ∷ [])))
+      ∙ ap (map empty_partial) (sym (reduced_append front (c ∷ [])))
+      ∙ ap (λ x. map empty_partial (reduced_ops (front ++ x ∷ []))) here
+      ∙ ap (λ cs. map empty_partial (reduced_ops cs)) (sym (take_more classes i d lt)))
 
 reduced_count : (i : ℕ) (cs : List Class) → length (reduced_ops cs) ≡ length (places_where is_reduced i cs)
 reduced_count i [] = refl

@@ -49,43 +49,43 @@ none_came split g v (Send i) = refl
 none_came split g v (Total i) = refl
 
 -- its row stays
-pub resting_row : (split : Split) (t : RowTable) (degrees : List Degree) (start place key : ℕ) (env : Env)
-    (own : List Partial) (st : LoopState) (tail : Bool) → tail ≡ false →
-    is_quiet (program_of split).update.items ≡ true → (row_at t.rows place).active ≡ false →
-    own ≡ empty_partials split →
-    t ≡ record t {
-      rows = set t.rows place
-          (ended_row tail split (own_view t.rows degrees start env) key own st (start + place));
-    }
-resting_row split t degrees start place key env own st tail off quiet still nothing =
-    let v : ℕ = start + place in
-    let g : Sight = own_view t.rows degrees start env in
-    let back : v - start ≡ place = omega arith in
-    let row : Row = row_at t.rows place in
-    let flagged : Row → Row = λ r. record r { active = false } in
-    let with_flag : Bool → Row = λ b. record row { active = b } in
-    let closed : ended_row tail split g key own st v ≡ row =
-    ap (λ b. ended_row b split g key own st v) off
-    ∙ ap (λ ps. closed_row split g ps v) nothing
-    ∙ quiet_updates (program_of split).update.items
-    (seen_env g v 0 (values_of (take (slot_count split) (empty_partials split)))) quiet (none_came split g v) refl
-    ∙ ap (λ i. flagged (row_at t.rows i)) back
-    ∙ ap with_flag (sym still) in
-    let put : List Row → RowTable = λ rows. record t { rows = rows } in
-    sym (ap put (ap (set t.rows place) closed ∙ set-get_or t.rows place empty_row))
+module _ (split : Split) (t : RowTable) (degrees : List Degree) (start place key : ℕ) (env : Env)
+    (own : List Partial) (st : LoopState) (tail : Bool) where
+  pub resting_row : tail ≡ false → is_quiet (program_of split).update.items ≡ true →
+      (row_at t.rows place).active ≡ false → own ≡ empty_partials split →
+      t ≡ record t {
+        rows = set t.rows place (ended_row tail split (own_view t.rows degrees start env) key own
+            st (start + place));
+      }
+  resting_row off quiet still nothing =
+      let v : ℕ = start + place in
+      let g : Sight = own_view t.rows degrees start env in
+      let back : v - start ≡ place = omega arith in
+      let row : Row = row_at t.rows place in
+      let flagged : Row → Row = λ r. record r { active = false } in
+      let with_flag : Bool → Row = λ b. record row { active = b } in
+      let closed : ended_row tail split g key own st v ≡ row =
+      ap (λ b. ended_row b split g key own st v) off
+      ∙ ap (λ ps. closed_row split g ps v) nothing
+      ∙ quiet_updates (program_of split).update.items
+      (seen_env g v 0 (values_of (take (slot_count split) (empty_partials split)))) quiet (none_came split g v) refl
+      ∙ ap (λ i. flagged (row_at t.rows i)) back
+      ∙ ap with_flag (sym still) in
+      let put : List Row → RowTable = λ rows. record t { rows = rows } in
+      sym (ap put (ap (set t.rows place) closed ∙ set-get_or t.rows place empty_row))
 
 -- ---- the vertices so far
-pub can_still : (split : Split) (code : Code) (start count many wide more wider : ℕ) (first now : Env) →
-    CanClose split code start count many wide first → more ≡ count → wider ≡ wide → SameRound first now →
-    CanClose split code start more many wider now
-can_still split code start count many wide more wider first now can each width same = record {
-  code = can.code;
-  each = can.each ∙ sym each;
-  width = width ∙ can.width;
-  totals = ap (λ t. length t.items) same.totals ∙ can.totals;
-  round = omega (arith, can.round, same.round);
-  ids = omega (arith, can.ids, each);
-}
+module _ (split : Split) (code : Code) (start count many wide more wider : ℕ) (first now : Env) where
+  pub can_still : CanClose split code start count many wide first → more ≡ count → wider ≡ wide →
+      SameRound first now → CanClose split code start more many wider now
+  can_still can each width same = record {
+    code = can.code;
+    each = can.each ∙ sym each;
+    width = width ∙ can.width;
+    totals = ap (λ t. length t.items) same.totals ∙ can.totals;
+    round = omega (arith, can.round, same.round);
+    ids = omega (arith, can.ids, each);
+  }
 
 module _ (split : Split) (tail : Bool) (degrees : List Degree) (start key i : ℕ) (states : List LoopState)
     (first now : RowTable) (partials own : List (List Partial)) (old env : Env) (le : i < length first.rows)

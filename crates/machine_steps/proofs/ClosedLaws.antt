@@ -65,18 +65,18 @@ state_closed s r dense =
     (all_true (λ v. f v ≡ g v) (λ v. ap (λ ps. closed_row s.split (own_sight s r) ps v) (partials_same dense s r v))
     (own_vertices s))
 
-pub shown_closed : (s : State) (part : PlainPart) (split : Split) (totals : List ℤ) (rows : List Row)
-    (partials : List (List Partial)) (states : List LoopState) (r : ℕ) (dense : Bool) →
-    Shows part split totals rows s → s.partials ≡ partials → s.ring ≡ states →
-    closed_rows s r dense ≡ closed_by part split totals rows partials states r dense
-shown_closed s part split totals rows partials states r dense shows ps st =
-    state_closed s r dense
-    ∙ ap (λ p. closed_by p s.split (known_totals s) s.rows s.partials s.ring r dense) shows.part
-    ∙ ap (λ x. closed_by part x (known_totals s) s.rows s.partials s.ring r dense) shows.split
-    ∙ ap (λ t. closed_by part split t s.rows s.partials s.ring r dense) shows.totals
-    ∙ ap (λ rs. closed_by part split totals rs s.partials s.ring r dense) shows.rows
-    ∙ ap (λ qs. closed_by part split totals rows qs s.ring r dense) ps
-    ∙ ap (λ qs. closed_by part split totals rows partials qs r dense) st
+module _ (s : State) (part : PlainPart) (split : Split) (totals : List ℤ) (rows : List Row)
+    (partials : List (List Partial)) (states : List LoopState) (r : ℕ) (dense : Bool) where
+  pub shown_closed : Shows part split totals rows s → s.partials ≡ partials → s.ring ≡ states →
+      closed_rows s r dense ≡ closed_by part split totals rows partials states r dense
+  shown_closed shows ps st =
+      state_closed s r dense
+      ∙ ap (λ p. closed_by p s.split (known_totals s) s.rows s.partials s.ring r dense) shows.part
+      ∙ ap (λ x. closed_by part x (known_totals s) s.rows s.partials s.ring r dense) shows.split
+      ∙ ap (λ t. closed_by part split t s.rows s.partials s.ring r dense) shows.totals
+      ∙ ap (λ rs. closed_by part split totals rs s.partials s.ring r dense) shows.rows
+      ∙ ap (λ qs. closed_by part split totals rows qs s.ring r dense) ps
+      ∙ ap (λ qs. closed_by part split totals rows partials qs r dense) st
 
 -- ---- a tail that does nothing
 either_way : {X : Type 0} (b : Bool) (x : X) → (if b then x else x) ≡ x

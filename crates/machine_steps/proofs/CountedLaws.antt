@@ -109,18 +109,19 @@ module _ (part : PlainPart) (rows : List Row) (degrees : List Degree) (r m start
         ∙ ap (λ k. sum (map (λ v. if (own_seen.row v).active then own_seen.outs v else 0) (range_with_len a k))) many
 
 -- ---- names
-pub placed_counts : (p : Program) (totals : List TotalDecl) (width : ℕ) (env : Env) → totals ≡ p.totals.items →
-    width ≡ length p.fields.items → env.slots.items ≡ [] → env.totals.items ≡ [] →
-    list_all (λ t. expr_placed (row_counts p) t.value) p.totals.items ≡ true → AreTotalsPlaced width env totals
-placed_counts p totals width env same wide slots none placed =
-    let counts : own_counts width env ≡ row_counts p = λ j. record {
-      fields = wide j;
-      locals = 0;
-      sends = 0;
-      slots = length (slots j);
-      totals = length (none j);
-      other_fields = wide j;
-    } in
-    subst (λ (ts : List TotalDecl). AreTotalsPlaced width env ts) (sym same)
-    (subst (λ (k : Counts). All (λ t. IsTrue (expr_placed k t.value)) p.totals.items) (sym counts)
-    (AllPass-from_list_all (λ t. expr_placed (row_counts p) t.value) p.totals.items placed))
+module _ (p : Program) (totals : List TotalDecl) (width : ℕ) (env : Env) where
+  pub placed_counts : totals ≡ p.totals.items → width ≡ length p.fields.items → env.slots.items ≡ [] →
+      env.totals.items ≡ [] → list_all (λ t. expr_placed (row_counts p) t.value) p.totals.items ≡ true →
+      AreTotalsPlaced width env totals
+  placed_counts same wide slots none placed =
+      let counts : own_counts width env ≡ row_counts p = λ j. record {
+        fields = wide j;
+        locals = 0;
+        sends = 0;
+        slots = length (slots j);
+        totals = length (none j);
+        other_fields = wide j;
+      } in
+      subst (λ (ts : List TotalDecl). AreTotalsPlaced width env ts) (sym same)
+      (subst (λ (k : Counts). All (λ t. IsTrue (expr_placed k t.value)) p.totals.items) (sym counts)
+      (AllPass-from_list_all (λ t. expr_placed (row_counts p) t.value) p.totals.items placed))

@@ -54,9 +54,10 @@ emptied_of_round r m xs (l ∷ ls) are =
     (emptied_of_round r m xs ls (All-tail P l ls are))
 
 -- a push from another machine can be taken
-pub push_taken : (p r k m : ℕ) (x : Name) → k < p → m < p → k ≢ m → x ≡ push_name r k m → CanTake p x
-push_taken p r k m x from to other is =
-    subst (CanTake p) (sym is) (record { from = from; to = to; other = other; step = refl; half = refl })
+module _ (p r k m : ℕ) (x : Name) where
+  pub push_taken : k < p → m < p → k ≢ m → x ≡ push_name r k m → CanTake p x
+  push_taken from to other is =
+      subst (CanTake p) (sym is) (record { from = from; to = to; other = other; step = refl; half = refl })
 
 module _ (round machine from : ℕ) (first : Held) where
   abbrev pub named : ℕ → Name
@@ -106,33 +107,33 @@ module _ (round machine from : ℕ) (first : Held) where
       }
 
 -- first those of the machines before this one, then those of the machines behind it
-pub dropped_all : (round machine m p q : ℕ) (first front last : Held) → m ≡ machine → p ≡ q →
-    front
-    ≡ record first {
-      letters = emptied (map (λ k. push_name round k machine) (range_with_len 0 (m - 0))) first.letters;
-    } →
-    last
-    ≡ record front {
-      letters =
-          emptied (map (λ k. push_name round k machine) (range_with_len (m + 1) (p - (m + 1)))) front.letters;
-    } →
-    last
-    ≡ record first {
-      letters = emptied (map (λ k. push_name round k machine) (others_of q machine)) first.letters;
-    }
-dropped_all round machine m p q first front last is_m is_p front_is last_is =
-    let f : ℕ → Name = λ k. push_name round k machine in
-    let zero_is : m - 0 ≡ m = omega arith in
-    let rest_is : p - (m + 1) ≡ p - 1 - m = omega arith in
-    let before : List ℕ = range_with_len 0 (m - 0) in
-    let behind : List ℕ = range_with_len (m + 1) (p - (m + 1)) in
-    last_is
-    ∙ ap (λ (h : Held). record h { letters = emptied (map f behind) h.letters }) front_is
-    ∙ ap (λ (ms : List Letter). record first { letters = ms })
-    (emptied-append (map f before) (map f behind) first.letters
-    ∙ ap (λ xs. emptied xs first.letters)
-    (sym (map-append f before behind)
-    ∙ ap (λ n. map f (range_with_len 0 n ++ behind)) zero_is
-    ∙ ap (λ n. map f (range_with_len 0 m ++ range_with_len (m + 1) n)) rest_is
-    ∙ ap (λ n. map f (others_of n m)) is_p
-    ∙ ap (λ k. map f (others_of q k)) is_m))
+module _ (round machine m p q : ℕ) (first front last : Held) where
+  pub dropped_all : m ≡ machine → p ≡ q →
+      front ≡ record first {
+        letters = emptied (map (λ k. push_name round k machine) (range_with_len 0 (m - 0)))
+            first.letters;
+      } →
+      last ≡ record front {
+        letters = emptied (map (λ k. push_name round k machine) (range_with_len (m + 1) (p -
+            (m + 1)))) front.letters;
+      } →
+      last ≡ record first {
+        letters = emptied (map (λ k. push_name round k machine) (others_of q machine))
+            first.letters;
+      }
+  dropped_all is_m is_p front_is last_is =
+      let f : ℕ → Name = λ k. push_name round k machine in
+      let zero_is : m - 0 ≡ m = omega arith in
+      let rest_is : p - (m + 1) ≡ p - 1 - m = omega arith in
+      let before : List ℕ = range_with_len 0 (m - 0) in
+      let behind : List ℕ = range_with_len (m + 1) (p - (m + 1)) in
+      last_is
+      ∙ ap (λ (h : Held). record h { letters = emptied (map f behind) h.letters }) front_is
+      ∙ ap (λ (ms : List Letter). record first { letters = ms })
+      (emptied-append (map f before) (map f behind) first.letters
+      ∙ ap (λ xs. emptied xs first.letters)
+      (sym (map-append f before behind)
+      ∙ ap (λ n. map f (range_with_len 0 n ++ behind)) zero_is
+      ∙ ap (λ n. map f (range_with_len 0 m ++ range_with_len (m + 1) n)) rest_is
+      ∙ ap (λ n. map f (others_of n m)) is_p
+      ∙ ap (λ k. map f (others_of q k)) is_m))

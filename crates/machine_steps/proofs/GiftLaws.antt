@@ -44,38 +44,40 @@ abbrev number : VertexId → ℕ
 number v = v.0
 
 -- vertices of the own chunk have their places
-pub all_placed : (ends : List ℕ) (m start count : ℕ) (list : List VertexId) (ids : List ℕ) →
-    map (λ v. v.0) list ≡ ids → All (λ v. lies_in ends m v ≡ true) ids → start ≡ start_of ends m →
-    start + count ≡ slice_index ends m → ArePlaced start count list
-all_placed ends m start count list ids same own begins whole i d lt =
-    let v : ℕ = (get_or list i d).0 in
-    let listed = subst (All (λ u. lies_in ends m u ≡ true)) (sym same) own in
-    let lies = ap (lies_in ends m) (sym (get_or-map number list i d 0 lt))
-    ∙ listed i 0 (omega (arith, length-map list number)) in
-    let low = lies_low ends m (get_or list i d).0 lies in
-    let high = lies_high ends m (get_or list i d).0 lies in
-    (omega (arith, low, begins), omega (arith, low, high, begins, whole))
+module _ (ends : List ℕ) (m start count : ℕ) (list : List VertexId) (ids : List ℕ) where
+  pub all_placed : map (λ v. v.0) list ≡ ids → All (λ v. lies_in ends m v ≡ true) ids →
+      start ≡ start_of ends m → start + count ≡ slice_index ends m → ArePlaced start count list
+  all_placed same own begins whole i d lt =
+      let v : ℕ = (get_or list i d).0 in
+      let listed = subst (All (λ u. lies_in ends m u ≡ true)) (sym same) own in
+      let lies = ap (lies_in ends m) (sym (get_or-map number list i d 0 lt))
+      ∙ listed i 0 (omega (arith, length-map list number)) in
+      let low = lies_low ends m (get_or list i d).0 lies in
+      let high = lies_high ends m (get_or list i d).0 lies in
+      (omega (arith, low, begins), omega (arith, low, high, begins, whole))
 
 -- ---- rows
-pub refresh_told : (part : PlainPart) (split : Split) (totals : List ℤ) (rows : RowTable) (start k : ℕ)
-    (list : List VertexId) (body : List ℕ) → map (λ v. v.0) list ≡ slice_index_or part.refresh_to k [] →
-    start ≡ start_of part.ends part.at.machine →
-    body ≡ refresh_body (map (λ v. plain_row (row_at rows.rows (v.0 - start))) list) →
-    (s : State) → Shows part split totals rows.rows s → body ≡ refresh_sent s k
-refresh_told part split totals rows start k list body listed begins is s shows =
-    is
-    ∙ ap refresh_body
-    (sym (map-map (λ u. plain_row (row_at rows.rows (u - start))) number list)
-    ∙ ap (map (λ u. plain_row (row_at rows.rows (u - start)))) listed
-    ∙ ap (λ a. map (λ u. plain_row (row_at rows.rows (u - a))) (slice_index_or part.refresh_to k [])) begins
-    ∙ ap
-    (λ own.
-    map (λ u. plain_row (row_at own (u - start_of part.ends part.at.machine))) (slice_index_or part.refresh_to k []))
-    (sym shows.rows)
-    ∙ ap
-    (λ (p : PlainPart).
-    map (λ u. plain_row (row_at s.rows (u - start_of p.ends p.at.machine))) (slice_index_or p.refresh_to k []))
-    (sym shows.part))
+module _ (part : PlainPart) (split : Split) (totals : List ℤ) (rows : RowTable) (start k : ℕ)
+    (list : List VertexId) (body : List ℕ) where
+  pub refresh_told : map (λ v. v.0) list ≡ slice_index_or part.refresh_to k [] →
+      start ≡ start_of part.ends part.at.machine →
+      body ≡ refresh_body (map (λ v. plain_row (row_at rows.rows (v.0 - start))) list) → (s : State) →
+      Shows part split totals rows.rows s → body ≡ refresh_sent s k
+  refresh_told listed begins is s shows =
+      is
+      ∙ ap refresh_body
+      (sym (map-map (λ u. plain_row (row_at rows.rows (u - start))) number list)
+      ∙ ap (map (λ u. plain_row (row_at rows.rows (u - start)))) listed
+      ∙ ap (λ a. map (λ u. plain_row (row_at rows.rows (u - a))) (slice_index_or part.refresh_to k [])) begins
+      ∙ ap
+      (λ own.
+      map (λ u. plain_row (row_at own (u - start_of part.ends part.at.machine))) (slice_index_or part.refresh_to k
+      []))
+      (sym shows.rows)
+      ∙ ap
+      (λ (p : PlainPart).
+      map (λ u. plain_row (row_at s.rows (u - start_of p.ends p.at.machine))) (slice_index_or p.refresh_to k []))
+      (sym shows.part))
 
 -- ---- sends
 module _ (s : State) (r : ℕ) (rs : Receivers) (env : Env) (works : Works s r rs env) (sparse : SparseBlock)
@@ -146,20 +148,20 @@ module _ (part : PlainPart) (split : Split) (totals : List ℤ) (rows : RowTable
   pub added_none : (out : List Message) → out ≡ [] → AreAdded 0 out
   added_none out empty = record { letters = λ s shows. ap (map letter_of) empty }
 
-  pub added_more : (k to : ℕ) (message : Message) (out more : List Message) →
-      k < length (others_of part.at.machines part.at.machine) →
-      to ≡ slice_index (others_of part.at.machines part.at.machine) k → AreAdded k out →
-      ((s : State) → Shows part split totals rows.rows s → letter_of message ≡ gift s round dense to) →
-      more ≡ out ++ message ∷ [] → AreAdded (k + 1) more
-  added_more k to message out more low at so_far is pushed = record {
-    letters = λ s shows.
-        let f : ℕ → Letter = gift s round dense in
-        ap (map letter_of) pushed
-        ∙ map_push letter_of out message
-        ∙ ap (λ ls. ls ++ letter_of message ∷ []) (so_far.letters s shows)
-        ∙ ap (λ l. map f (take k others) ++ l ∷ []) (is s shows ∙ ap f at)
-        ∙ sym (map_more f others k 0 low);
-  }
+  module _ (k to : ℕ) (message : Message) (out more : List Message) where
+    pub added_more : k < length (others_of part.at.machines part.at.machine) →
+        to ≡ slice_index (others_of part.at.machines part.at.machine) k → AreAdded k out →
+        ((s : State) → Shows part split totals rows.rows s → letter_of message ≡ gift s round dense to) →
+        more ≡ out ++ message ∷ [] → AreAdded (k + 1) more
+    added_more low at so_far is pushed = record {
+      letters = λ s shows.
+          let f : ℕ → Letter = gift s round dense in
+          ap (map letter_of) pushed
+          ∙ map_push letter_of out message
+          ∙ ap (λ ls. ls ++ letter_of message ∷ []) (so_far.letters s shows)
+          ∙ ap (λ l. map f (take k others) ++ l ∷ []) (is s shows ∙ ap f at)
+          ∙ sym (map_more f others k 0 low);
+    }
 
   pub added_all : (k : ℕ) (out : List Message) → length (others_of part.at.machines part.at.machine) ≤ k →
       AreAdded k out → (s : State) → Shows part split totals rows.rows s →

@@ -36,18 +36,18 @@ use Rattle.vertex_work.specs.Scanning.{AreOwnVertices}
 use Rattle.vertex_work.specs.Stepping.{IsLoopOf}
 
 -- the code of a program is that of its loop
-pub loop_is : (code : Code) (split found : Split) (d : Dense) (parts : SplitLoop) →
-    lists_of code ≡ code_of split.program.program → found ≡ split → (program_of found).dense ≡ Some d →
-    found.dense ≡ Some parts → IsLoopOf code found d parts
-loop_is code split found d parts compiled same block loop =
-    let is : lists_of code ≡ code_of found.program.program =
-    compiled ∙ ap (λ (s : Split). code_of s.program.program) (sym same) in
-    record {
-      block = block;
-      loop = loop;
-      placed = code_names found.program.program found.program.typed (lists_of code) is Loop;
-      runs = code_runs found.program.program found.program.typed (lists_of code) is Loop;
-    }
+module _ (code : Code) (split found : Split) (d : Dense) (parts : SplitLoop) where
+  pub loop_is : lists_of code ≡ code_of split.program.program → found ≡ split →
+      (program_of found).dense ≡ Some d → found.dense ≡ Some parts → IsLoopOf code found d parts
+  loop_is compiled same block loop =
+      let is : lists_of code ≡ code_of found.program.program =
+      compiled ∙ ap (λ (s : Split). code_of s.program.program) (sym same) in
+      record {
+        block = block;
+        loop = loop;
+        placed = code_names found.program.program found.program.typed (lists_of code) is Loop;
+        runs = code_runs found.program.program found.program.typed (lists_of code) is Loop;
+      }
 
 -- the degrees of the own chunk are those of its vertices
 pub own_degrees : (part : PlainPart) (k : ℕ) (degrees : List Degree) → k ≡ part.at.machine →
@@ -60,27 +60,27 @@ own_degrees part k degrees is known =
     ∙ ap (chunk_vertices part.ends) is) known
 
 -- the rows, degrees and edges of the own vertices of a part
-pub own_is : (part : PlainPart) (start : ℕ) (degrees : List Degree) (table : RowTable) (edges : List Edge) →
-    IsPart part → start ≡ start_of part.ends part.at.machine → edges ≡ part.scan →
-    AreDegreesOf part (chunk_vertices part.ends part.at.machine) degrees →
-    length table.rows ≡ length (chunk_vertices part.ends part.at.machine) →
-    All (λ r. length r.words.items ≡ table.width) table.rows → AreOwnVertices start degrees table edges
-own_is part start degrees table edges is begins are known count wide =
-    let first : ℕ = start_of part.ends part.at.machine in
-    let size = length-range_with_len (start_of part.ends part.at.machine)
-    (slice_index part.ends part.at.machine - start_of part.ends part.at.machine) in
-    record {
-      wide = wide;
-      count = known.each ∙ sym count;
-      own = subst (All (λ e. (start ≤ source e) × (source e - start < length degrees)
-          × (source e - start < length table.rows))) (sym are)
-          (λ k d lt.
-          let lies = is.scan_chunk k d lt in
-          let low = lies_low part.ends part.at.machine (source (get_or part.scan k d)) lies in
-          let high = lies_high part.ends part.at.machine (source (get_or part.scan k d)) lies in
-          (omega arith, omega (arith, known.each, size), omega (arith, count, size)));
-      few = omega (arith, ap length are, is.few_scan, is.few);
-    }
+module _ (part : PlainPart) (start : ℕ) (degrees : List Degree) (table : RowTable) (edges : List Edge) where
+  pub own_is : IsPart part → start ≡ start_of part.ends part.at.machine → edges ≡ part.scan →
+      AreDegreesOf part (chunk_vertices part.ends part.at.machine) degrees →
+      length table.rows ≡ length (chunk_vertices part.ends part.at.machine) →
+      All (λ r. length r.words.items ≡ table.width) table.rows → AreOwnVertices start degrees table edges
+  own_is is begins are known count wide =
+      let first : ℕ = start_of part.ends part.at.machine in
+      let size = length-range_with_len (start_of part.ends part.at.machine)
+      (slice_index part.ends part.at.machine - start_of part.ends part.at.machine) in
+      record {
+        wide = wide;
+        count = known.each ∙ sym count;
+        own = subst (All (λ e. (start ≤ source e) × (source e - start < length degrees)
+            × (source e - start < length table.rows))) (sym are)
+            (λ k d lt.
+            let lies = is.scan_chunk k d lt in
+            let low = lies_low part.ends part.at.machine (source (get_or part.scan k d)) lies in
+            let high = lies_high part.ends part.at.machine (source (get_or part.scan k d)) lies in
+            (omega arith, omega (arith, known.each, size), omega (arith, count, size)));
+        few = omega (arith, ap length are, is.few_scan, is.few);
+      }
 
 -- a body that fits spells a state for each vertex
 received_count : (width size bools : ℕ) (dep : List ℕ) → FitsRing width size bools dep →
@@ -94,16 +94,18 @@ received_count width size bools dep fits =
     length-states_in width (take size (pairs_in front)) (drop (mark_len size) dep)
     ∙ length-front size front (omega (arith, marks, most.0))
 
-pub received_states : (split : Split) (size width bools : ℕ) (dep : List ℕ) (states : List LoopState) →
-    width ≡ words_in (loop_carry split.dense) → FitsRing (words_in (loop_carry split.dense)) size bools dep →
-    states ≡ read_of width size dep → AreReceived split size dep states
-received_states split size width bools dep states wide fits are =
-    let all : states ≡ read_of (words_in (loop_carry split.dense)) size dep = are ∙ ap (λ w. read_of w size dep) wide in
-    let count = received_count (words_in (loop_carry split.dense)) size bools dep fits in
-    record {
-      count = ap length all ∙ count;
-      each = λ i lt.
-          ap (λ (ss : List LoopState). get_or ss i (fresh_state 0)) all
-          ∙ get_or_default (read_of (words_in (loop_carry split.dense)) size dep) i (fresh_state 0) (fresh split)
-          (omega (arith, count));
-    }
+module _ (split : Split) (size width bools : ℕ) (dep : List ℕ) (states : List LoopState) where
+  pub received_states : width ≡ words_in (loop_carry split.dense) →
+      FitsRing (words_in (loop_carry split.dense)) size bools dep → states ≡ read_of width size dep →
+      AreReceived split size dep states
+  received_states wide fits are =
+      let all : states ≡ read_of (words_in (loop_carry split.dense)) size dep = are ∙ ap (λ w. read_of w size dep)
+      wide in
+      let count = received_count (words_in (loop_carry split.dense)) size bools dep fits in
+      record {
+        count = ap length all ∙ count;
+        each = λ i lt.
+            ap (λ (ss : List LoopState). get_or ss i (fresh_state 0)) all
+            ∙ get_or_default (read_of (words_in (loop_carry split.dense)) size dep) i (fresh_state 0) (fresh split)
+            (omega (arith, count));
+      }

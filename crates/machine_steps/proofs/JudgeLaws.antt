@@ -40,23 +40,24 @@ use Rattle.round_laws.proofs.Judging.{stops_same}
 
 module _ (ts : List TotalDecl) (held told : List ℤ) (i : ℕ) where
   -- the total at a place is joined
-  pub join_more : (words new : List ℤ) (t d : TotalDecl) (w : ℤ) → i < length ts → i < length held → i < length told →
-      t ≡ get_or ts i d → w ≡ combined_of t.op (get_or held i (pos 0)) (get_or told i (pos 0)) →
-      new ≡ words ++ w ∷ [] →
-      words ++ totals_joined (drop i ts) (drop i held) (drop i told) ≡ totals_joined ts held told →
-      new ++ totals_joined (drop (i + 1) ts) (drop (i + 1) held) (drop (i + 1) told) ≡ totals_joined ts held told
-  join_more words new t d w low low' low'' at is pushed left =
-      let rest : List ℤ = totals_joined (drop (i + 1) ts) (drop (i + 1) held) (drop (i + 1) told) in
-      ap (λ xs. xs ++ rest) pushed
-      ∙ append_assoc words (w ∷ []) rest
-      ∙ ap (λ x. words ++ x ∷ rest) is
-      ∙ ap (λ (u : TotalDecl). words ++ combined_of u.op (get_or held i (pos 0)) (get_or told i (pos 0)) ∷ rest) at
-      ∙ ap (λ us. words ++ totals_joined us (get_or held i (pos 0) ∷ drop (i + 1) held)
-      (get_or told i (pos 0) ∷ drop (i + 1) told)) (sym (drop_more ts i d low))
-      ∙ ap (λ xs. words ++ totals_joined (drop i ts) xs (get_or told i (pos 0) ∷ drop (i + 1) told))
-      (sym (drop_more held i (pos 0) low'))
-      ∙ ap (λ xs. words ++ totals_joined (drop i ts) (drop i held) xs) (sym (drop_more told i (pos 0) low''))
-      ∙ left
+  module _ (words new : List ℤ) (t d : TotalDecl) (w : ℤ) where
+    pub join_more : i < length ts → i < length held → i < length told → t ≡ get_or ts i d →
+        w ≡ combined_of t.op (get_or held i (pos 0)) (get_or told i (pos 0)) → new ≡ words ++ w ∷ [] →
+        words ++ totals_joined (drop i ts) (drop i held) (drop i told) ≡ totals_joined ts held told →
+        new ++ totals_joined (drop (i + 1) ts) (drop (i + 1) held) (drop (i + 1) told) ≡ totals_joined ts held
+        told
+    join_more low low' low'' at is pushed left =
+        let rest : List ℤ = totals_joined (drop (i + 1) ts) (drop (i + 1) held) (drop (i + 1) told) in
+        ap (λ xs. xs ++ rest) pushed
+        ∙ append_assoc words (w ∷ []) rest
+        ∙ ap (λ x. words ++ x ∷ rest) is
+        ∙ ap (λ (u : TotalDecl). words ++ combined_of u.op (get_or held i (pos 0)) (get_or told i (pos 0)) ∷ rest) at
+        ∙ ap (λ us. words ++ totals_joined us (get_or held i (pos 0) ∷ drop (i + 1) held)
+        (get_or told i (pos 0) ∷ drop (i + 1) told)) (sym (drop_more ts i d low))
+        ∙ ap (λ xs. words ++ totals_joined (drop i ts) xs (get_or told i (pos 0) ∷ drop (i + 1) told))
+        (sym (drop_more held i (pos 0) low'))
+        ∙ ap (λ xs. words ++ totals_joined (drop i ts) (drop i held) xs) (sym (drop_more told i (pos 0) low''))
+        ∙ left
 
   pub join_end : (words : List ℤ) → length ts ≤ i →
       words ++ totals_joined (drop i ts) (drop i held) (drop i told) ≡ totals_joined ts held told →
@@ -70,29 +71,31 @@ module _ (ts : List TotalDecl) (held told : List ℤ) (i : ℕ) where
 abbrev pub verdict_letter : ℕ → List ℕ → ℕ → Letter
 verdict_letter round body k = record { name = verdict_name round k; body = body }
 
-pub verdicts_more : (round : ℕ) (body : List ℕ) (sent new : List Message) (m : Message) (to : ℕ) → 1 ≤ to →
-    map letter_of sent ≡ map (verdict_letter round body) (range_with_len 1 (to - 1)) → new ≡ sent ++ m ∷ [] →
-    letter_of m ≡ verdict_letter round body to →
-    map letter_of new ≡ map (verdict_letter round body) (range_with_len 1 (to + 1 - 1))
-verdicts_more round body sent new m to some so_far pushed is =
-    let one : to + 1 - 1 ≡ to - 1 + 1 = omega arith in
-    ap (map letter_of) pushed
-    ∙ map-append letter_of sent (m ∷ [])
-    ∙ ap (λ xs. xs ++ letter_of m ∷ []) so_far
-    ∙ ap (λ l. map (verdict_letter round body) (range_with_len 1 (to - 1)) ++ l ∷ []) is
-    ∙ sym (map-range_with_len_more (verdict_letter round body) 1 (to - 1) to (omega arith))
-    ∙ ap (λ n. map (verdict_letter round body) (range_with_len 1 n)) (sym one)
+module _ (round : ℕ) (body : List ℕ) (sent new : List Message) (m : Message) (to : ℕ) where
+  pub verdicts_more : 1 ≤ to →
+      map letter_of sent ≡ map (verdict_letter round body) (range_with_len 1 (to - 1)) → new ≡ sent ++ m ∷ [] →
+      letter_of m ≡ verdict_letter round body to →
+      map letter_of new ≡ map (verdict_letter round body) (range_with_len 1 (to + 1 - 1))
+  verdicts_more some so_far pushed is =
+      let one : to + 1 - 1 ≡ to - 1 + 1 = omega arith in
+      ap (map letter_of) pushed
+      ∙ map-append letter_of sent (m ∷ [])
+      ∙ ap (λ xs. xs ++ letter_of m ∷ []) so_far
+      ∙ ap (λ l. map (verdict_letter round body) (range_with_len 1 (to - 1)) ++ l ∷ []) is
+      ∙ sym (map-range_with_len_more (verdict_letter round body) 1 (to - 1) to (omega arith))
+      ∙ ap (λ n. map (verdict_letter round body) (range_with_len 1 n)) (sym one)
 
-pub verdicts_all : (round : ℕ) (body : List ℕ) (sent : List Message) (to p n : ℕ) → to ≡ p → n ≡ p - 1 →
-    map letter_of sent ≡ map (verdict_letter round body) (range_with_len 1 (to - 1)) →
-    map letter_of sent ≡ map (λ x. let l : Letter = record { name = x; body = body } in l)
-    (map (verdict_name round) (range_with_len 1 n))
-verdicts_all round body sent to p n end count so_far =
-    let same : to - 1 ≡ n = omega arith in
-    so_far
-    ∙ ap (λ k. map (verdict_letter round body) (range_with_len 1 k)) same
-    ∙ sym (map-map (λ x. let l : Letter = record { name = x; body = body } in l) (verdict_name round)
-    (range_with_len 1 n))
+module _ (round : ℕ) (body : List ℕ) (sent : List Message) (to p n : ℕ) where
+  pub verdicts_all : to ≡ p → n ≡ p - 1 →
+      map letter_of sent ≡ map (verdict_letter round body) (range_with_len 1 (to - 1)) →
+      map letter_of sent ≡ map (λ x. let l : Letter = record { name = x; body = body } in l) (map (verdict_name
+      round) (range_with_len 1 n))
+  verdicts_all end count so_far =
+      let same : to - 1 ≡ n = omega arith in
+      so_far
+      ∙ ap (λ k. map (verdict_letter round body) (range_with_len 1 k)) same
+      ∙ sym (map-map (λ x. let l : Letter = record { name = x; body = body } in l) (verdict_name round)
+      (range_with_len 1 n))
 
 -- ---- the stop test
 pub stop_placed : (p : Program) → is_typed p ≡ true → (env : Env) → counts_of env ≡ stop_counts p →

@@ -140,61 +140,63 @@ module _ (s : State) (r step h : ℕ) (d : Dense) (ids : List ℕ) (block : (pro
       ∙ ap (λ k. map (partials_after s r step h) (range_with_len (own_start s) k)) size
 
   -- the ring states of the own vertices
-  pub ring_kept : (old new half : List LoopState) → s.ring ≡ old → length old ≡ length (own_vertices s) →
-      length new ≡ length old → own_start s ≤ (scan_half s step h).0 →
-      (scan_half s step h).0 - own_start s + size_of (scan_half s step h) ≤ length old →
-      half ≡ map (λ v. (scanned_at s r step h v).state)
-      (range_with_len (scan_half s step h).0 (size_of (scan_half s step h))) →
-      ((k : ℕ) → k < (scan_half s step h).0 - own_start s → state_at new k ≡ state_at old k) →
-      ((k : ℕ) → k < length half → state_at new ((scan_half s step h).0 - own_start s + k) ≡ state_at half k) →
-      ((k : ℕ) → (scan_half s step h).0 - own_start s + length half ≤ k → state_at new k ≡ state_at old k) →
-      new ≡ map (ring_after s r step h) (own_vertices s)
-  ring_kept old new half held count same low room is before within behind =
-      let a : ℕ = own_start s in
-      let o : ℕ = range.0 - own_start s in
-      let st : ℕ → LoopState = λ v. (scanned_at s r step h v).state in
-      let n : ℕ = slice_index s.part.ends (machine s) - own_start s in
-      let size : length old ≡ slice_index s.part.ends (machine s) - own_start s =
-      count ∙ length-range_with_len (own_start s) n in
-      let half_count : length half ≡ size_of (scan_half s step h) =
-      ap length is ∙ length-map-range_with_len st range.0 (size_of range) in
-      same_lists new (map (ring_after s r step h) (own_vertices s))
-      (same ∙ count ∙ sym (length-map (own_vertices s) (ring_after s r step h)))
-      (λ k e lt.
-      let inside : k < length old = omega (arith, same) in
-      let v : ℕ = own_start s + k in
-      let at : own_start s + k - own_start s ≡ k = omega arith in
-      let kept : ring_at s (own_start s + k) ≡ state_at old k =
-      ap (λ ss. slice_index_or ss (v - own_start s) (fresh s.split)) held
-      ∙ ap (λ i. slice_index_or old i (fresh s.split)) at
-      ∙ get_or_default old k (fresh s.split) (fresh_state 0) inside in
-      let after : state_at new k ≡ ring_after s r step h (own_start s + k) =
-      ⊎_elim
-      (λ (first : k < range.0 - own_start s).
-      before k first ∙ sym kept
-      ∙ sym (ap (λ t. if t then st v else ring_at s v) (lies_not_below range.0 range.1 v (omega arith))))
-      (λ (from : range.0 - own_start s ≤ k).
-      ⊎_elim
-      (λ (mid : k < range.0 - own_start s + length half).
-      let here : range.0 - own_start s + (k - (range.0 - own_start s)) ≡ k = omega arith in
-      let vertex : range.0 + (k - (range.0 - own_start s)) ≡ own_start s + k = omega arith in
-      ap (state_at new) (sym here)
-      ∙ within (k - (range.0 - own_start s)) (omega arith)
-      ∙ ap (λ ss. state_at ss (k - (range.0 - own_start s))) is
-      ∙ get_or-map-range_with_len st range.0 (size_of range) (k - (range.0 - own_start s)) (own_start s + k)
-      (fresh_state 0) (omega (arith, half_count)) vertex
-      ∙ sym (ap (λ t. if t then st v else ring_at s v)
-      (lies_is range.0 range.1 v (omega arith) (omega (arith, half_count)))))
-      (λ (last : range.0 - own_start s + length half ≤ k).
-      behind k last ∙ sym kept
-      ∙ sym (ap (λ t. if t then st v else ring_at s v)
-      (lies_not_above range.0 range.1 v (omega (arith, half_count)))))
-      (cases_lt k (range.0 - own_start s + length half)))
-      (cases_lt k (range.0 - own_start s)) in
-      get_or_default new k e (fresh_state 0) lt
-      ∙ after
-      ∙ sym (get_or-map-range_with_len (ring_after s r step h) (own_start s) n k (own_start s + k) e
-      (omega (arith, size)) refl))
+  module _ (old new half : List LoopState) (held : s.ring ≡ old) where
+    pub ring_kept : length old ≡ length (own_vertices s) → length new ≡ length old →
+        own_start s ≤ (scan_half s step h).0 →
+        (scan_half s step h).0 - own_start s + size_of (scan_half s step h) ≤ length old →
+        half ≡ map (λ v. (scanned_at s r step h v).state) (range_with_len (scan_half s step h).0 (size_of
+        (scan_half s step h))) →
+        ((k : ℕ) → k < (scan_half s step h).0 - own_start s → state_at new k ≡ state_at old k) →
+        ((k : ℕ) → k < length half → state_at new ((scan_half s step h).0 - own_start s + k) ≡ state_at half k)
+        →
+        ((k : ℕ) → (scan_half s step h).0 - own_start s + length half ≤ k → state_at new k ≡ state_at old k) →
+        new ≡ map (ring_after s r step h) (own_vertices s)
+    ring_kept count same low room is before within behind =
+        let a : ℕ = own_start s in
+        let o : ℕ = range.0 - own_start s in
+        let st : ℕ → LoopState = λ v. (scanned_at s r step h v).state in
+        let n : ℕ = slice_index s.part.ends (machine s) - own_start s in
+        let size : length old ≡ slice_index s.part.ends (machine s) - own_start s =
+        count ∙ length-range_with_len (own_start s) n in
+        let half_count : length half ≡ size_of (scan_half s step h) =
+        ap length is ∙ length-map-range_with_len st range.0 (size_of range) in
+        same_lists new (map (ring_after s r step h) (own_vertices s))
+        (same ∙ count ∙ sym (length-map (own_vertices s) (ring_after s r step h)))
+        (λ k e lt.
+        let inside : k < length old = omega (arith, same) in
+        let v : ℕ = own_start s + k in
+        let at : own_start s + k - own_start s ≡ k = omega arith in
+        let kept : ring_at s (own_start s + k) ≡ state_at old k =
+        ap (λ ss. slice_index_or ss (v - own_start s) (fresh s.split)) held
+        ∙ ap (λ i. slice_index_or old i (fresh s.split)) at
+        ∙ get_or_default old k (fresh s.split) (fresh_state 0) inside in
+        let after : state_at new k ≡ ring_after s r step h (own_start s + k) =
+        ⊎_elim
+        (λ (first : k < range.0 - own_start s).
+        before k first ∙ sym kept
+        ∙ sym (ap (λ t. if t then st v else ring_at s v) (lies_not_below range.0 range.1 v (omega arith))))
+        (λ (from : range.0 - own_start s ≤ k).
+        ⊎_elim
+        (λ (mid : k < range.0 - own_start s + length half).
+        let here : range.0 - own_start s + (k - (range.0 - own_start s)) ≡ k = omega arith in
+        let vertex : range.0 + (k - (range.0 - own_start s)) ≡ own_start s + k = omega arith in
+        ap (state_at new) (sym here)
+        ∙ within (k - (range.0 - own_start s)) (omega arith)
+        ∙ ap (λ ss. state_at ss (k - (range.0 - own_start s))) is
+        ∙ get_or-map-range_with_len st range.0 (size_of range) (k - (range.0 - own_start s)) (own_start s + k)
+        (fresh_state 0) (omega (arith, half_count)) vertex
+        ∙ sym (ap (λ t. if t then st v else ring_at s v)
+        (lies_is range.0 range.1 v (omega arith) (omega (arith, half_count)))))
+        (λ (last : range.0 - own_start s + length half ≤ k).
+        behind k last ∙ sym kept
+        ∙ sym (ap (λ t. if t then st v else ring_at s v)
+        (lies_not_above range.0 range.1 v (omega (arith, half_count)))))
+        (cases_lt k (range.0 - own_start s + length half)))
+        (cases_lt k (range.0 - own_start s)) in
+        get_or_default new k e (fresh_state 0) lt
+        ∙ after
+        ∙ sym (get_or-map-range_with_len (ring_after s r step h) (own_start s) n k (own_start s + k) e
+        (omega (arith, size)) refl))
 
 -- ---- own vertices of a range
 pub own_placed : (start count : ℕ) (range : ℕ × ℕ) (us : List ℕ) (spans : List Span) →
@@ -331,13 +333,14 @@ module _ (s : State) (r step h : ℕ) (d : Dense) (range : ℕ × ℕ) (spans : 
         ∙ ap (map (λ v. (scanned_at s r step h v).reads)) ids_are
 
 -- of no target of a range were more read than it has
-pub few_kept : (part : PlainPart) (spans : List Span) (edges : List Edge) → edges ≡ part.scan → (counts us : List ℕ) →
-    map vertex_of spans ≡ us → length counts ≡ length spans → AreFew edges spans counts → (i : ℕ) → i < length counts →
-    slice_index counts i ≤ length (members_in part (slice_index us i))
-few_kept part spans edges es counts us are same few i lt =
-    let within : i < length spans = omega arith in
-    let vertex = sym (get_or-map vertex_of spans i no_span 0 within) ∙ ap (λ vs. slice_index vs i) are in
-    subst (λ (v : ℕ). slice_index counts i ≤ length (members_in part v)) vertex
-    (subst (λ (all : List Edge).
-    slice_index counts i ≤ length (bucket target (vertex_of (get_or spans i no_span)) all)) es
-    (few i within))
+module _ (part : PlainPart) (spans : List Span) (edges : List Edge) where
+  pub few_kept : edges ≡ part.scan → (counts us : List ℕ) → map vertex_of spans ≡ us →
+      length counts ≡ length spans → AreFew edges spans counts → (i : ℕ) → i < length counts →
+      slice_index counts i ≤ length (members_in part (slice_index us i))
+  few_kept es counts us are same few i lt =
+      let within : i < length spans = omega arith in
+      let vertex = sym (get_or-map vertex_of spans i no_span 0 within) ∙ ap (λ vs. slice_index vs i) are in
+      subst (λ (v : ℕ). slice_index counts i ≤ length (members_in part v)) vertex
+      (subst (λ (all : List Edge).
+      slice_index counts i ≤ length (bucket target (vertex_of (get_or spans i no_span)) all)) es
+      (few i within))

@@ -31,15 +31,14 @@ pub record IsNoted (old new counts : List ℕ) (from : ℕ) : Type 0 where
   pub behind : (k : ℕ) → from + length counts ≤ k → slice_index new k ≡ slice_index old k
 
 -- how many targets a half has
-pub half_size : (part : PlainPart) (range : ℕ × ℕ) (spans : List Span) (a b : ℕ) →
-    AreSpans target (vertices_of part.ends) part.scan spans → IsPlace range.0 spans a → IsPlace range.1 spans b →
-    a ≤ b →
-    length (those_within range (targets_of part)) ≡ b - a
-half_size part range spans a b are first last le =
-    ap length
-    (sym (vertices_between range.0 range.1 spans a b first last le ∙ ap (those_within range) are.vertices))
-    ∙ length-map (slice_range spans a b) vertex_of
-    ∙ length-slice spans a b last.within
+module _ (part : PlainPart) (range : ℕ × ℕ) (spans : List Span) (a b : ℕ) where
+  pub half_size : AreSpans target (vertices_of part.ends) part.scan spans → IsPlace range.0 spans a →
+      IsPlace range.1 spans b → a ≤ b → length (those_within range (targets_of part)) ≡ b - a
+  half_size are first last le =
+      ap length
+      (sym (vertices_between range.0 range.1 spans a b first last le ∙ ap (those_within range) are.vertices))
+      ∙ length-map (slice_range spans a b) vertex_of
+      ∙ length-slice spans a b last.within
 
 module _ (part : PlainPart) (range : ℕ × ℕ) (spans : List Span) (a b : ℕ)
     (are : AreSpans target (vertices_of part.ends) part.scan spans) (first : IsPlace range.0 spans a)

@@ -128,27 +128,26 @@ module _ (g : Sight) (spans : List Span) (degrees : List Degree) (width first : 
   mirror_outs = ap (λ x. x.outs) degree_is ∙ shows.outs at within ∙ ap g.outs vertex_is
 
 -- what is scanned over the members of a span is what is scanned at its vertex
-pub visited_over : (split : Split) (d : Dense) (g : Sight) (key start : ℕ) (degrees : List Degree) (table : RowTable)
+module _ (split : Split) (d : Dense) (g : Sight) (key start : ℕ) (degrees : List Degree) (table : RowTable)
     (edges members : List Edge) (s : Span) (first env : Env) (st : LoopState) (place : ℕ) (old new : StateTable)
-    (told : Sent) (count : ℕ) →
-    ShowsOwn g table.rows degrees start (none split) first → AreOwnVertices start degrees table edges →
-    IsSpan target edges s → members ≡ bucket target (vertex_of s) edges →
-    env ≡ seen_env g (vertex_of s) key (none split) →
-    (ShowsVertex split g start degrees table.rows members env →
-    IsVisited (scanned split d g env.key members env.id.0 st) members place old new told count) →
-    IsVisited (scanned_over split d g key edges (vertex_of s) st) (bucket target (vertex_of s) edges) place old new told
-    count
-visited_over split d g key start degrees table edges members s first env st place old new told count shows own span
-    are is visited =
-    let all : List Edge = bucket target (vertex_of s) edges in
-    let seen = members_seen g table degrees start (none split) first shows edges (vertex_of s) own.own in
-    let here = visited (record {
-      some = subst (λ ms. 0 < length ms) (sym are) (span_some edges s span);
-      here = is ∙ sym (λ i. seen_env g (is i).id.0 (is i).key (none split));
-      there = subst (All (λ e. member_in start degrees table.rows e ≡ seen_member g e)) (sym are) seen;
-    }) in
-    subst (λ (e : Env). IsVisited (scanned split d g e.key all e.id.0 st) all place old new told count) is
-    (subst (λ ms. IsVisited (scanned split d g env.key ms env.id.0 st) ms place old new told count) are here)
+    (told : Sent) (count : ℕ) where
+  pub visited_over : ShowsOwn g table.rows degrees start (none split) first →
+      AreOwnVertices start degrees table edges → IsSpan target edges s →
+      members ≡ bucket target (vertex_of s) edges → env ≡ seen_env g (vertex_of s) key (none split) →
+      (ShowsVertex split g start degrees table.rows members env → IsVisited (scanned split d g env.key members
+      env.id.0 st) members place old new told count) →
+      IsVisited (scanned_over split d g key edges (vertex_of s) st) (bucket target (vertex_of s) edges) place
+      old new told count
+  visited_over shows own span are is visited =
+      let all : List Edge = bucket target (vertex_of s) edges in
+      let seen = members_seen g table degrees start (none split) first shows edges (vertex_of s) own.own in
+      let here = visited (record {
+        some = subst (λ ms. 0 < length ms) (sym are) (span_some edges s span);
+        here = is ∙ sym (λ i. seen_env g (is i).id.0 (is i).key (none split));
+        there = subst (All (λ e. member_in start degrees table.rows e ≡ seen_member g e)) (sym are) seen;
+      }) in
+      subst (λ (e : Env). IsVisited (scanned split d g e.key all e.id.0 st) all place old new told count) is
+      (subst (λ ms. IsVisited (scanned split d g env.key ms env.id.0 st) ms place old new told count) are here)
 
 -- where the loop broke before, nothing is read, nothing is sent, and the state is passed on
 broken_passes : (split : Split) (d : Dense) (g : Sight) (key : ℕ) (members : List Edge) (v : ℕ) (st : LoopState)
@@ -159,19 +158,20 @@ broken_passes split d g key (e ∷ es) v st broken =
     ap (λ b. if b || not (is_set (value_of d.when_test env)) then passed split st
     else scanned_by split d (segment_seen d g (e ∷ es) st env)) broken
 
-pub passed_over : (split : Split) (d : Dense) (g : Sight) (key : ℕ) (edges : List Edge) (v place : ℕ)
-    (half : StateTable) (told : Sent) → is_broken (state_at half.states place).mark ≡ true → told ≡ unsent split →
-    IsVisited (scanned_over split d g key edges v (state_at half.states place)) (bucket target v edges) place half half
-    told 0
-passed_over split d g key edges v place half told broken none_sent =
-    let st : LoopState = state_at half.states place in
-    subst (λ s. IsVisited s (bucket target v edges) place half half told 0)
-    (sym (broken_passes split d g key (bucket target v edges) v st broken)) (record {
-      state = ap (λ ss. let t : StateTable = record half { states = ss } in t)
-          (sym (set-get_or half.states place (fresh_state 0)));
-      sent = none_sent;
-      reads = refl;
-    })
+module _ (split : Split) (d : Dense) (g : Sight) (key : ℕ) (edges : List Edge) (v place : ℕ) (half : StateTable)
+    (told : Sent) where
+  pub passed_over : is_broken (state_at half.states place).mark ≡ true → told ≡ unsent split →
+      IsVisited (scanned_over split d g key edges v (state_at half.states place)) (bucket target v edges) place
+      half half told 0
+  passed_over broken none_sent =
+      let st : LoopState = state_at half.states place in
+      subst (λ s. IsVisited s (bucket target v edges) place half half told 0)
+      (sym (broken_passes split d g key (bucket target v edges) v st broken)) (record {
+        state = ap (λ ss. let t : StateTable = record half { states = ss } in t)
+            (sym (set-get_or half.states place (fresh_state 0)));
+        sent = none_sent;
+        reads = refl;
+      })
 
 -- ---- the environments of a round
 pub round_trans : (a b c : Env) → SameRound a b → SameRound b c → SameRound a c
@@ -183,16 +183,17 @@ round_trans a b c p q = record {
   slots = q.slots ∙ p.slots;
 }
 
-pub shows_later : (g : Sight) (rows : List Row) (degrees : List Degree) (start : ℕ) (values : List (Option ℤ))
-    (first now : Env) → SameRound first now → ShowsOwn g rows degrees start values first →
-    ShowsOwn g rows degrees start values now
-shows_later g rows degrees start values first now same shows = record {
-  n = same.n ∙ shows.n;
-  round = same.round ∙ shows.round;
-  draws = same.draws ∙ shows.draws;
-  totals = ap (λ t. t.items) same.totals ∙ shows.totals;
-  slots = ap (λ t. t.items) same.slots ∙ shows.slots;
-  row = shows.row;
-  ins = shows.ins;
-  outs = shows.outs;
-}
+module _ (g : Sight) (rows : List Row) (degrees : List Degree) (start : ℕ) (values : List (Option ℤ))
+    (first now : Env) where
+  pub shows_later : SameRound first now → ShowsOwn g rows degrees start values first →
+      ShowsOwn g rows degrees start values now
+  shows_later same shows = record {
+    n = same.n ∙ shows.n;
+    round = same.round ∙ shows.round;
+    draws = same.draws ∙ shows.draws;
+    totals = ap (λ t. t.items) same.totals ∙ shows.totals;
+    slots = ap (λ t. t.items) same.slots ∙ shows.slots;
+    row = shows.row;
+    ins = shows.ins;
+    outs = shows.outs;
+  }

@@ -139,20 +139,21 @@ pub record Given (whole : PlainPart) (program : Split) (known : List ℤ) (own :
   pub slots : env.slots.items ≡ none program
 
 -- a state that shows it was given the same
-pub given_to : (whole : PlainPart) (program : Split) (known : List ℤ) (own : List Row) (r step h : ℕ) (d : Dense)
+module _ (whole : PlainPart) (program : Split) (known : List ℤ) (own : List Row) (r step h : ℕ) (d : Dense)
     (chunk : ℕ) (range : ℕ × ℕ) (targets spans : List Span) (degrees near : List Degree) (first : ℕ) (env : Env)
-    (s : State) → Shows whole program known own s →
-    Given whole program known own r step h d chunk range targets spans degrees near first env →
-    Given s.part s.split (known_totals s) s.rows r step h d chunk range targets spans degrees near first env
-given_to whole program known own r step h d chunk range targets spans degrees near first env s shows given =
-    subst (λ p. Given p s.split (known_totals s) s.rows r step h d chunk range targets spans degrees near first env)
-    (sym shows.part)
-    (subst (λ q. Given whole q (known_totals s) s.rows r step h d chunk range targets spans degrees near first env)
-    (sym shows.split)
-    (subst (λ k. Given whole program k s.rows r step h d chunk range targets spans degrees near first env)
-    (sym shows.totals)
-    (subst (λ o. Given whole program known o r step h d chunk range targets spans degrees near first env)
-    (sym shows.rows) given)))
+    (s : State) where
+  pub given_to : Shows whole program known own s →
+      Given whole program known own r step h d chunk range targets spans degrees near first env →
+      Given s.part s.split (known_totals s) s.rows r step h d chunk range targets spans degrees near first env
+  given_to shows given =
+      subst (λ p. Given p s.split (known_totals s) s.rows r step h d chunk range targets spans degrees near first env)
+      (sym shows.part)
+      (subst (λ q. Given whole q (known_totals s) s.rows r step h d chunk range targets spans degrees near first env)
+      (sym shows.split)
+      (subst (λ k. Given whole program k s.rows r step h d chunk range targets spans degrees near first env)
+      (sym shows.totals)
+      (subst (λ o. Given whole program known o r step h d chunk range targets spans degrees near first env)
+      (sym shows.rows) given)))
 
 module _ (s : State) (r step h : ℕ) (d : Dense) (chunk : ℕ) (range : ℕ × ℕ) (targets spans : List Span)
     (degrees near : List Degree) (first : ℕ) (env : Env)

@@ -157,21 +157,20 @@ within_once range us spans up are =
     (stand_once range.0 (range.1 - range.0) vertices placed (subst IsStrictlyIncreasing (sym same) rises))
 
 -- a vertex of the range that isn't among them has no members
-pub no_members : (part : PlainPart) (range : ℕ × ℕ) (ids : List ℕ) (v : ℕ) →
-    ids ≡ those_within range (targets_of part) →
-    range.0 ≤ v → v < range.1 → range.1 ≤ vertices_of part.ends → list_any (λ u. u == v) ids ≡ false →
-    bucket target v part.scan ≡ []
-no_members part range ids v are low high most none =
-    ⊎_elim
-    (λ (some : list_any (λ e. target e == v) part.scan ≡ true).
-    let among = any_kept (λ u. list_any (λ e. target e == u) part.scan) v (range_with_len 0 (vertices_of part.ends))
-    some
-    (any_range v 0 (vertices_of part.ends) (omega arith) (omega arith)) in
-    let within = any_kept (is_within range) v (targets_of part) (lies_is range.0 range.1 v low high) among in
-    let clash : true ≡ false = sym within ∙ ap (list_any (λ u. u == v)) (sym are) ∙ none in
-    absurd (cc))
-    (λ (no : list_any (λ e. target e == v) part.scan ≡ false). none_pass (λ e. target e == v) part.scan no)
-    (cases_Bool (list_any (λ e. target e == v) part.scan))
+module _ (part : PlainPart) (range : ℕ × ℕ) (ids : List ℕ) (v : ℕ) where
+  pub no_members : ids ≡ those_within range (targets_of part) → range.0 ≤ v → v < range.1 →
+      range.1 ≤ vertices_of part.ends → list_any (λ u. u == v) ids ≡ false → bucket target v part.scan ≡ []
+  no_members are low high most none =
+      ⊎_elim
+      (λ (some : list_any (λ e. target e == v) part.scan ≡ true).
+      let among = any_kept (λ u. list_any (λ e. target e == u) part.scan) v (range_with_len 0 (vertices_of part.ends))
+      some
+      (any_range v 0 (vertices_of part.ends) (omega arith) (omega arith)) in
+      let within = any_kept (is_within range) v (targets_of part) (lies_is range.0 range.1 v low high) among in
+      let clash : true ≡ false = sym within ∙ ap (list_any (λ u. u == v)) (sym are) ∙ none in
+      absurd (cc))
+      (λ (no : list_any (λ e. target e == v) part.scan ≡ false). none_pass (λ e. target e == v) part.scan no)
+      (cases_Bool (list_any (λ e. target e == v) part.scan))
 
 -- what lies within a range lies within a wider one
 narrower : (a b : ℕ) (range : ℕ × ℕ) (v : ℕ) → a ≤ range.0 → range.1 ≤ b →

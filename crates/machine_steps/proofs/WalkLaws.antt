@@ -80,18 +80,18 @@ module _ (f : ℕ → LoopState → Scanned) (start : ℕ) (ids : List ℕ) (i v
       ∙ so_far
 
   -- or is added to its partials
-  pub merged_next : (own key : ℕ) (before after all : List (List Partial)) (told : Sent) →
-      told ≡ (f v (state_at now (v - start))).sent →
-      after ≡ set before (v - own) (with_sent key told (get_or before (v - own) [])) →
-      merged own key (drop i ids) (map (λ x. x.sent) (scans f start (drop i ids) now)) before ≡ all →
-      merged own key (drop (i + 1) ids) (map (λ x. x.sent) (scans f start (drop (i + 1) ids) new)) after ≡ all
-  merged_next own key before after all told here put_there so_far =
-      let rest : List Sent = map (λ x. x.sent) (scans f start (drop (i + 1) ids) new) in
-      ap (merged own key (drop (i + 1) ids) rest)
-      (put_there ∙ ap (λ t. set before (v - own) (with_sent key t (get_or before (v - own) []))) here)
-      ∙ sym (ap (λ us. merged own key us (map (λ x. x.sent) (scans f start (drop i ids) now)) before) front
-      ∙ ap (λ xs. merged own key (v ∷ drop (i + 1) ids) (map (λ x. x.sent) xs) before) scans_next)
-      ∙ so_far
+  module _ (own key : ℕ) (before after all : List (List Partial)) (told : Sent) where
+    pub merged_next : told ≡ (f v (state_at now (v - start))).sent →
+        after ≡ set before (v - own) (with_sent key told (get_or before (v - own) [])) →
+        merged own key (drop i ids) (map (λ x. x.sent) (scans f start (drop i ids) now)) before ≡ all →
+        merged own key (drop (i + 1) ids) (map (λ x. x.sent) (scans f start (drop (i + 1) ids) new)) after ≡ all
+    merged_next here put_there so_far =
+        let rest : List Sent = map (λ x. x.sent) (scans f start (drop (i + 1) ids) new) in
+        ap (merged own key (drop (i + 1) ids) rest)
+        (put_there ∙ ap (λ t. set before (v - own) (with_sent key t (get_or before (v - own) []))) here)
+        ∙ sym (ap (λ us. merged own key us (map (λ x. x.sent) (scans f start (drop i ids) now)) before) front
+        ∙ ap (λ xs. merged own key (v ∷ drop (i + 1) ids) (map (λ x. x.sent) xs) before) scans_next)
+        ∙ so_far
 
 -- when no vertex is left
 module _ (f : ℕ → LoopState → Scanned) (start : ℕ) (ids : List ℕ) (i : ℕ) (now : List LoopState)
@@ -117,23 +117,25 @@ module _ (f : ℕ → LoopState → Scanned) (start : ℕ) (ids : List ℕ) (i :
       ∙ so_far.reads
 
 -- of no vertex before a place were more read than it has
-pub few_more : (most : ℕ → ℕ) (counts : List ℕ) (i count : ℕ) → i < length counts → count ≤ most i →
-    ((k : ℕ) → k < i → get_or counts k 0 ≤ most k) → (k : ℕ) → k < i + 1 → get_or (set counts i count) k 0 ≤ most k
-few_more most counts i count lt le so_far k within =
-    ⊎_elim
-    (λ (here : k ≡ i).
-    subst (λ (j : ℕ). get_or (set counts i count) j 0 ≤ most j) (sym here)
-    (subst (λ (n : ℕ). n ≤ most i) (sym (get_or-set_same counts i count 0 lt)) le))
-    (λ (other : k ≡ i → ⊥).
-    subst (λ (n : ℕ). n ≤ most k) (sym (get_or-set_other counts i k count 0 other)) (so_far k (omega arith)))
-    (cases_eq k i)
+module _ (most : ℕ → ℕ) (counts : List ℕ) (i count : ℕ) where
+  pub few_more : i < length counts → count ≤ most i → ((k : ℕ) → k < i → get_or counts k 0 ≤ most k) → (k : ℕ) →
+      k < i + 1 → get_or (set counts i count) k 0 ≤ most k
+  few_more lt le so_far k within =
+      ⊎_elim
+      (λ (here : k ≡ i).
+      subst (λ (j : ℕ). get_or (set counts i count) j 0 ≤ most j) (sym here)
+      (subst (λ (n : ℕ). n ≤ most i) (sym (get_or-set_same counts i count 0 lt)) le))
+      (λ (other : k ≡ i → ⊥).
+      subst (λ (n : ℕ). n ≤ most k) (sym (get_or-set_other counts i k count 0 other)) (so_far k (omega arith)))
+      (cases_eq k i)
 
 -- the partials of a vertex stay as many
-pub each_more : (width key place : ℕ) (told : Sent) (now new : Rows Partial) →
-    new ≡ record now { rows = set now.rows place (with_sent key told (get_or now.rows place [])) } →
-    place < length now.rows → All (λ ps. length ps ≡ width) now.rows → All (λ ps. length ps ≡ width) new.rows
-each_more width key place told now new put lt each =
-    let row : List Partial = get_or now.rows place [] in
-    subst (λ (p : Rows Partial). All (λ ps. length ps ≡ width) p.rows) (sym put)
-    (All-set (λ ps. length ps ≡ width) now.rows place (with_sent key told row)
-    (length-with_values key (told.values ++ told.operands) row ∙ each place [] lt) each)
+module _ (width key place : ℕ) (told : Sent) (now new : Rows Partial) where
+  pub each_more :
+      new ≡ record now { rows = set now.rows place (with_sent key told (get_or now.rows place [])) } →
+      place < length now.rows → All (λ ps. length ps ≡ width) now.rows → All (λ ps. length ps ≡ width) new.rows
+  each_more put lt each =
+      let row : List Partial = get_or now.rows place [] in
+      subst (λ (p : Rows Partial). All (λ ps. length ps ≡ width) p.rows) (sym put)
+      (All-set (λ ps. length ps ≡ width) now.rows place (with_sent key told row)
+      (length-with_values key (told.values ++ told.operands) row ∙ each place [] lt) each)

@@ -87,30 +87,28 @@ module _ (g : Ground) (rs : Receivers) (is : IsReceiving (plain_of g.part) g.cod
         own_rows sparse_runs s shows
 
     -- what a push tells
-    pub chunk_worked : (k words : ℕ) (spans : List Span) (body : List ℕ) (old new : Rows Partial) →
-        k < (plain_of g.part).at.machines → k ≢ (plain_of g.part).at.machine →
-        spans ≡ spans_in (plain_of g.part).ends k g.groups.senders.items →
-        words ≡ length (sends_in (program_of g.part.split.value).sparse) →
-        new
-        ≡ record old {
-          rows =
-              edges_added (receiving rs) env
-              (λ u. beside None u (map vertex_of spans) (sends_read words (length spans) body)) rs.edges.now old.rows;
-        } →
-        (s : State) → Shows (plain_of g.part) g.part.split.value env.totals.items rs.rows.now.rows s →
-        new.rows ≡ worked s env.round (told_sends s k body) s.part.push old.rows
-    chunk_worked k words spans body old new low other these count added s shows =
-        let told : ℕ → Option (List ℤ) = λ u.
-        beside None u (map vertex_of spans) (sends_read words (length spans) body) in
-        let listed = ap (map vertex_of) these
-        ∙ senders_told (plain_of g.part) g.can.whole g.groups.senders.items g.grouped.senders k low
-        (ne_eqb k (plain_of g.part).at.machine other)
-        ∙ ap (λ (p : PlainPart). slice_index_or p.push_of k []) (sym shows.part) in
-        let sent = count ∙ ap (λ sp. length (sends_in (program_of sp).sparse)) (sym shows.split) in
-        ap (λ (t : Rows Partial). t.rows) added
-        ∙ works_edges s env.round rs env (ground_works s shows) told old.rows
-        ∙ ap (λ f. worked s env.round f s.part.push old.rows)
-        (λ j u. works_told s k words spans body listed sent u j)
+    module _ (k words : ℕ) (spans : List Span) (body : List ℕ) (old new : Rows Partial) where
+      pub chunk_worked : k < (plain_of g.part).at.machines → k ≢ (plain_of g.part).at.machine →
+          spans ≡ spans_in (plain_of g.part).ends k g.groups.senders.items →
+          words ≡ length (sends_in (program_of g.part.split.value).sparse) →
+          new ≡ record old {
+            rows = edges_added (receiving rs) env (λ u. beside None u (map vertex_of spans)
+                (sends_read words (length spans) body)) rs.edges.now old.rows;
+          } → (s : State) →
+          Shows (plain_of g.part) g.part.split.value env.totals.items rs.rows.now.rows s →
+          new.rows ≡ worked s env.round (told_sends s k body) s.part.push old.rows
+      chunk_worked low other these count added s shows =
+          let told : ℕ → Option (List ℤ) = λ u.
+          beside None u (map vertex_of spans) (sends_read words (length spans) body) in
+          let listed = ap (map vertex_of) these
+          ∙ senders_told (plain_of g.part) g.can.whole g.groups.senders.items g.grouped.senders k low
+          (ne_eqb k (plain_of g.part).at.machine other)
+          ∙ ap (λ (p : PlainPart). slice_index_or p.push_of k []) (sym shows.part) in
+          let sent = count ∙ ap (λ sp. length (sends_in (program_of sp).sparse)) (sym shows.split) in
+          ap (λ (t : Rows Partial). t.rows) added
+          ∙ works_edges s env.round rs env (ground_works s shows) told old.rows
+          ∙ ap (λ f. worked s env.round f s.part.push old.rows)
+          (λ j u. works_told s k words spans body listed sent u j)
 
 -- ---- what receivers need as a round begins
 sent_words : (o : Option Sparse) → length (sends_in o) ≡ sent_names o
@@ -218,27 +216,28 @@ module _ (g : Ground) (rows : RowTable) (rs : Receivers) (is : IsReceiving (plai
 
 -- ---- one after another
 -- what can work can work on where the numbers stay
-pub still_works : (g : Ground) (rs : Receivers) (first later : Env) (old new : Rows Partial) →
-    CanWork g rs first old → settled later ≡ settled first →
-    CanReceive rs (length (sends_in (program_of g.part.split.value).sparse)) later new → CanWork g rs later new
-still_works g rs first later old new works same can =
-    let sums = ap (λ (e : Env). e.totals.items) same in
-    record {
-      receiving = works.receiving;
-      numbers = record {
-        n = ap (λ (e : Env). e.n) same ∙ works.numbers.n;
-        at = refl;
-        draws = ap (λ (e : Env). e.draws) same ∙ works.numbers.draws;
-        slots = ap (λ (e : Env). e.slots.items) same ∙ works.numbers.slots;
-        sums = refl;
-      };
-      rows = record {
-        count = works.rows.count;
-        width = works.rows.width;
-        sums = ap length sums ∙ works.rows.sums;
-      };
-      can = can;
-    }
+module _ (g : Ground) (rs : Receivers) (first later : Env) (old new : Rows Partial) where
+  pub still_works : CanWork g rs first old → settled later ≡ settled first →
+      CanReceive rs (length (sends_in (program_of g.part.split.value).sparse)) later new →
+      CanWork g rs later new
+  still_works works same can =
+      let sums = ap (λ (e : Env). e.totals.items) same in
+      record {
+        receiving = works.receiving;
+        numbers = record {
+          n = ap (λ (e : Env). e.n) same ∙ works.numbers.n;
+          at = refl;
+          draws = ap (λ (e : Env). e.draws) same ∙ works.numbers.draws;
+          slots = ap (λ (e : Env). e.slots.items) same ∙ works.numbers.slots;
+          sums = refl;
+        };
+        rows = record {
+          count = works.rows.count;
+          width = works.rows.width;
+          sums = ap length sums ∙ works.rows.sums;
+        };
+        can = can;
+      }
 
 -- ---- what own vertices send, and pushes that were kept
 -- where nothing is sent all stays as it is
@@ -343,14 +342,15 @@ module _ (g : Ground) (rs : Receivers) (env : Env) (table : Rows Partial) (works
       (λ u. no_block_sends s env.round u lacks (lies_in s.part.ends (machine s) u)) s.part.push all)
 
   -- the body that is held of a push
-  pub kept_body : (k : ℕ) (x : Name) (letters : List Letter) (body : List ℕ) (s : State) → ShowsTo g rs env s →
-      s.held ≡ letters → x ≡ push_name env.round k (plain_of g.part).at.machine →
-      body ≡ body_of (found x letters) → body ≡ held_body s (push_name env.round k (machine s))
-  kept_body k x letters body s shows held name is =
-      is
-      ∙ ap (λ y. body_of (found y letters)) name
-      ∙ ap (λ ms. body_of (found (push_name env.round k (plain_of g.part).at.machine) ms)) (sym held)
-      ∙ ap (λ (p : PlainPart). body_of (found (push_name env.round k p.at.machine) s.held)) (sym shows.part)
+  module _ (k : ℕ) (x : Name) (letters : List Letter) (body : List ℕ) (s : State) where
+    pub kept_body : ShowsTo g rs env s → s.held ≡ letters →
+        x ≡ push_name env.round k (plain_of g.part).at.machine → body ≡ body_of (found x letters) →
+        body ≡ held_body s (push_name env.round k (machine s))
+    kept_body shows held name is =
+        is
+        ∙ ap (λ y. body_of (found y letters)) name
+        ∙ ap (λ ms. body_of (found (push_name env.round k (plain_of g.part).at.machine) ms)) (sym held)
+        ∙ ap (λ (p : PlainPart). body_of (found (push_name env.round k p.at.machine) s.held)) (sym shows.part)
 
   -- where it has no byte, nothing is sent
   pub silent_worked : (k : ℕ) (body : List ℕ) (all : List (List Partial)) (s : State) →

@@ -43,17 +43,17 @@ append_ascends mid (x ∷ xs) ys up low up' high =
       append_ascends mid xs ys up.1 low.1 up' high,
     )
 
-between_append : (lo mid hi : ℕ) (xs ys : List ℕ) → lo ≤ mid → mid ≤ hi → Between lo mid xs → Between mid hi ys →
-    Between lo hi (xs ++ ys)
-between_append lo mid hi xs ys le le' b c = record {
-  up = append_ascends mid xs ys b.up (all_weaker (λ x. (lo ≤ x) × (x < mid)) (λ x. x < mid) (λ x h. h.1) xs b.all)
-      c.up (all_weaker (λ x. (mid ≤ x) × (x < hi)) (λ x. mid ≤ x) (λ x h. h.0) ys c.all);
-  all = all_append (λ x. (lo ≤ x) × (x < hi)) xs ys
-      (all_weaker (λ x. (lo ≤ x) × (x < mid)) (λ x. (lo ≤ x) × (x < hi)) (λ x h.
-      let top = h.1 in (h.0, omega arith)) xs b.all)
-      (all_weaker (λ x. (mid ≤ x) × (x < hi)) (λ x. (lo ≤ x) × (x < hi)) (λ x h.
-      let low = h.0 in (omega arith, h.1)) ys c.all);
-}
+module _ (lo mid hi : ℕ) (xs ys : List ℕ) where
+  between_append : lo ≤ mid → mid ≤ hi → Between lo mid xs → Between mid hi ys → Between lo hi (xs ++ ys)
+  between_append le le' b c = record {
+    up = append_ascends mid xs ys b.up (all_weaker (λ x. (lo ≤ x) × (x < mid)) (λ x. x < mid) (λ x h. h.1) xs b.all)
+        c.up (all_weaker (λ x. (mid ≤ x) × (x < hi)) (λ x. mid ≤ x) (λ x h. h.0) ys c.all);
+    all = all_append (λ x. (lo ≤ x) × (x < hi)) xs ys
+        (all_weaker (λ x. (lo ≤ x) × (x < mid)) (λ x. (lo ≤ x) × (x < hi)) (λ x h.
+        let top = h.1 in (h.0, omega arith)) xs b.all)
+        (all_weaker (λ x. (mid ≤ x) × (x < hi)) (λ x. (lo ≤ x) × (x < hi)) (λ x h.
+        let low = h.0 in (omega arith, h.1)) ys c.all);
+  }
 
 next_above : (x y : ℕ) (ys : List ℕ) → x < y → IsStrictlyIncreasing (y ∷ ys) → (k : ℕ) → k + 1 < length (x ∷ y ∷ ys) →
     get_or (x ∷ y ∷ ys) k 0 < get_or (x ∷ y ∷ ys) (k + 1) 0

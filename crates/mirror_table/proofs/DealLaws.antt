@@ -36,27 +36,28 @@ passed_over p xs i x lt is off =
     ∙ (ap (λ b. filter p (take i xs) ++ cond b (get_or xs i x ∷ []) []) at ∙ append-nil (filter p (take i xs)))
 
 -- one more element goes to list o
-pub dealt_more : {X : Type 0} (test : ℕ → X → Bool) (p : ℕ) (xs : List X) (i : ℕ) (lists new : List (List X)) (o : ℕ)
-    (x : X) → i < length xs → x ≡ get_or xs i x → o < p → test o x ≡ true →
-    ((m : ℕ) → m < p → m ≢ o → test m x ≡ false) → new ≡ set lists o (get_or lists o [] ++ x ∷ []) →
-    AreDealt test p (take i xs) lists → AreDealt test p (take (i + 1) xs) new
-dealt_more test p xs i lists new o x lt is here hit others made h =
-    let grown = get_or lists o [] ++ x ∷ [] in
-    let within : o < length lists = omega (arith, h.len) in
-    record {
-      len = ap length made ∙ (length-set lists o grown ∙ h.len);
-      each = λ m low.
-          ap (λ ls. get_or ls m []) made
-          ∙ ⊎_elim
-          (λ (same : m ≡ o).
-          ap (λ q. get_or (set lists o grown) q []) same
-          ∙ (get_or-set_same lists o grown [] within
-          ∙ (ap (λ ys. ys ++ x ∷ []) (h.each o here)
-          ∙ (sym (passed (test o) xs i x lt is hit) ∙ ap (λ q. filter (test q) (take (i + 1) xs)) (sym same)))))
-          (λ (ne : m ≢ o). get_or-set_other lists o m grown [] ne
-          ∙ (h.each m low ∙ sym (passed_over (test m) xs i x lt is (others m low ne))))
-          (cases_eq m o);
-    }
+module _ {X : Type 0} (test : ℕ → X → Bool) (p : ℕ) (xs : List X) (i : ℕ) (lists new : List (List X)) (o : ℕ)
+    (x : X) where
+  pub dealt_more : i < length xs → x ≡ get_or xs i x → o < p → test o x ≡ true →
+      ((m : ℕ) → m < p → m ≢ o → test m x ≡ false) → new ≡ set lists o (get_or lists o [] ++ x ∷ []) →
+      AreDealt test p (take i xs) lists → AreDealt test p (take (i + 1) xs) new
+  dealt_more lt is here hit others made h =
+      let grown = get_or lists o [] ++ x ∷ [] in
+      let within : o < length lists = omega (arith, h.len) in
+      record {
+        len = ap length made ∙ (length-set lists o grown ∙ h.len);
+        each = λ m low.
+            ap (λ ls. get_or ls m []) made
+            ∙ ⊎_elim
+            (λ (same : m ≡ o).
+            ap (λ q. get_or (set lists o grown) q []) same
+            ∙ (get_or-set_same lists o grown [] within
+            ∙ (ap (λ ys. ys ++ x ∷ []) (h.each o here)
+            ∙ (sym (passed (test o) xs i x lt is hit) ∙ ap (λ q. filter (test q) (take (i + 1) xs)) (sym same)))))
+            (λ (ne : m ≢ o). get_or-set_other lists o m grown [] ne
+            ∙ (h.each m low ∙ sym (passed_over (test m) xs i x lt is (others m low ne))))
+            (cases_eq m o);
+      }
 
 -- all of them are the filters
 pub dealt_all : {X : Type 0} (test : ℕ → X → Bool) (p : ℕ) (xs : List X) (lists : List (List X)) →

@@ -13,11 +13,11 @@ owner_lies ends v m holds =
     let high = holds.2 in
     lies_is (start_of ends m) (slice_index ends m) v (omega arith) high
 
-pub others_not : (most : ℕ) (ends : List ℕ) (v m k : ℕ) → AreEnds most ends → Holds ends v m → k < length ends →
-    k ≢ m → lies_in ends k v ≡ false
-others_not most ends v m k are holds lt ne =
-    ⊎_elim
-    (λ (at : lies_in ends k v ≡ true). absurd
-    (ne (one_chunk most ends are k m v lt holds.0 at (owner_lies ends v m holds))))
-    (λ (off : lies_in ends k v ≡ false). off)
-    (cases_Bool (lies_in ends k v))
+module _ (most : ℕ) (ends : List ℕ) (v m k : ℕ) where
+  pub others_not : AreEnds most ends → Holds ends v m → k < length ends → k ≢ m → lies_in ends k v ≡ false
+  others_not are holds lt ne =
+      ⊎_elim
+      (λ (at : lies_in ends k v ≡ true). absurd
+      (ne (one_chunk most ends are k m v lt holds.0 at (owner_lies ends v m holds))))
+      (λ (off : lies_in ends k v ≡ false). off)
+      (cases_Bool (lies_in ends k v))

@@ -183,51 +183,49 @@ all_from_map number n [] h = tt
 all_from_map number n (x ∷ xs) h = (h.0, all_from_map number n xs h.1)
 
 -- a part whose fields are those of the definition is that part
-pub part_made : (ends : List ℕ) (draws : ℕ) (edges : List Edge) (m : ℕ) (p : PlainPart) →
-    p.at.machine ≡ m → p.at.machines ≡ length ends → p.ends ≡ ends → p.edges ≡ length edges → p.draws ≡ draws →
-    p.scan ≡ scan_of ends edges m → p.push ≡ push_of ends edges m →
-    p.degrees ≡ map (degree_in edges edges) (known_of ends edges m) →
-    p.refresh_to ≡ for_others (length ends) m (λ k. refresh_list ends m k edges) →
-    p.refresh_of ≡ for_others (length ends) m (λ k. refresh_list ends k m edges) →
-    p.push_to ≡ for_others (length ends) m (λ k. push_list ends m k edges) →
-    p.push_of ≡ for_others (length ends) m (λ k. push_list ends k m edges) →
-    p ≡ part_of ends draws edges m
-part_made ends draws edges m p machine machines cuts count drawn scan_is push_is degrees_are to_is of_is push_to_is
-    push_of_is =
-    let whole : PlainPart = part_of ends draws edges m in
-    ap (λ (x : ℕ). record p { at = record { machine = x; machines = p.at.machines } }) machine
-    ∙ (ap (λ (x : ℕ). record p { at = record { machine = m; machines = x } }) machines
-    ∙ (ap (λ (x : List ℕ). record p { at = whole.at; ends = x }) cuts
-    ∙ (ap (λ (x : ℕ). record p { at = whole.at; ends = ends; edges = x }) count
-    ∙ (ap (λ (x : ℕ). record p { at = whole.at; ends = ends; edges = whole.edges; draws = x }) drawn
-    ∙ (ap (λ (x : List Edge). record p { at = whole.at; ends = ends; edges = whole.edges; draws = draws; scan = x })
-    scan_is
-    ∙ (ap (λ (x : List Edge). record p {
-      at = whole.at;
-      ends = ends;
-      edges = whole.edges;
-      draws = draws;
-      scan = whole.scan;
-      push = x;
-    }) push_is
-    ∙ (ap (λ (x : List Degree). record p {
-      at = whole.at;
-      ends = ends;
-      edges = whole.edges;
-      draws = draws;
-      scan = whole.scan;
-      push = whole.push;
-      degrees = x;
-    }) degrees_are
-    ∙ (ap (λ (x : List (List ℕ)). record whole {
-      refresh_to = x;
-      refresh_of = p.refresh_of;
-      push_to = p.push_to;
-      push_of = p.push_of;
-    }) to_is
-    ∙ (ap (λ (x : List (List ℕ)). record whole { refresh_of = x; push_to = p.push_to; push_of = p.push_of }) of_is
-    ∙ (ap (λ (x : List (List ℕ)). record whole { push_to = x; push_of = p.push_of }) push_to_is
-    ∙ ap (λ (x : List (List ℕ)). record whole { push_of = x }) push_of_is))))))))))
+module _ (ends : List ℕ) (draws : ℕ) (edges : List Edge) (m : ℕ) (p : PlainPart) (machine : p.at.machine ≡ m)
+    (machines : p.at.machines ≡ length ends) (cuts : p.ends ≡ ends) (count : p.edges ≡ length edges) where
+  pub part_made : p.draws ≡ draws → p.scan ≡ scan_of ends edges m → p.push ≡ push_of ends edges m →
+      p.degrees ≡ map (degree_in edges edges) (known_of ends edges m) →
+      p.refresh_to ≡ for_others (length ends) m (λ k. refresh_list ends m k edges) →
+      p.refresh_of ≡ for_others (length ends) m (λ k. refresh_list ends k m edges) →
+      p.push_to ≡ for_others (length ends) m (λ k. push_list ends m k edges) →
+      p.push_of ≡ for_others (length ends) m (λ k. push_list ends k m edges) → p ≡ part_of ends draws edges m
+  part_made drawn scan_is push_is degrees_are to_is of_is push_to_is push_of_is =
+      let whole : PlainPart = part_of ends draws edges m in
+      ap (λ (x : ℕ). record p { at = record { machine = x; machines = p.at.machines } }) machine
+      ∙ (ap (λ (x : ℕ). record p { at = record { machine = m; machines = x } }) machines
+      ∙ (ap (λ (x : List ℕ). record p { at = whole.at; ends = x }) cuts
+      ∙ (ap (λ (x : ℕ). record p { at = whole.at; ends = ends; edges = x }) count
+      ∙ (ap (λ (x : ℕ). record p { at = whole.at; ends = ends; edges = whole.edges; draws = x }) drawn
+      ∙ (ap (λ (x : List Edge). record p { at = whole.at; ends = ends; edges = whole.edges; draws = draws; scan = x })
+      scan_is
+      ∙ (ap (λ (x : List Edge). record p {
+        at = whole.at;
+        ends = ends;
+        edges = whole.edges;
+        draws = draws;
+        scan = whole.scan;
+        push = x;
+      }) push_is
+      ∙ (ap (λ (x : List Degree). record p {
+        at = whole.at;
+        ends = ends;
+        edges = whole.edges;
+        draws = draws;
+        scan = whole.scan;
+        push = whole.push;
+        degrees = x;
+      }) degrees_are
+      ∙ (ap (λ (x : List (List ℕ)). record whole {
+        refresh_to = x;
+        refresh_of = p.refresh_of;
+        push_to = p.push_to;
+        push_of = p.push_of;
+      }) to_is
+      ∙ (ap (λ (x : List (List ℕ)). record whole { refresh_of = x; push_to = p.push_to; push_of = p.push_of }) of_is
+      ∙ (ap (λ (x : List (List ℕ)). record whole { push_to = x; push_of = p.push_of }) push_to_is
+      ∙ ap (λ (x : List (List ℕ)). record whole { push_of = x }) push_of_is))))))))))
 
 -- lists that are made for other machines are as many as the machines
 pub others_length : (lists : List (Vec VertexId Global)) (now : List (Vec VertexId Global)) (p m : ℕ) (f : ℕ → List ℕ)
@@ -262,33 +260,34 @@ module _ (ends : List ℕ) (edges : List Edge) (are : AreEnds 64 ends) (below : 
       (known_below 64 ends edges are below m here)))
 
   -- what is made step by step is the part
-  pub made_is : (draws : ℕ) (p : PlainPart) (xs ys : List Edge) (vs : List ℕ) →
-      p.at.machine ≡ m → p.at.machines ≡ length ends → p.ends ≡ ends → p.edges ≡ length edges → p.draws ≡ draws →
-      p.scan ≡ scan_of ends edges m → p.push ≡ push_of ends edges m → xs ≡ p.scan → ys ≡ p.push →
-      p.refresh_of ≡ for_others (length ends) m (λ k.
-      ends_met target (vertices_of ends) (filter (λ e. lies_in ends k (target e)) xs)) →
-      p.push_to ≡ for_others (length ends) m (λ k.
-      ends_met source (vertices_of ends) (filter (λ e. lies_in ends k (target e)) xs)) →
-      p.refresh_to ≡ for_others (length ends) m (λ k.
-      ends_met target (vertices_of ends) (filter (λ e. lies_in ends k (source e)) ys)) →
-      p.push_of ≡ for_others (length ends) m (λ k.
-      ends_met source (vertices_of ends) (filter (λ e. lies_in ends k (source e)) ys)) →
-      vs ≡ known_of ends edges m → p.degrees ≡ map (degree_in edges edges) vs → p ≡ part_of ends draws edges m
-  made_is draws p xs ys vs machine machines cuts count drawn scan_is push_is xs_are ys_are of_is push_to_is to_is
-      push_of_is known degrees_are =
-      let scan_here = xs_are ∙ scan_is in
-      let push_here = ys_are ∙ push_is in
-      part_made ends draws edges m p machine machines cuts count drawn scan_is push_is
-      (degrees_are ∙ ap (map (degree_in edges edges)) known)
-      (to_is ∙ (ap (λ es. for_others (length ends) m (λ k.
-      ends_met target (vertices_of ends) (filter (λ e. lies_in ends k (source e)) es))) push_here
-      ∙ refresh_to_made 64 ends edges are below m here))
-      (of_is ∙ (ap (λ es. for_others (length ends) m (λ k.
-      ends_met target (vertices_of ends) (filter (λ e. lies_in ends k (target e)) es))) scan_here
-      ∙ refresh_of_made 64 ends edges are below m here))
-      (push_to_is ∙ (ap (λ es. for_others (length ends) m (λ k.
-      ends_met source (vertices_of ends) (filter (λ e. lies_in ends k (target e)) es))) scan_here
-      ∙ push_to_made 64 ends edges are below m here))
-      (push_of_is ∙ (ap (λ es. for_others (length ends) m (λ k.
-      ends_met source (vertices_of ends) (filter (λ e. lies_in ends k (source e)) es))) push_here
-      ∙ push_of_made 64 ends edges are below m here))
+  module _ (draws : ℕ) (p : PlainPart) (xs ys : List Edge) (vs : List ℕ) (machine : p.at.machine ≡ m)
+      (machines : p.at.machines ≡ length ends) (cuts : p.ends ≡ ends) (count : p.edges ≡ length edges)
+      (drawn : p.draws ≡ draws) (scan_is : p.scan ≡ scan_of ends edges m)
+      (push_is : p.push ≡ push_of ends edges m) where
+    pub made_is : xs ≡ p.scan → ys ≡ p.push →
+        p.refresh_of ≡ for_others (length ends) m (λ k. ends_met target (vertices_of ends) (filter (λ e. lies_in
+        ends k (target e)) xs)) →
+        p.push_to ≡ for_others (length ends) m (λ k. ends_met source (vertices_of ends) (filter (λ e. lies_in
+        ends k (target e)) xs)) →
+        p.refresh_to ≡ for_others (length ends) m (λ k. ends_met target (vertices_of ends) (filter (λ e. lies_in
+        ends k (source e)) ys)) →
+        p.push_of ≡ for_others (length ends) m (λ k. ends_met source (vertices_of ends) (filter (λ e. lies_in
+        ends k (source e)) ys)) → vs ≡ known_of ends edges m → p.degrees ≡ map (degree_in edges edges) vs →
+        p ≡ part_of ends draws edges m
+    made_is xs_are ys_are of_is push_to_is to_is push_of_is known degrees_are =
+        let scan_here = xs_are ∙ scan_is in
+        let push_here = ys_are ∙ push_is in
+        part_made ends draws edges m p machine machines cuts count drawn scan_is push_is
+        (degrees_are ∙ ap (map (degree_in edges edges)) known)
+        (to_is ∙ (ap (λ es. for_others (length ends) m (λ k.
+        ends_met target (vertices_of ends) (filter (λ e. lies_in ends k (source e)) es))) push_here
+        ∙ refresh_to_made 64 ends edges are below m here))
+        (of_is ∙ (ap (λ es. for_others (length ends) m (λ k.
+        ends_met target (vertices_of ends) (filter (λ e. lies_in ends k (target e)) es))) scan_here
+        ∙ refresh_of_made 64 ends edges are below m here))
+        (push_to_is ∙ (ap (λ es. for_others (length ends) m (λ k.
+        ends_met source (vertices_of ends) (filter (λ e. lies_in ends k (target e)) es))) scan_here
+        ∙ push_to_made 64 ends edges are below m here))
+        (push_of_is ∙ (ap (λ es. for_others (length ends) m (λ k.
+        ends_met source (vertices_of ends) (filter (λ e. lies_in ends k (source e)) es))) push_here
+        ∙ push_of_made 64 ends edges are below m here))

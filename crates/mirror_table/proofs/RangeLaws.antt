@@ -29,15 +29,15 @@ module _ {X : Type 0} (f : ℕ → List X) (v end : ℕ) (all : List X) where
   gathers_all list le rest = sym (append-nil list)
       ∙ (ap (λ ys. list ++ flat_map f ys) (sym (range_none v end le)) ∙ rest)
 
-pub counts_more : {X : Type 0} (number : X → ℕ) (v end : ℕ) (all : List ℕ) (list new : List X) (x : X) → v < end →
-    map number list ++ range_with_len v (end - v) ≡ all → new ≡ list ++ x ∷ [] → number x ≡ v →
-    map number new ++ range_with_len (v + 1) (end - (v + 1)) ≡ all
-counts_more number v end all list new x lt rest is at =
-    let R : List ℕ = range_with_len (v + 1) (end - (v + 1)) in
-    ap (λ ys. map number ys ++ R) is
-    ∙ (ap (λ ys. ys ++ R) (map-append number list (x ∷ []) ∙ ap (λ y. map number list ++ y ∷ []) at)
-    ∙ (append_assoc (map number list) (v ∷ []) R
-    ∙ (ap (λ ys. map number list ++ ys) (sym (range_first v end lt)) ∙ rest)))
+module _ {X : Type 0} (number : X → ℕ) (v end : ℕ) (all : List ℕ) (list new : List X) (x : X) where
+  pub counts_more : v < end → map number list ++ range_with_len v (end - v) ≡ all → new ≡ list ++ x ∷ [] →
+      number x ≡ v → map number new ++ range_with_len (v + 1) (end - (v + 1)) ≡ all
+  counts_more lt rest is at =
+      let R : List ℕ = range_with_len (v + 1) (end - (v + 1)) in
+      ap (λ ys. map number ys ++ R) is
+      ∙ (ap (λ ys. ys ++ R) (map-append number list (x ∷ []) ∙ ap (λ y. map number list ++ y ∷ []) at)
+      ∙ (append_assoc (map number list) (v ∷ []) R
+      ∙ (ap (λ ys. map number list ++ ys) (sym (range_first v end lt)) ∙ rest)))
 
 -- the lists of one more number
 pub flat_map_more : {X : Type 0} (f : ℕ → List X) (k : ℕ) →

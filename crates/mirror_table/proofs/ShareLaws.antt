@@ -49,46 +49,47 @@ pub record AreLeft (ends : List ℕ) (edges : List Edge) (m : ℕ) (scans pushes
   pub scan_each : (k : ℕ) → m ≤ k → k < length ends → get_or scans k [] ≡ scan_of ends edges k
   pub push_each : (k : ℕ) → m ≤ k → k < length ends → get_or pushes k [] ≡ push_of ends edges k
 
-pub all_left : (n : ℕ) (ends : List ℕ) (edges ins outs : List Edge) (scans pushes : List (List Edge)) →
-    vertices_of ends ≡ n → edges ≡ by_target n edges → ins ≡ edges → outs ≡ in_order source n edges →
-    scans ≡ map (λ m. filter (λ e. lies_in ends m (source e)) ins) (range_with_len 0 (length ends)) →
-    pushes ≡ map (λ m. filter (λ e. lies_in ends m (target e)) outs) (range_with_len 0 (length ends)) →
-    AreLeft ends edges 0 scans pushes
-all_left n ends edges ins outs scans pushes size order ins_are outs_are scans_are pushes_are =
-    let order' : edges ≡ by_target (vertices_of ends) edges = order ∙ ap (λ q. by_target q edges) (sym size) in
-    let outs_are' : outs ≡ in_order source (vertices_of ends) edges =
-    outs_are ∙ ap (λ q. in_order source q edges) (sym size) in
-    let scan : ℕ → List Edge = λ m. filter (λ e. lies_in ends m (source e)) ins in
-    let push : ℕ → List Edge = λ m. filter (λ e. lies_in ends m (target e)) outs in
-    record {
-      scan_count = ap length scans_are ∙ length-map-range_with_len scan 0 (length ends);
-      push_count = ap length pushes_are ∙ length-map-range_with_len push 0 (length ends);
-      scan_each = λ k low lt.
-          ap (λ ls. get_or ls k []) scans_are
-          ∙ (get_or-map-range_with_len scan 0 (length ends) k k [] lt (omega arith)
-          ∙ (ap (filter (λ e. lies_in ends k (source e))) ins_are ∙ scan_is ends edges k order'));
-      push_each = λ k low lt.
-          ap (λ ls. get_or ls k []) pushes_are
-          ∙ (get_or-map-range_with_len push 0 (length ends) k k [] lt (omega arith)
-          ∙ push_is ends edges outs k order' outs_are');
-    }
+module _ (n : ℕ) (ends : List ℕ) (edges ins outs : List Edge) (scans pushes : List (List Edge)) where
+  pub all_left : vertices_of ends ≡ n → edges ≡ by_target n edges → ins ≡ edges →
+      outs ≡ in_order source n edges →
+      scans ≡ map (λ m. filter (λ e. lies_in ends m (source e)) ins) (range_with_len 0 (length ends)) →
+      pushes ≡ map (λ m. filter (λ e. lies_in ends m (target e)) outs) (range_with_len 0 (length ends)) →
+      AreLeft ends edges 0 scans pushes
+  all_left size order ins_are outs_are scans_are pushes_are =
+      let order' : edges ≡ by_target (vertices_of ends) edges = order ∙ ap (λ q. by_target q edges) (sym size) in
+      let outs_are' : outs ≡ in_order source (vertices_of ends) edges =
+      outs_are ∙ ap (λ q. in_order source q edges) (sym size) in
+      let scan : ℕ → List Edge = λ m. filter (λ e. lies_in ends m (source e)) ins in
+      let push : ℕ → List Edge = λ m. filter (λ e. lies_in ends m (target e)) outs in
+      record {
+        scan_count = ap length scans_are ∙ length-map-range_with_len scan 0 (length ends);
+        push_count = ap length pushes_are ∙ length-map-range_with_len push 0 (length ends);
+        scan_each = λ k low lt.
+            ap (λ ls. get_or ls k []) scans_are
+            ∙ (get_or-map-range_with_len scan 0 (length ends) k k [] lt (omega arith)
+            ∙ (ap (filter (λ e. lies_in ends k (source e))) ins_are ∙ scan_is ends edges k order'));
+        push_each = λ k low lt.
+            ap (λ ls. get_or ls k []) pushes_are
+            ∙ (get_or-map-range_with_len push 0 (length ends) k k [] lt (omega arith)
+            ∙ push_is ends edges outs k order' outs_are');
+      }
 
 -- the lists of the later machines stay as they are
-pub fewer_left : (ends : List ℕ) (edges : List Edge) (m : ℕ) (scans pushes scans' pushes' : List (List Edge)) →
-    scans' ≡ set scans m [] → pushes' ≡ set pushes m [] → AreLeft ends edges m scans pushes →
-    AreLeft ends edges (m + 1) scans' pushes'
-fewer_left ends edges m scans pushes scans' pushes' scans_are pushes_are h = record {
-  scan_count = ap length scans_are ∙ (length-set scans m [] ∙ h.scan_count);
-  push_count = ap length pushes_are ∙ (length-set pushes m [] ∙ h.push_count);
-  scan_each = λ k low lt.
-      let other : k ≢ m = omega arith in
-      let from : m ≤ k = omega arith in
-      ap (λ ls. get_or ls k []) scans_are ∙ (get_or-set_other scans m k [] [] other ∙ h.scan_each k from lt);
-  push_each = λ k low lt.
-      let other : k ≢ m = omega arith in
-      let from : m ≤ k = omega arith in
-      ap (λ ls. get_or ls k []) pushes_are ∙ (get_or-set_other pushes m k [] [] other ∙ h.push_each k from lt);
-}
+module _ (ends : List ℕ) (edges : List Edge) (m : ℕ) (scans pushes scans' pushes' : List (List Edge)) where
+  pub fewer_left : scans' ≡ set scans m [] → pushes' ≡ set pushes m [] → AreLeft ends edges m scans pushes →
+      AreLeft ends edges (m + 1) scans' pushes'
+  fewer_left scans_are pushes_are h = record {
+    scan_count = ap length scans_are ∙ (length-set scans m [] ∙ h.scan_count);
+    push_count = ap length pushes_are ∙ (length-set pushes m [] ∙ h.push_count);
+    scan_each = λ k low lt.
+        let other : k ≢ m = omega arith in
+        let from : m ≤ k = omega arith in
+        ap (λ ls. get_or ls k []) scans_are ∙ (get_or-set_other scans m k [] [] other ∙ h.scan_each k from lt);
+    push_each = λ k low lt.
+        let other : k ≢ m = omega arith in
+        let from : m ≤ k = omega arith in
+        ap (λ ls. get_or ls k []) pushes_are ∙ (get_or-set_other pushes m k [] [] other ∙ h.push_each k from lt);
+  }
 
 -- the edges of lists
 abbrev pub lists_in : List (Vec Edge Global) → List (List Edge)
@@ -117,23 +118,31 @@ one_share ends key edges one below =
     map (λ m. filter (λ e. lies_in ends m (key e)) edges) (range_with_len 0 q)) (sym one)
 
 -- one more edge goes to the owner of its end
-pub dealt_edge : (ends : List ℕ) (key : Edge → ℕ) (edges : List Edge) (owners : List ℕ) (i v o : ℕ) (z : Edge)
-    (lists : List (Vec Edge Global)) (found new : Vec Edge Global) → AreEnds 64 ends → i < length edges →
-    All (λ e. key e < vertices_of ends) edges → ((u : ℕ) → u < vertices_of ends → Holds ends u (slice_index owners u))
-    → v ≡ key (get_or edges i z) → o ≡ slice_index owners v → found ≡ get_or lists o found →
-    new.items ≡ found.items ++ get_or edges i z ∷ [] →
-    AreDealt (λ m e. lies_in ends m (key e)) (length ends) (take i edges) (lists_in lists) →
-    AreDealt (λ m e. lies_in ends m (key e)) (length ends) (take (i + 1) edges) (lists_in (set lists o new))
-dealt_edge ends key edges owners i v o z lists found new are lt below held end owner read pushed h =
-    let x : Edge = get_or edges i z in
-    let low : v < vertices_of ends = subst (λ (q : ℕ). q < vertices_of ends) (sym end) (below i z lt) in
-    let holds : Holds ends v o = subst (λ (q : ℕ). Holds ends v q) (sym owner) (held v low) in
-    let within : o < length lists = omega (arith, holds.0, h.len, length-map lists (λ (l : Vec Edge Global). l.items))
-    in
-    let mine : found.items ≡ get_or (lists_in lists) o [] = ap (λ (l : Vec Edge Global). l.items) read
-    ∙ sym (get_or-map (λ (l : Vec Edge Global). l.items) lists o found [] within) in
-    dealt_more (λ m e. lies_in ends m (key e)) (length ends) edges i (lists_in lists) (lists_in (set lists o new)) o x
-    lt (get_or_default edges i z x lt) holds.0
-    (ap (lies_in ends o) (sym end) ∙ owner_lies ends v o holds)
-    (λ m in_ends ne. ap (lies_in ends m) (sym end) ∙ others_not 64 ends v o m are holds in_ends ne)
-    (replaced lists o new (get_or (lists_in lists) o [] ++ x ∷ []) (pushed ∙ ap (λ ys. ys ++ x ∷ []) mine)) h
+module _ (ends : List ℕ) (key : Edge → ℕ) (edges : List Edge) (owners : List ℕ) (i v o : ℕ) (z : Edge)
+    (lists : List (Vec Edge Global)) (found new : Vec Edge Global) (are : AreEnds 64 ends) where
+  pub dealt_edge : i < length edges → All (λ e. key e < vertices_of ends) edges →
+      ((u : ℕ) → u < vertices_of ends → Holds ends u (slice_index owners u)) → v ≡ key (get_or edges i z) →
+      o ≡ slice_index owners v → found ≡ get_or lists o found →
+      new.items ≡ found.items ++ get_or edges i z ∷ [] →
+      AreDealt (λ m e. lies_in ends m (key e)) (length ends) (take i edges) (lists_in lists) →
+      AreDealt (λ m e. lies_in ends m (key e)) (length ends) (take (i + 1) edges) (lists_in (set lists o new))
+  dealt_edge lt below held end owner read pushed h =
+      let x : Edge = get_or edges i z in
+      let low : v < vertices_of ends = subst (λ (q : ℕ). q < vertices_of ends) (sym end) (below i z lt) in
+      let holds : Holds ends v o = subst (λ (q : ℕ). Holds ends v q) (sym owner) (held v low) in
+      let within : o < length lists = omega (
+        arith,
+        holds.0,
+        h.len,
+        length-map lists (λ (l : Vec Edge Global).
+            l.items),
+      )
+      in
+      let mine : found.items ≡ get_or (lists_in lists) o [] = ap (λ (l : Vec Edge Global). l.items) read
+      ∙ sym (get_or-map (λ (l : Vec Edge Global). l.items) lists o found [] within) in
+      dealt_more (λ m e. lies_in ends m (key e)) (length ends) edges i (lists_in lists) (lists_in (set lists o
+      new)) o x
+      lt (get_or_default edges i z x lt) holds.0
+      (ap (lies_in ends o) (sym end) ∙ owner_lies ends v o holds)
+      (λ m in_ends ne. ap (lies_in ends m) (sym end) ∙ others_not 64 ends v o m are holds in_ends ne)
+      (replaced lists o new (get_or (lists_in lists) o [] ++ x ∷ []) (pushed ∙ ap (λ ys. ys ++ x ∷ []) mine)) h

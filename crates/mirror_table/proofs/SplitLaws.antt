@@ -46,15 +46,15 @@ pub rest_all : {X : Type 0} (P : X → Type 0) (p : X → Bool) (xs rest : List 
 rest_all {X} P p xs rest is all = subst (λ (ys : List X). All P ys) (sym is) (All-filter p P xs all)
 
 -- one more list
-pub map_push : {X Y : Type 0} (view : X → Y) (f : ℕ → Y) (k : ℕ) (lists new : List X) (x : X) →
-    map view lists ≡ map f (range_with_len 0 k) → new ≡ lists ++ x ∷ [] → view x ≡ f k →
-    map view new ≡ map f (range_with_len 0 (k + 1))
-map_push view f k lists new x so_far is here =
-    ap (map view) is
-    ∙ (map-append view lists (x ∷ [])
-    ∙ (ap (λ ys. ys ++ view x ∷ []) so_far
-    ∙ (ap (λ y. map f (range_with_len 0 k) ++ y ∷ []) here
-    ∙ sym (map-range_with_len_more f 0 k k (omega arith)))))
+module _ {X Y : Type 0} (view : X → Y) (f : ℕ → Y) (k : ℕ) (lists new : List X) (x : X) where
+  pub map_push : map view lists ≡ map f (range_with_len 0 k) → new ≡ lists ++ x ∷ [] → view x ≡ f k →
+      map view new ≡ map f (range_with_len 0 (k + 1))
+  map_push so_far is here =
+      ap (map view) is
+      ∙ (map-append view lists (x ∷ [])
+      ∙ (ap (λ ys. ys ++ view x ∷ []) so_far
+      ∙ (ap (λ y. map f (range_with_len 0 k) ++ y ∷ []) here
+      ∙ sym (map-range_with_len_more f 0 k k (omega arith)))))
 
 -- the next chunk begins where this one ends
 pub start_next : (ends : List ℕ) (k : ℕ) → start_of ends (k + 1) ≡ slice_index ends k

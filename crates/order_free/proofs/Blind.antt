@@ -33,18 +33,19 @@ pub record Blind (f : Act) : Type 0 where
   pub alike : (a b : Env) → SameButNeighbour a b → Alike (f a) (f b)
 
 -- a run that goes on, by how both runs end
-pub next_alike : (v w : Flow) (x y p q : Ran) → w ≡ v → Alike x y → Alike p q →
-    Alike (by_flow v x (after x p)) (by_flow w y (after y q))
-next_alike Going Going x y p q e h k =
-    record {
-      env = k.env;
-      emitted = ap (λ es. es ++ q.emitted) h.emitted
-          ∙ ap (λ es. x.emitted ++ es) k.emitted;
-      flow = k.flow;
-    }
-next_alike Broke Broke x y p q e h k = h
-next_alike Going Broke x y p q e h k = cc
-next_alike Broke Going x y p q e h k = cc
+module _ (x y p q : Ran) where
+  pub next_alike : (v w : Flow) → w ≡ v → Alike x y → Alike p q →
+      Alike (by_flow v x (after x p)) (by_flow w y (after y q))
+  next_alike Going Going e h k =
+      record {
+        env = k.env;
+        emitted = ap (λ es. es ++ q.emitted) h.emitted
+            ∙ ap (λ es. x.emitted ++ es) k.emitted;
+        flow = k.flow;
+      }
+  next_alike Broke Broke e h k = h
+  next_alike Going Broke e h k = cc
+  next_alike Broke Going e h k = cc
 
 -- a block that reads no neighbour runs alike wherever the loop is
 pub run_blind : (body : List Stmt) → IsTrue (body_read in_tests body) → Blind (run body)

@@ -145,8 +145,8 @@ module _ (s : Scene) (body : List Stmt) (test : Node) (f : Act) (held : ℕ → 
         alike_trans (f b) (f here) (run body here)
         (blind.alike b here (SameButNeighbour-trans b e here p refl)) first in
         let now : Alike (f b) one = record { env = both.env; emitted = both.emitted; flow = both.flow } in
-        next_alike (f b).flow one.flow (f b) one (times (hits passes ms) f (f b).env)
-        (loop s body ms one.env) now.flow now
+        next_alike (f b) one (times (hits passes ms) f (f b).env) (loop s body ms one.env) (f b).flow one.flow
+        now.flow now
         (more one.env (f b).env now.env
         (reached_beside (f here).env one.env first.env (reached_by here (reached_at m e h))))
     step false is_false =

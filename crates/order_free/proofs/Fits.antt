@@ -48,17 +48,18 @@ mark_fits kind Breaks = false
 abbrev pub class_in : List Mark → ℕ → Class
 class_in ms i = class_of (uses_of i ms)
 
-taken : (r a l h : Bool) (read added lowered raised : Bool) →
-    (IsTrue r → IsTrue read) → (IsTrue a → IsTrue added) → (IsTrue l → IsTrue lowered) → (IsTrue h → IsTrue raised) →
-    is_carried (if r then Constant else if a then Reduced combine.Sum else if l then Reduced combine.Min else if h then
-    Reduced combine.Max else Carried) ≡ false →
-    IsTrue (takes (if r then Constant else if a then Reduced combine.Sum else if l then Reduced combine.Min else if h
-    then Reduced combine.Max else Carried) read added lowered raised)
-taken true a l h read added lowered raised p q s t e = p refl
-taken false true l h read added lowered raised p q s t e = q refl
-taken false false true h read added lowered raised p q s t e = s refl
-taken false false false true read added lowered raised p q s t e = t refl
-taken false false false false read added lowered raised p q s t e = cc
+module _ (read added lowered raised : Bool) where
+  taken : (r a l h : Bool) → (IsTrue r → IsTrue read) × (IsTrue a → IsTrue added) →
+      (IsTrue l → IsTrue lowered) → (IsTrue h → IsTrue raised) →
+      is_carried (if r then Constant else if a then Reduced combine.Sum else if l then Reduced combine.Min else
+      if h then Reduced combine.Max else Carried) ≡ false →
+      IsTrue (takes (if r then Constant else if a then Reduced combine.Sum else if l then Reduced combine.Min
+      else if h then Reduced combine.Max else Carried) read added lowered raised)
+  taken true a l h p s t e = p.0 refl
+  taken false true l h p s t e = p.1 refl
+  taken false false true h p s t e = s refl
+  taken false false false true p s t e = t refl
+  taken false false false false p s t e = cc
 
 -- ---- places
 abbrev pub mark_below : ℕ → Mark → Bool
@@ -180,10 +181,9 @@ module _ (whole : List Mark) (n : ℕ) (free : (i : ℕ) → i < n → is_carrie
   fits_from [] sub low none = refl
   fits_from (Uses i u ∷ ms) sub low none =
       and_from (takes_use (class_in whole i) u) (list_all (mark_fits (class_in whole)) ms)
-      (taken (list_all is_read (uses_of i whole)) (list_all is_added (uses_of i whole))
-      (list_all is_lowered (uses_of i whole)) (list_all is_raised (uses_of i whole)) (is_read u) (is_added u)
-      (is_lowered u) (is_raised u)
-      (here is_read) (here is_added) (here is_lowered) (here is_raised)
+      (taken (is_read u) (is_added u) (is_lowered u) (is_raised u) (list_all is_read (uses_of i whole)) (list_all
+      is_added (uses_of i whole)) (list_all is_lowered (uses_of i whole)) (list_all is_raised (uses_of i whole))
+      (here is_read, here is_added) (here is_lowered) (here is_raised)
       (free i (ltb-true i n (and_parts (nat_lt i n) (list_all (mark_below n) ms) low).0)))
       (fits_from ms (λ p j h. without p (j == i) u (uses_of j ms) (sub p j h))
       (and_parts (nat_lt i n) (list_all (mark_below n) ms) low).1 none)

@@ -74,19 +74,20 @@ choice_word true i f g a p q = p
 choice_word false i f g a p q = q
 
 module _ (c : Counts) where
-  keeps_choice : (t u : Bool) (test : Expr) (ms ns : List Mark) (f g : Act) → Keeps t ms f → Keeps u ns g →
-      Keeps (expr_placed c test && (t && u)) (expr_marks test ++ (ms ++ ns))
-      (λ env. if is_set (node_value test.node env) then f env else g env)
-  keeps_choice t u test ms ns f g p q = record {
-    rest = λ h a.
-        let both = (and_parts (expr_placed c test) (t && u) h).1 in
-        choice_rest (is_set (node_value test.node a)) f g a (p.rest (and_parts t u both).0 a)
-        (q.rest (and_parts t u both).1 a);
-    words = λ i h a.
-        let both = idle_right i (expr_marks test) (ms ++ ns) h in
-        choice_word (is_set (node_value test.node a)) i f g a (p.words i (idle_left i ms ns both) a)
-        (q.words i (idle_right i ms ns both) a);
-  }
+  module _ (t u : Bool) (test : Expr) (ms ns : List Mark) (f g : Act) where
+    keeps_choice : Keeps t ms f → Keeps u ns g →
+        Keeps (expr_placed c test && (t && u)) (expr_marks test ++ (ms ++ ns)) (λ env. if is_set (node_value
+        test.node env) then f env else g env)
+    keeps_choice p q = record {
+      rest = λ h a.
+          let both = (and_parts (expr_placed c test) (t && u) h).1 in
+          choice_rest (is_set (node_value test.node a)) f g a (p.rest (and_parts t u both).0 a)
+          (q.rest (and_parts t u both).1 a);
+      words = λ i h a.
+          let both = idle_right i (expr_marks test) (ms ++ ns) h in
+          choice_word (is_set (node_value test.node a)) i f g a (p.words i (idle_left i ms ns both) a)
+          (q.words i (idle_right i ms ns both) a);
+    }
 
   differs : (i j : ℕ) → i == j ≡ false → i ≡ j → ⊥
   differs i j ne e = let same = eq-eqb i j e in cc

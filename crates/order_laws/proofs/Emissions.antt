@@ -89,17 +89,18 @@ words_behind at ops (e ∷ es) tail h =
     (ne_eqb e.slot at (combines_first at ops e h.0))
     ∙ words_behind at ops es tail h.1
 
-value-alike : (op : Combine) (at : ℕ) (ops : List Combine) (es fs tail : List Emission) →
-    AllByRecursion (Combines at (op ∷ ops)) es → AllByRecursion (Combines at (op ∷ ops)) fs →
-    IsPermutation es fs → combined op (words_for at (es ++ tail)) ≡ combined op (words_for at (fs ++ tail))
-value-alike Min at ops es fs tail h k moved =
-    value-permutation Min Min≢First at (es ++ tail) (fs ++ tail) (IsPermutation-append_left tail es fs moved)
-value-alike Max at ops es fs tail h k moved =
-    value-permutation Max Max≢First at (es ++ tail) (fs ++ tail) (IsPermutation-append_left tail es fs moved)
-value-alike Sum at ops es fs tail h k moved =
-    value-permutation Sum Sum≢First at (es ++ tail) (fs ++ tail) (IsPermutation-append_left tail es fs moved)
-value-alike First at ops es fs tail h k moved =
-    ap (combined First) (words_behind at ops es tail h ∙ sym (words_behind at ops fs tail k))
+module _ (at : ℕ) (ops : List Combine) (es fs tail : List Emission) where
+  value-alike : (op : Combine) → AllByRecursion (Combines at (op ∷ ops)) es →
+      AllByRecursion (Combines at (op ∷ ops)) fs → IsPermutation es fs →
+      combined op (words_for at (es ++ tail)) ≡ combined op (words_for at (fs ++ tail))
+  value-alike Min h k moved =
+      value-permutation Min Min≢First at (es ++ tail) (fs ++ tail) (IsPermutation-append_left tail es fs moved)
+  value-alike Max h k moved =
+      value-permutation Max Max≢First at (es ++ tail) (fs ++ tail) (IsPermutation-append_left tail es fs moved)
+  value-alike Sum h k moved =
+      value-permutation Sum Sum≢First at (es ++ tail) (fs ++ tail) (IsPermutation-append_left tail es fs moved)
+  value-alike First h k moved =
+      ap (combined First) (words_behind at ops es tail h ∙ sym (words_behind at ops fs tail k))
 
 -- the slots have the same values, whatever the order of the emissions in front, none of which is to a
 -- slot of kind first
@@ -108,7 +109,7 @@ pub slot_values-alike : (at : ℕ) (ops : List Combine) (es fs tail : List Emiss
     IsPermutation es fs → slot_values at ops (es ++ tail) ≡ slot_values at ops (fs ++ tail)
 slot_values-alike at [] es fs tail h k moved = refl
 slot_values-alike at (op ∷ ops) es fs tail h k moved =
-    ap (λ v. v ∷ slot_values (at + 1) ops (es ++ tail)) (value-alike op at ops es fs tail h k moved)
+    ap (λ v. v ∷ slot_values (at + 1) ops (es ++ tail)) (value-alike at ops es fs tail op h k moved)
     ∙ ap (λ vs. combined op (words_for at (fs ++ tail)) ∷ vs)
     (slot_values-alike (at + 1) ops es fs tail (combines_later at op ops es h)
     (combines_later at op ops fs k) moved)

@@ -66,14 +66,14 @@ tail_tests d h =
     (and_parts body tail (and_parts lets (body && tail)
     (and_parts (expr_read in_tests d.when_test) (lets && (body && tail)) h).1).1).1
 
-dense_part_alike : (ops : List Combine) (o : Option Dense) (s : Scene) (first second : List ℕ) (ms ns : List Edge) →
-    IsPermutation ms ns →
-    AnyLoopAgrees o → IsTrue (option_all (λ d. no_first ops d.body.items) o) → IsTrue (option_all dense_read o) →
-    (env : Env) → values ops (dense_part (over first s) o ms env) ≡ values ops (dense_part (over second s) o ns env)
-dense_part_alike ops None s first second ms ns moved agrees none reads env = refl
-dense_part_alike ops (Some d) s first second ms ns moved agrees none reads env =
-    choice_alike ops d s first second ms ns moved agrees none (tail_tests d reads) env
-    (is_set (value_of d.when_test env))
+module _ (ops : List Combine) (s : Scene) (first second : List ℕ) (ms ns : List Edge) (env : Env) where
+  dense_part_alike : (o : Option Dense) → IsPermutation ms ns → AnyLoopAgrees o →
+      IsTrue (option_all (λ d. no_first ops d.body.items) o) → IsTrue (option_all dense_read o) →
+      values ops (dense_part (over first s) o ms env) ≡ values ops (dense_part (over second s) o ns env)
+  dense_part_alike None moved agrees none reads = refl
+  dense_part_alike (Some d) moved agrees none reads =
+      choice_alike ops d s first second ms ns moved agrees none (tail_tests d reads) env
+      (is_set (value_of d.when_test env))
 
 -- ---- a sparse round at a vertex
 module _ (ops : List Combine) (sparse : Sparse) (s : Scene) (none : IsTrue (no_first ops sparse.body.items))
@@ -106,13 +106,13 @@ module _ (ops : List Combine) (sparse : Sparse) (s : Scene) (none : IsTrue (no_f
       (flat_map-permutation (emitted_over s ops sparse env) ms ns moved)
       ∙ ap (slot_values 0 ops) (append-nil b)
 
-sparse_part_alike : (ops : List Combine) (o : Option Sparse) (s : Scene) (first second : List ℕ) (ms ns : List Edge) →
-    IsPermutation ms ns →
-    IsTrue (option_all (λ d. no_first ops d.body.items) o) →
-    (env : Env) → values ops (sparse_part (over first s) ops o ms env) ≡ values ops
-    (sparse_part (over second s) ops o ns env)
-sparse_part_alike ops None s first second ms ns moved none env = refl
-sparse_part_alike ops (Some sparse) s first second ms ns moved none env = sent_alike ops sparse s none env ms ns moved
+module _ (ops : List Combine) (s : Scene) (first second : List ℕ) (ms ns : List Edge) (env : Env) where
+  sparse_part_alike : (o : Option Sparse) → IsPermutation ms ns →
+      IsTrue (option_all (λ d. no_first ops d.body.items) o) →
+      values ops (sparse_part (over first s) ops o ms env) ≡ values ops (sparse_part (over second s) ops o ns
+      env)
+  sparse_part_alike None moved none = refl
+  sparse_part_alike (Some sparse) moved none = sent_alike ops sparse s none env ms ns moved
 
 -- ---- a round
 module _ (p : Program) (free : IsOrderFree p) (s : Scene) (first second : List ℕ) where
@@ -131,13 +131,12 @@ module _ (p : Program) (free : IsOrderFree p) (s : Scene) (first second : List �
       values (slot_ops p) (gathered p r (over first s) v) ≡ values (slot_ops p) (gathered p r (over second s) v)
   gathered_alike ruling.Stop v = refl
   gathered_alike ruling.Dense v =
-      dense_part_alike (slot_ops p) p.dense s first second (members_of (over first s).graph v)
-      (members_of (over second s).graph v) (members_moved v)
-      free.loop none_dense (blocks_read p free.typed).0 (env_at s v (no_values (slot_ops p)))
+      dense_part_alike (slot_ops p) s first second (members_of (over first s).graph v) (members_of (over second
+      s).graph v) (env_at s v (no_values (slot_ops p))) p.dense (members_moved v) free.loop none_dense (blocks_read
+      p free.typed).0
   gathered_alike ruling.Sparse v =
-      sparse_part_alike (slot_ops p) p.sparse s first second (members_of (over first s).graph v)
-      (members_of (over second s).graph v) (members_moved v)
-      none_sparse (env_at s v (no_values (slot_ops p)))
+      sparse_part_alike (slot_ops p) s first second (members_of (over first s).graph v) (members_of (over second
+      s).graph v) (env_at s v (no_values (slot_ops p))) p.sparse (members_moved v) none_sparse
 
   each_row_alike : (r : Ruling) (vs : List ℕ) →
       map (row_after p r (over first s)) vs ≡ map (row_after p r (over second s)) vs

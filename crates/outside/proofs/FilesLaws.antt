@@ -59,25 +59,25 @@ files_at {Z} pairs at pair within is =
     within is
 
 -- other bytes at the place of the file of that name
-pub put_found : {Z : Type 0} (pairs : List (String Z × Vec ℕ Z)) (at : ℕ) (pair : String Z × Vec ℕ Z)
-    (fresh : Vec ℕ Z) (name bytes : List ℕ) → at < length pairs → pair ≡ get_or pairs at pair →
-    bytes_eq (string_bytes pair.0) name ≡ true → fresh.items ≡ bytes →
-    take at (files_of pairs) ++ with_file name bytes (drop at (files_of pairs))
-    ≡ with_file name bytes (files_of pairs) → files_of (set pairs at (pair.0, fresh))
-    ≡ with_file name bytes (files_of pairs)
-put_found {Z} pairs at pair fresh name bytes within is same value others =
-    let f : String Z × Vec ℕ Z → File = λ (p : String Z × Vec ℕ Z).
-    record { name = string_bytes p.0; bytes = p.1.items } in
-    let files : List File = files_of pairs in
-    let file : File = f pair in
-    let new : File = record { name = string_bytes pair.0; bytes = bytes } in
-    let fits : at < length files = omega (arith, within, length-map pairs f) in
-    let one : files_of (set pairs at (pair.0, fresh)) ≡ set files at (f (pair.0, fresh)) =
-    map-set f pairs at (pair.0, fresh) in
-    let two : set files at (f (pair.0, fresh)) ≡ set files at new =
-    ap (λ (b : List ℕ). set files at (record { name = string_bytes pair.0; bytes = b })) value in
-    let three : set files at new ≡ take at files ++ new ∷ drop (at + 1) files =
-    rw add-one (set_split files at new fits) in
-    let four : with_file name bytes (drop at files) ≡ new ∷ drop (at + 1) files =
-    replaced files at file name bytes (files_at pairs at pair within is) same in
-    one ∙ two ∙ three ∙ ap (λ (r : List File). take at files ++ r) (sym four) ∙ others
+module _ {Z : Type 0} (pairs : List (String Z × Vec ℕ Z)) (at : ℕ) (pair : String Z × Vec ℕ Z) (fresh : Vec ℕ Z)
+    (name bytes : List ℕ) where
+  pub put_found : at < length pairs → pair ≡ get_or pairs at pair → bytes_eq (string_bytes pair.0) name ≡ true →
+      fresh.items ≡ bytes →
+      take at (files_of pairs) ++ with_file name bytes (drop at (files_of pairs)) ≡ with_file name bytes
+      (files_of pairs) → files_of (set pairs at (pair.0, fresh)) ≡ with_file name bytes (files_of pairs)
+  put_found within is same value others =
+      let f : String Z × Vec ℕ Z → File = λ (p : String Z × Vec ℕ Z).
+      record { name = string_bytes p.0; bytes = p.1.items } in
+      let files : List File = files_of pairs in
+      let file : File = f pair in
+      let new : File = record { name = string_bytes pair.0; bytes = bytes } in
+      let fits : at < length files = omega (arith, within, length-map pairs f) in
+      let one : files_of (set pairs at (pair.0, fresh)) ≡ set files at (f (pair.0, fresh)) =
+      map-set f pairs at (pair.0, fresh) in
+      let two : set files at (f (pair.0, fresh)) ≡ set files at new =
+      ap (λ (b : List ℕ). set files at (record { name = string_bytes pair.0; bytes = b })) value in
+      let three : set files at new ≡ take at files ++ new ∷ drop (at + 1) files =
+      rw add-one (set_split files at new fits) in
+      let four : with_file name bytes (drop at files) ≡ new ∷ drop (at + 1) files =
+      replaced files at file name bytes (files_at pairs at pair within is) same in
+      one ∙ two ∙ three ∙ ap (λ (r : List File). take at files ++ r) (sym four) ∙ others

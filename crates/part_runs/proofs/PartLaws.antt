@@ -61,25 +61,25 @@ module _ (prefix program : List ℕ) where
         (follows (parted prefix program (map plain_of (drop (i + 1) parts)))) out input after outcome leaves))
 
     -- that of one more was not
-    pub part_stops : (all : List PlainPart) (old mid new : Kept) (why : Failure) →
-        StoresTo all old (map plain_of (drop i parts)) mid →
-        NotKept (name_for part) mid new (fault_of why) → (out : Held)
-        (input : Left) → Leaves NoTask (follows (parted prefix program all)) (outside old out input)
-        (outside new out input) (Some (fault_of why))
-    part_stops all old mid new why before stops out input =
-        before out input (outside new out input) (Some (fault_of why))
-        (subst (λ (ps : List PlainPart). Leaves NoTask (follows (parted prefix program ps)) (outside mid out input)
-        (outside new out input) (Some (fault_of why))) (sym rest_is)
-        (store_stops NoTask (name_for part) (file_for part) mid new (fault_of why) stops
-        (follows (parted prefix program (map plain_of (drop (i + 1) parts)))) out input))
+    module _ (all : List PlainPart) (old mid new : Kept) (why : Failure) where
+      pub part_stops : StoresTo all old (map plain_of (drop i parts)) mid →
+          NotKept (name_for part) mid new (fault_of why) → (out : Held) (input : Left) →
+          Leaves NoTask (follows (parted prefix program all)) (outside old out input) (outside new out input)
+          (Some (fault_of why))
+      part_stops before stops out input =
+          before out input (outside new out input) (Some (fault_of why))
+          (subst (λ (ps : List PlainPart). Leaves NoTask (follows (parted prefix program ps)) (outside mid out input)
+          (outside new out input) (Some (fault_of why))) (sym rest_is)
+          (store_stops NoTask (name_for part) (file_for part) mid new (fault_of why) stops
+          (follows (parted prefix program (map plain_of (drop (i + 1) parts)))) out input))
 
   -- all were stored
-  pub parts_done : (parts : List Part) (i : ℕ) (all : List PlainPart) (old new : Kept) → length parts ≤ i →
-      StoresTo all old (map plain_of (drop i parts)) new →
-      (out : Held) (input : Left) →
-      Leaves NoTask (follows (parted prefix program all)) (outside old out input) (outside new out input) None
-  parts_done parts i all old new end before out input =
-      before out input (outside new out input) None
-      (subst (λ (ps : List Part). Leaves NoTask (follows (parted prefix program (map plain_of ps)))
-      (outside new out input) (outside new out input) None) (sym (drop_all i parts end))
-      (record { same = refl; fine = refl }))
+  module _ (parts : List Part) (i : ℕ) (all : List PlainPart) (old new : Kept) where
+    pub parts_done : length parts ≤ i → StoresTo all old (map plain_of (drop i parts)) new →
+        (out : Held) (input : Left) →
+        Leaves NoTask (follows (parted prefix program all)) (outside old out input) (outside new out input) None
+    parts_done end before out input =
+        before out input (outside new out input) None
+        (subst (λ (ps : List Part). Leaves NoTask (follows (parted prefix program (map plain_of ps)))
+        (outside new out input) (outside new out input) None) (sym (drop_all i parts end))
+        (record { same = refl; fine = refl }))

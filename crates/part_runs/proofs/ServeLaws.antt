@@ -163,31 +163,31 @@ module _ (work : Work) (rows : List ℕ) where
       (unread bytes (outside new out input) none.why none.reads))
 
   -- the part was read, and its machine served
-  pub part_serves : (name : List ℕ) (old new : Kept) (part : Part) → HasPart old new name part → (out : Held)
-      (input : Left) (after : Outside) (outcome : Option Fault) →
-      Leaves NoTask (follows (serving work (plain_of part) part.split.value rows)) (outside new out input) after
-      outcome →
-      Leaves courses (worker_order name rows) (outside old out input) after outcome
-  part_serves name old new part has out input after outcome leaves =
-      bytes_go courses old new name GRAPH_BYTES (BadPart 2) has.bytes has.has
-      (λ bytes. Runs (order.Served bytes rows) follows) out input after outcome
-      (Ran (serving work (plain_of part) part.split.value rows)
-      (IsPart (plain_of part) part.split.value has.is refl)
-      (unplayed courses (follows (serving work (plain_of part) part.split.value rows)) (outside new out input) after
-      outcome
-      leaves))
+  module _ (name : List ℕ) (old new : Kept) (part : Part) where
+    pub part_serves : HasPart old new name part →
+        (out : Held) (input : Left) (after : Outside) (outcome : Option Fault) →
+        Leaves NoTask (follows (serving work (plain_of part) part.split.value rows)) (outside new out input)
+        after outcome → Leaves courses (worker_order name rows) (outside old out input) after outcome
+    part_serves has out input after outcome leaves =
+        bytes_go courses old new name GRAPH_BYTES (BadPart 2) has.bytes has.has
+        (λ bytes. Runs (order.Served bytes rows) follows) out input after outcome
+        (Ran (serving work (plain_of part) part.split.value rows)
+        (IsPart (plain_of part) part.split.value has.is refl)
+        (unplayed courses (follows (serving work (plain_of part) part.split.value rows)) (outside new out input) after
+        outcome
+        leaves))
 
 -- what a file answers that was loaded
-pub judged_here : (old new : Kept) (name bytes : List ℕ) → HasBytes old new name GRAPH_BYTES bytes →
-    (read : List ℕ) → read ≡ bytes → (result : Result Part Failure) → JudgesPart read result →
-    GivesPart old new name result
-judged_here old new name bytes has read same (Ok part) is = record {
-  bytes = bytes;
-  has = has;
-  is = subst (λ (b : List ℕ). IsPartFile b (plain_of part) part.split.value) same is;
-}
-judged_here old new name bytes has read same (Err why) none =
-    NotRead bytes has (subst (λ (b : List ℕ). NoPart b (fault_of why)) same none)
+module _ (old new : Kept) (name bytes : List ℕ) where
+  pub judged_here : HasBytes old new name GRAPH_BYTES bytes → (read : List ℕ) → read ≡ bytes →
+      (result : Result Part Failure) → JudgesPart read result → GivesPart old new name result
+  judged_here has read same (Ok part) is = record {
+    bytes = bytes;
+    has = has;
+    is = subst (λ (b : List ℕ). IsPartFile b (plain_of part) part.split.value) same is;
+  }
+  judged_here has read same (Err why) none =
+      NotRead bytes has (subst (λ (b : List ℕ). NoPart b (fault_of why)) same none)
 
 -- what judging bytes answers
 pub judged_by : (bytes : List ℕ) (part : Part) → ReadsPart bytes (Ok part) →

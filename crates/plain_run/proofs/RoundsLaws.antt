@@ -48,10 +48,10 @@ stopped j (suc less) round s e =
     (then_runs (played_at j round s) (rounds_from less j (round + 1) (next_standing j round s)))) e
 
 -- a run that has ended
-pub left_none : (kept : Bool) (j : Job) (round : ℕ) (s : Standing) (told : List Told) (left whole : Run) →
-    left ≡ record { rounds = []; last = s } → IsLeft kept told left whole →
-    IsLeft kept told (record { rounds = []; last = s }) whole
-left_none kept j round s told left whole e h = subst (λ (r : Run). IsLeft kept told r whole) e h
+module _ (kept : Bool) (j : Job) (round : ℕ) (s : Standing) (told : List Told) (left whole : Run) where
+  pub left_none : left ≡ record { rounds = []; last = s } → IsLeft kept told left whole →
+      IsLeft kept told (record { rounds = []; last = s }) whole
+  left_none e h = subst (λ (r : Run). IsLeft kept told r whole) e h
 
 pub rows_ended : (kept : Bool) (s : Standing) (told : List Told) (whole : Run) →
     IsLeft kept told (record { rounds = []; last = s }) whole → s.rows ≡ whole.last.rows
@@ -61,14 +61,13 @@ pub rounds_ended : (kept : Bool) (s : Standing) (told : List Told) (whole : Run)
     IsLeft kept told (record { rounds = []; last = s }) whole → told ≡ rounds_told kept whole
 rounds_ended kept s told whole h = sym (append-nil told) ∙ h.rounds
 
-pub left_stopped : (kept : Bool) (j : Job) (fuel round : ℕ) (s : Standing) (told : List Told) (whole : Run) →
-    s.ruling ≡ ruling.Stop → IsLeft kept told (rounds_from fuel j round s) whole →
-    IsLeft kept told (record { rounds = []; last = s }) whole
-left_stopped kept j fuel round s told whole e h = left_none kept j round s told (rounds_from fuel j round s) whole
-    (stopped j fuel round s e) h
+module _ (kept : Bool) (j : Job) (fuel round : ℕ) (s : Standing) (told : List Told) (whole : Run) where
+  pub left_stopped : s.ruling ≡ ruling.Stop → IsLeft kept told (rounds_from fuel j round s) whole →
+      IsLeft kept told (record { rounds = []; last = s }) whole
+  left_stopped e h = left_none kept j round s told (rounds_from fuel j round s) whole
+      (stopped j fuel round s e) h
 
-pub left_over : (kept : Bool) (j : Job) (fuel round : ℕ) (s : Standing) (told : List Told) (whole : Run) →
-    fuel ≡ zero → IsLeft kept told (rounds_from fuel j round s) whole →
-    IsLeft kept told (record { rounds = []; last = s }) whole
-left_over kept j fuel round s told whole e h = left_none kept j round s told (rounds_from fuel j round s) whole
-    (ap (λ n. rounds_from n j round s) e) h
+  pub left_over : fuel ≡ zero → IsLeft kept told (rounds_from fuel j round s) whole →
+      IsLeft kept told (record { rounds = []; last = s }) whole
+  left_over e h = left_none kept j round s told (rounds_from fuel j round s) whole
+      (ap (λ n. rounds_from n j round s) e) h

@@ -30,14 +30,14 @@ module _ {X : Type 0} (act : X → Act) (xs : List X) (i : ℕ) (x : X) (env : E
             ∙ ap (λ r. with_emissions env.key ps r.emitted) same;
       }
 
-pub SameEnd-trans : (i j k : ℕ) (ps qs rs : List Partial) (a b c : Ran) → SameEnd i ps a j qs b →
-    SameEnd j qs b k rs c → SameEnd i ps a k rs c
-SameEnd-trans i j k ps qs rs a b c p q = record {
-  env = p.env ∙ q.env;
-  flow = p.flow ∙ q.flow;
-  partials = p.partials
-      ∙ q.partials;
-}
+module _ (i j k : ℕ) (ps qs rs : List Partial) (a b c : Ran) where
+  pub SameEnd-trans : SameEnd i ps a j qs b → SameEnd j qs b k rs c → SameEnd i ps a k rs c
+  SameEnd-trans p q = record {
+    env = p.env ∙ q.env;
+    flow = p.flow ∙ q.flow;
+    partials = p.partials
+        ∙ q.partials;
+  }
 
 pub SameCounts-trans : (a b c : Env) → SameCounts a b → SameCounts b c → SameCounts a c
 SameCounts-trans a b c p q = record {

@@ -77,14 +77,14 @@ pub length-totals_after : (j : Job) (round : ℕ) (rows : List Row) →
 length-totals_after j round rows = length-map j.program.totals.items (total_after j round rows)
 
 -- one element more of a list made of another one
-pub mapped_more : {X Y : Type 0} (f : X → Y) (xs : List X) (i : ℕ) (x : X) (ys more : List Y) (y : Y) →
-    i < length xs → x ≡ get_or xs i x → ys ≡ map f (take i xs) → y ≡ f x → more ≡ ys ++ y ∷ [] →
-    more ≡ map f (take (i + 1) xs)
-mapped_more f xs i x ys more y lt is e here h =
-    h
-    ∙ (ap (λ z. ys ++ z ∷ []) (here ∙ ap f is)
-    ∙ (ap (λ zs. zs ++ f (get_or xs i x) ∷ []) e
-    ∙ sym (ap (map f) (take_more xs i x lt) ∙ map-append f (take i xs) (get_or xs i x ∷ []))))
+module _ {X Y : Type 0} (f : X → Y) (xs : List X) (i : ℕ) (x : X) (ys more : List Y) (y : Y) where
+  pub mapped_more : i < length xs → x ≡ get_or xs i x → ys ≡ map f (take i xs) → y ≡ f x → more ≡ ys ++ y ∷ [] →
+      more ≡ map f (take (i + 1) xs)
+  mapped_more lt is e here h =
+      h
+      ∙ (ap (λ z. ys ++ z ∷ []) (here ∙ ap f is)
+      ∙ (ap (λ zs. zs ++ f (get_or xs i x) ∷ []) e
+      ∙ sym (ap (map f) (take_more xs i x lt) ∙ map-append f (take i xs) (get_or xs i x ∷ []))))
 
 -- how many words an environment has when its row was entered
 pub entered_counts : (j : Job) (v : ℕ) (env left : Env) (words : List ℤ) → env ≡ env_at (scene_of j 0 [] []) v [] →

@@ -345,14 +345,15 @@ made_of p z = record {
   stop = z.1.1.1.1.1.1;
 }
 
-same_parts : (p q : ProgramTree) → q.version ≡ p.version → q.mode ≡ p.mode → q.limit ≡ p.limit →
-    map plain_declaration q.fields ≡ map plain_declaration p.fields → map plain_slot q.slots ≡ map plain_slot p.slots
-    → map plain_total q.totals ≡ map plain_total p.totals → plain q.start ≡ plain p.start →
-    option_map plain_dense q.dense ≡ option_map plain_dense p.dense →
-    option_map plain_sparse q.sparse ≡ option_map plain_sparse p.sparse
-    → plain_block q.update ≡ plain_block p.update → option_map plain q.stop ≡ option_map plain p.stop →
-    plain_program q ≡ plain_program p
-same_parts p q version mode limit fields slots totals start dense sparse update stop = cc
+module _ (p q : ProgramTree) (version : q.version ≡ p.version) (mode : q.mode ≡ p.mode)
+    (limit : q.limit ≡ p.limit) where
+  same_parts : map plain_declaration q.fields ≡ map plain_declaration p.fields →
+      map plain_slot q.slots ≡ map plain_slot p.slots → map plain_total q.totals ≡ map plain_total p.totals →
+      plain q.start ≡ plain p.start → option_map plain_dense q.dense ≡ option_map plain_dense p.dense →
+      option_map plain_sparse q.sparse ≡ option_map plain_sparse p.sparse →
+      plain_block q.update ≡ plain_block p.update → option_map plain q.stop ≡ option_map plain p.stop →
+      plain_program q ≡ plain_program p
+  same_parts fields slots totals start dense sparse update stop = cc
 
 -- tokens of these kinds are the same program
 pub program_again : (p : ProgramTree) (u : List Placed) → ReadsProgram p u →

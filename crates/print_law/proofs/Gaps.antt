@@ -187,19 +187,20 @@ no_comment_before b g x (y ∷ u) more e = no_comment x (y ∷ u) e
 passed : Span → Kind → Result (List Placed) LexFault → Result (List Placed) LexFault
 passed s k r = followed s (Ok k) r
 
-pub read_on : (b : ℕ) (g : Gap b) (s : Span) (x : ℕ) (u more : List ℕ) (k : Kind) (ts : List Placed) →
-    kind_of (x ∷ u) ≡ Some k → judged s (Some k) ≡ Ok k
-    → tokens_at false 0 (after (through s (x ∷ u)) b) more ≡ Ok ts → tokens_at false 0 s ((x ∷ u) ++ b ∷ more)
-    ≡ Ok (record { span = s; kind = k } ∷ ts)
-read_on b g s x u more k ts e fits h =
-    let token : is_token (x ∷ u) ≡ true = ap is_some e in
-    let l = before_gap b g x u more token in
-    let bl = no_blank x u token in
-    let co = no_comment_before b g x u more token in
-    let p = pass_token (length u) (after s x) (u ++ b ∷ more) (omega (arith, length-append u (b ∷ more))) in
-    let t : take (length u) (u ++ b ∷ more) ≡ u = take_at u (b ∷ more) (length u) refl in
-    let f : take (length (x ∷ u)) ((x ∷ u) ++ b ∷ more) ≡ x ∷ u = take_at (x ∷ u) (b ∷ more) (length (x ∷ u)) refl in
-    let d : drop (length u) (u ++ b ∷ more) ≡ b ∷ more = drop_at u (b ∷ more) (length u) refl in
-    let gap : tokens_at false 0 (through (after s x) u) (b ∷ more) ≡ Ok ts = rw g.blank h in
-    let q : tokens_at false (length u) (after s x) (u ++ b ∷ more) ≡ Ok ts = p ∙ rw (t, d) gap in
-    rw (bl, co, l, f, e, fits, q) refl
+module _ (b : ℕ) (g : Gap b) (s : Span) (x : ℕ) (u more : List ℕ) (k : Kind) (ts : List Placed) where
+  pub read_on : kind_of (x ∷ u) ≡ Some k → judged s (Some k) ≡ Ok k →
+      tokens_at false 0 (after (through s (x ∷ u)) b) more ≡ Ok ts →
+      tokens_at false 0 s ((x ∷ u) ++ b ∷ more) ≡ Ok (record { span = s; kind = k } ∷ ts)
+  read_on e fits h =
+      let token : is_token (x ∷ u) ≡ true = ap is_some e in
+      let l = before_gap b g x u more token in
+      let bl = no_blank x u token in
+      let co = no_comment_before b g x u more token in
+      let p = pass_token (length u) (after s x) (u ++ b ∷ more) (omega (arith, length-append u (b ∷ more))) in
+      let t : take (length u) (u ++ b ∷ more) ≡ u = take_at u (b ∷ more) (length u) refl in
+      let f : take (length (x ∷ u)) ((x ∷ u) ++ b ∷ more) ≡ x ∷ u = take_at (x ∷ u) (b ∷ more) (length (x ∷ u))
+      refl in
+      let d : drop (length u) (u ++ b ∷ more) ≡ b ∷ more = drop_at u (b ∷ more) (length u) refl in
+      let gap : tokens_at false 0 (through (after s x) u) (b ∷ more) ≡ Ok ts = rw g.blank h in
+      let q : tokens_at false (length u) (after s x) (u ++ b ∷ more) ≡ Ok ts = p ∙ rw (t, d) gap in
+      rw (bl, co, l, f, e, fits, q) refl

@@ -256,34 +256,35 @@ module _ (rights : Rights) where
   no_room (Emit s slot value) is w = absurd (omega arith)
   no_room (Break s) is w = absurd (omega arith)
 
-  node_complete : (b : ℕ) (l : Limits) → Complete N (deep l b) (statement_at rights b) →
-      (x : Statement) (u r : List Placed) → sort x ≡ 2 → N.form x u → N.within (deep l (suc b)) x → N.follow x r →
-      node b if_value (branch_at b) (u ++ r) ≡ Ok (x, r)
-  node_complete b l ih (Assign target op value) u r is h w f = absurd (omega arith)
-  node_complete b l ih (SetActive s value) u r is h w f = absurd (omega arith)
-  node_complete b l ih (Emit s slot value) u r is h w f = absurd (omega arith)
-  node_complete b l ih (Break s) u r is h w f = absurd (omega arith)
-  node_complete b l ih (If s test held) u r is h w f =
-      let pos : 1 ≤ b = (let d = depth_pos test in omega arith) in
-      let fits : (branch_notion rights).within (deep l b) (test, (held, None)) =
-      ((let z = w in omega arith), ((let z = w in omega arith), tt)) in
-      let e = branch_complete (deep l b) (tree_at b 6) (statement_at rights b) (trees.complete (deep l b))
-      (statement_sound b l) ih (test, (held, None)) h.back r
-      (then_map (keeps (Reads 6 test)) none_then h.back h.second) fits f in
-      ap (λ l'. node b if_value (branch_at b) (l' ++ r)) (opened s (Reserved word.IF) u h)
-      ∙ node_goes (branch_notion rights) N (Reserved word.IF) if_value (if_node rights) b (branch_at b)
-      (token s (Reserved word.IF)) (h.back ++ r) (test, (held, None)) r pos e
-  node_complete b l ih (IfElse s test held otherwise) u r is h w f =
-      let pos : 1 ≤ b = (let d = depth_pos test in omega arith) in
-      let fits : (branch_notion rights).within (deep l b) (test, (held, Some otherwise)) =
-      ((let z = w in omega arith), ((let z = w in omega arith), (let z = w in omega arith))) in
-      let e = branch_complete (deep l b) (tree_at b 6) (statement_at rights b) (trees.complete (deep l b))
-      (statement_sound b l) ih (test, (held, Some otherwise)) h.back r
-      (then_map (keeps (Reads 6 test)) (λ v k.
-      then_joined v (then_map (keeps (TheMark mark.LEFT_BRACE)) then_joined v k)) h.back h.second) fits tt in
-      ap (λ l'. node b if_value (branch_at b) (l' ++ r)) (opened s (Reserved word.IF) u h)
-      ∙ node_goes (branch_notion rights) N (Reserved word.IF) if_value (if_node rights) b (branch_at b)
-      (token s (Reserved word.IF)) (h.back ++ r) (test, (held, Some otherwise)) r pos e
+  module _ (b : ℕ) (l : Limits) where
+    node_complete : Complete N (deep l b) (statement_at rights b) → (x : Statement) (u r : List Placed) →
+        sort x ≡ 2 → N.form x u → N.within (deep l (suc b)) x → N.follow x r →
+        node b if_value (branch_at b) (u ++ r) ≡ Ok (x, r)
+    node_complete ih (Assign target op value) u r is h w f = absurd (omega arith)
+    node_complete ih (SetActive s value) u r is h w f = absurd (omega arith)
+    node_complete ih (Emit s slot value) u r is h w f = absurd (omega arith)
+    node_complete ih (Break s) u r is h w f = absurd (omega arith)
+    node_complete ih (If s test held) u r is h w f =
+        let pos : 1 ≤ b = (let d = depth_pos test in omega arith) in
+        let fits : (branch_notion rights).within (deep l b) (test, (held, None)) =
+        ((let z = w in omega arith), ((let z = w in omega arith), tt)) in
+        let e = branch_complete (deep l b) (tree_at b 6) (statement_at rights b) (trees.complete (deep l b))
+        (statement_sound b l) ih (test, (held, None)) h.back r
+        (then_map (keeps (Reads 6 test)) none_then h.back h.second) fits f in
+        ap (λ l'. node b if_value (branch_at b) (l' ++ r)) (opened s (Reserved word.IF) u h)
+        ∙ node_goes (branch_notion rights) N (Reserved word.IF) if_value (if_node rights) b (branch_at b)
+        (token s (Reserved word.IF)) (h.back ++ r) (test, (held, None)) r pos e
+    node_complete ih (IfElse s test held otherwise) u r is h w f =
+        let pos : 1 ≤ b = (let d = depth_pos test in omega arith) in
+        let fits : (branch_notion rights).within (deep l b) (test, (held, Some otherwise)) =
+        ((let z = w in omega arith), ((let z = w in omega arith), (let z = w in omega arith))) in
+        let e = branch_complete (deep l b) (tree_at b 6) (statement_at rights b) (trees.complete (deep l b))
+        (statement_sound b l) ih (test, (held, Some otherwise)) h.back r
+        (then_map (keeps (Reads 6 test)) (λ v k.
+        then_joined v (then_map (keeps (TheMark mark.LEFT_BRACE)) then_joined v k)) h.back h.second) fits tt in
+        ap (λ l'. node b if_value (branch_at b) (l' ++ r)) (opened s (Reserved word.IF) u h)
+        ∙ node_goes (branch_notion rights) N (Reserved word.IF) if_value (if_node rights) b (branch_at b)
+        (token s (Reserved word.IF)) (h.back ++ r) (test, (held, Some otherwise)) r pos e
 
   statement_complete : (b : ℕ) (l : Limits) → Complete N (deep l b) (statement_at rights b)
   unfolding statement_at

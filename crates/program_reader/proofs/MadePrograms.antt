@@ -19,18 +19,19 @@ use Rattle.program_reader.proofs.Made.{make, make_block, make_declaration, make_
 use Rattle.program_reader.proofs.MadeLaws.{AreMade, Found, IsMade, decl_made, four, made, made_items, parts, slot_filled, slot_made, three, total_filled, total_made, vec_made}
 
 -- a tree with these parts
-abbrev tree_of : ProgramTree → List Declaration → List SlotDeclaration → List TotalDeclaration → Tree
-    → Option DenseBlock → Option SparseBlock → Statements → Option Tree → ProgramTree
-tree_of t fields slots totals start dense sparse update stop = record t {
-  fields = fields;
-  slots = slots;
-  totals = totals;
-  start = start;
-  dense = dense;
-  sparse = sparse;
-  update = update;
-  stop = stop;
-}
+module _ (t : ProgramTree) where
+  abbrev tree_of : List Declaration → List SlotDeclaration → List TotalDeclaration → Tree → Option DenseBlock →
+      Option SparseBlock → Statements → Option Tree → ProgramTree
+  tree_of fields slots totals start dense sparse update stop = record t {
+    fields = fields;
+    slots = slots;
+    totals = totals;
+    start = start;
+    dense = dense;
+    sparse = sparse;
+    update = update;
+    stop = stop;
+  }
 
 -- eight parts that are the same
 eight :

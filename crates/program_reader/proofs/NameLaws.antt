@@ -25,8 +25,9 @@ both_give a b x y f g h =
     let parts = and_parts a b h in
     subst (λ z. (z && y) ≡ true) (sym (f parts.0)) (g parts.1)
 
-three_give : (a b c x y z : Bool) → Gives a x → Gives b y → Gives c z → Gives (a && (b && c)) (x && (y && z))
-three_give a b c x y z f g h = both_give a (b && c) x (y && z) f (both_give b c y z g h)
+module _ (a b c x y z : Bool) where
+  three_give : Gives a x → Gives b y → Gives c z → Gives (a && (b && c)) (x && (y && z))
+  three_give f g h = both_give a (b && c) x (y && z) f (both_give b c y z g h)
 
 all_give : {X : Type 0} (p q : X → Bool) (xs : List X) → ((x : X) → Gives (p x) (q x)) →
     Gives (list_all p xs) (list_all q xs)

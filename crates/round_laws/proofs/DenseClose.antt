@@ -105,20 +105,20 @@ nothing_joined [] = refl
 nothing_joined (k ∷ ks) = nothing_joined ks
 
 -- the values of the partials of reduced lets
-lets_filled : (at place p : ℕ) (cs : List Class) (left : ℕ → Env) (buckets : ℕ → ℕ → List ℤ) (qs : List Partial) →
+lets_filled :
+    (p : ℕ) (left : ℕ → Env) (buckets : ℕ → ℕ → List ℤ) (at place : ℕ) (cs : List Class) (qs : List Partial) →
     AreFilled at (reduced_ops cs) buckets (p + 1) qs →
-    ((j k : ℕ) → buckets (at + j) k ≡
-    (if nat_lt k p then option_to_list (slice_index_or (operands (places_where is_reduced place cs) (left k)) j None)
-    else [])) →
+    ((j k : ℕ) → buckets (at + j) k ≡ (if nat_lt k p then option_to_list (slice_index_or (operands (places_where
+    is_reduced place cs) (left k)) j None) else [])) →
     values_of qs ≡ combined_operands left (range_with_len 0 p) place cs
-lets_filled at place p [] left buckets [] are each = refl
-lets_filled at place p [] left buckets (q ∷ qs) are each = absurd are
-lets_filled at place p (Constant ∷ cs) left buckets qs are each =
-    lets_filled at (place + 1) p cs left buckets qs are each
-lets_filled at place p (Carried ∷ cs) left buckets qs are each =
-    lets_filled at (place + 1) p cs left buckets qs are each
-lets_filled at place p (Reduced op ∷ cs) left buckets [] are each = absurd are
-lets_filled at place p (Reduced op ∷ cs) left buckets (q ∷ qs) are each =
+lets_filled p left buckets at place [] [] are each = refl
+lets_filled p left buckets at place [] (q ∷ qs) are each = absurd are
+lets_filled p left buckets at place (Constant ∷ cs) qs are each =
+    lets_filled p left buckets at (place + 1) cs qs are each
+lets_filled p left buckets at place (Carried ∷ cs) qs are each =
+    lets_filled p left buckets at (place + 1) cs qs are each
+lets_filled p left buckets at place (Reduced op ∷ cs) [] are each = absurd are
+lets_filled p left buckets at place (Reduced op ∷ cs) (q ∷ qs) are each =
     let words : ℕ → List ℤ = λ k. option_to_list (operand_at place (left k)) in
     let here : at ≡ at + 0 = omega arith in
     let first : (k : ℕ) → buckets at k ≡ (if nat_lt k p then words k else []) = λ k. ap (λ i. buckets i k) here
@@ -133,7 +133,7 @@ lets_filled at place p (Reduced op ∷ cs) left buckets (q ∷ qs) are each =
     let next : (j : ℕ) → at + 1 + j ≡ at + suc j = λ j. omega arith in
     ap (λ o. o ∷ values_of qs) value
     ∙ ap (λ os. combined op (operand_words left (range_with_len 0 p) place) ∷ os)
-    (lets_filled (at + 1) (place + 1) p cs left buckets qs are.1
+    (lets_filled p left buckets (at + 1) (place + 1) cs qs are.1
     (λ j k. ap (λ i. buckets i k) (next j) ∙ each (suc j) k))
 
 -- ---- environments
@@ -237,7 +237,7 @@ module _ (split : Split) (d : Dense) (g : Sight) (s : Scene) (p c v : ℕ)
         (length slots) j (length-slot_values 0 slots (ran k).emitted)
         ∙ ap (λ r. slice_index_or (operands (loop_split d).reduced.items r.env) j None) (runs k))) in
         ap (λ n. values_of (drop n ps)) (sym many)
-        ∙ lets_filled (length slots) 0 p cs (λ k. (steps k).env) buckets (drop (length slots) ps) rest each
+        ∙ lets_filled p (λ k. (steps k).env) buckets (length slots) 0 cs (drop (length slots) ps) rest each
 
     -- the lets of the tail are those that the loop leaves
     module _ (st : LoopState) (stands : ((loop_split d).carry ≡ None)

@@ -50,33 +50,35 @@ parts_then op f ks rest =
     ∙ sym (combined-append op (flat_map f ks) rest)
 
 -- the words that the machines of the steps combine, and behind them those of the tail, come to what the source combines
-pub round_words : (program : Program) (d : Dense) (s : Scene) (p c v : ℕ) →
-    let env : Env = env_at s v (no_values (slot_ops program)) in
-    IsSplit program d env → is_set (value_of d.when_test env) ≡ true →
-    AreEndsUpTo s.graph.vertices p s.graph.ends → c < p → IsInChunk s.graph.ends c v → (op : Combine) (slot : ℕ) →
-    combined op (flat_map (λ k. option_to_list (combined op (words_for slot
-    (machine_ran s d env s.graph.ends p c (ins_of s.graph.vertices s.graph.edges v) k).emitted))) (range_with_len 0 p)
-    ++ words_for slot (run d.tail.items (whole s d env (members_of s.graph v)).env).emitted) ≡
-    combined op (words_for slot (gathered program ruling.Dense s v).emitted)
-round_words program d s p c v split test are within lies op slot =
-    let env : Env = env_at s v (no_values (slot_ops program)) in
-    let ins : List Edge = ins_of s.graph.vertices s.graph.edges v in
-    let all : List Edge = members_of s.graph v in
-    let looped : Ran = whole s d env all in
-    let tail : List ℤ = words_for slot (run d.tail.items looped.env).emitted in
-    let emits : ℕ → List Emission = λ k. (machine_ran s d env s.graph.ends p c ins k).emitted in
-    let steps : List ℕ = range_with_len 0 p in
-    let order : members_by_steps s.graph.ends p c 0 p ins ≡ all =
-    reads_in_turn s.graph.vertices p c v s.graph.ends s.graph.edges are within lies in
-    let by_steps : looped.emitted ≡ flat_map emits steps =
-    ap (λ l. (whole s d env l).emitted) (sym order)
-    ∙ (by_machines s d env program split s.graph.ends p c p ins).emitted in
-    let there : dense_part s program.dense all env ≡ dense_block s d all env =
-    ap (λ o. dense_part s o all env) split.dense ∙ ap (λ b. if b then dense_block s d all env else leaves env) test in
-    parts_then op (λ k. words_for slot (emits k)) steps tail
-    ∙ ap (λ l. combined op (l ++ tail)) (sym (words_for-joined slot emits steps) ∙ ap (words_for slot) (sym by_steps))
-    ∙ sym (ap (combined op) (ap (λ r. words_for slot r.emitted) there
-    ∙ words_for-append slot looped.emitted (run d.tail.items looped.env).emitted))
+module _ (program : Program) (d : Dense) (s : Scene) (p c v : ℕ) where
+  pub round_words : let env : Env = env_at s v (no_values (slot_ops program)) in IsSplit program d env →
+      is_set (value_of d.when_test env) ≡ true → AreEndsUpTo s.graph.vertices p s.graph.ends → c < p →
+      IsInChunk s.graph.ends c v → (op : Combine) (slot : ℕ) →
+      combined op (flat_map (λ k. option_to_list (combined op (words_for slot (machine_ran s d env s.graph.ends
+      p c (ins_of s.graph.vertices s.graph.edges v) k).emitted))) (range_with_len 0 p) ++ words_for slot (run
+      d.tail.items (whole s d env (members_of s.graph v)).env).emitted) ≡ combined op (words_for slot
+      (gathered program ruling.Dense s v).emitted)
+  round_words split test are within lies op slot =
+      let env : Env = env_at s v (no_values (slot_ops program)) in
+      let ins : List Edge = ins_of s.graph.vertices s.graph.edges v in
+      let all : List Edge = members_of s.graph v in
+      let looped : Ran = whole s d env all in
+      let tail : List ℤ = words_for slot (run d.tail.items looped.env).emitted in
+      let emits : ℕ → List Emission = λ k. (machine_ran s d env s.graph.ends p c ins k).emitted in
+      let steps : List ℕ = range_with_len 0 p in
+      let order : members_by_steps s.graph.ends p c 0 p ins ≡ all =
+      reads_in_turn s.graph.vertices p c v s.graph.ends s.graph.edges are within lies in
+      let by_steps : looped.emitted ≡ flat_map emits steps =
+      ap (λ l. (whole s d env l).emitted) (sym order)
+      ∙ (by_machines s d env program split s.graph.ends p c p ins).emitted in
+      let there : dense_part s program.dense all env ≡ dense_block s d all env =
+      ap (λ o. dense_part s o all env) split.dense ∙ ap (λ b. if b then dense_block s d all env else leaves env)
+      test in
+      parts_then op (λ k. words_for slot (emits k)) steps tail
+      ∙ ap (λ l. combined op (l ++ tail)) (sym (words_for-joined slot emits steps) ∙ ap (words_for slot) (sym
+      by_steps))
+      ∙ sym (ap (combined op) (ap (λ r. words_for slot r.emitted) there
+      ∙ words_for-append slot looped.emitted (run d.tail.items looped.env).emitted))
 
 pub round_by_machines : RoundByMachines
 round_by_machines program d s p c v split test are within lies op slot q filled =

@@ -200,14 +200,15 @@ module _ (src : Source) (sparse : Sparse) (most m round : ℕ) (state : State) (
             AreFilled 0 (partial_ops src.split) (push_buckets src.split sparse sc v came) (keys_below src)
             (slice_index_or all place [])
 
-        grown : (sends : ℕ → Option (List ℤ)) (came new both : ℕ → Bool) (all : List (List Partial)) →
-            AllByRecursion (λ e. sends (source e) ≡ (if new (source e) then ideal_send src round (source e) else None))
-            s.part.push →
-            ((u : ℕ) → u < n → (came u && new u) ≡ false) → ((u : ℕ) → u < n → both u ≡ (came u || new u)) →
-            place < length all → Filled came all → Filled both (worked s round sends s.part.push all)
-        grown sends came new both all told apart union lt filled =
-            worked_filled src sparse most m s runs (begins.stands src sparse most m round state runs is knows) v lies
-            sends came new both all (push_starts ends src.job.graph.edges m) told apart union lt filled
+        module _ (sends : ℕ → Option (List ℤ)) (came new both : ℕ → Bool) (all : List (List Partial)) where
+          grown : AllByRecursion (λ e. sends (source e) ≡ (if new (source e) then ideal_send src round (source
+              e) else None)) s.part.push → ((u : ℕ) → u < n → (came u && new u) ≡ false) →
+              ((u : ℕ) → u < n → both u ≡ (came u || new u)) → place < length all → Filled came all →
+              Filled both (worked s round sends s.part.push all)
+          grown told apart union lt filled =
+              worked_filled src sparse most m s runs (begins.stands src sparse most m round state runs is knows) v
+              lies
+              sends came new both all (push_starts ends src.job.graph.edges m) told apart union lt filled
 
         -- where nothing is sent what came is the same
         idle : (sends : ℕ → Option (List ℤ)) (came both : ℕ → Bool) (all : List (List Partial)) →

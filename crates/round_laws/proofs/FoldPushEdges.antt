@@ -58,58 +58,60 @@ module _ (ops : List Combine) (bound : ℕ) (key : Edge → ℕ) (emits : Edge �
 
 -- ---- members with one source
 -- where no source of one key sent before, its members bring what they emit at once
-at_once : (place u : ℕ) (emits : Edge → List Emission) (came new both : ℕ → Bool) (xs : List Edge) →
-    AllByRecursion (λ e. source e ≡ u) xs → (b c : Bool) → came u ≡ b → new u ≡ c → (b && c) ≡ false →
-    both u ≡ (b || c) →
-    words_for place (flat_map emits (filter (λ e. came (source e)) xs))
-    ++ words_for place (flat_map (λ e. if new (source e) then emits e else []) xs) ≡
-    words_for place (flat_map emits (filter (λ e. both (source e)) xs))
-at_once place u emits came new both xs of_u b c is_came is_new apart is_both =
-    ap (λ es. words_for place (flat_map emits es) ++ words_for place (flat_map (λ e. if new (source e) then emits e else
-    []) xs)) (kept came b is_came)
-    ∙ ap (λ es. words_for place (flat_map emits (if b then xs else [])) ++ words_for place es) (brought c is_new)
-    ∙ by b c apart
-    ∙ sym (ap (λ es. words_for place (flat_map emits es)) (kept both (b || c) is_both))
-  where
-    all_are : (f : ℕ → Bool) (d : Bool) → f u ≡ d → (ys : List Edge) → AllByRecursion (λ e. source e ≡ u) ys →
-        AllByRecursion (λ e. f (source e) ≡ d) ys
-    all_are f d is [] all = tt
-    all_are f d is (y ∷ ys) all = (ap f all.0 ∙ is, all_are f d is ys all.1)
+module _ (place u : ℕ) (emits : Edge → List Emission) (came new both : ℕ → Bool) (xs : List Edge) where
+  at_once : AllByRecursion (λ e. source e ≡ u) xs → (b c : Bool) → came u ≡ b → new u ≡ c → (b && c) ≡ false →
+      both u ≡ (b || c) →
+      words_for place (flat_map emits (filter (λ e. came (source e)) xs)) ++ words_for place (flat_map (λ e. if
+      new (source e) then emits e else []) xs) ≡ words_for place (flat_map emits (filter (λ e. both (source
+      e)) xs))
+  at_once of_u b c is_came is_new apart is_both =
+      ap (λ es. words_for place (flat_map emits es) ++ words_for place (flat_map (λ e. if new (source e) then emits
+      e else
+      []) xs)) (kept came b is_came)
+      ∙ ap (λ es. words_for place (flat_map emits (if b then xs else [])) ++ words_for place es) (brought c is_new)
+      ∙ by b c apart
+      ∙ sym (ap (λ es. words_for place (flat_map emits es)) (kept both (b || c) is_both))
+    where
+      all_are : (f : ℕ → Bool) (d : Bool) → f u ≡ d → (ys : List Edge) → AllByRecursion (λ e. source e ≡ u) ys →
+          AllByRecursion (λ e. f (source e) ≡ d) ys
+      all_are f d is [] all = tt
+      all_are f d is (y ∷ ys) all = (ap f all.0 ∙ is, all_are f d is ys all.1)
 
-    kept : (f : ℕ → Bool) (d : Bool) → f u ≡ d → filter (λ e. f (source e)) xs ≡ (if d then xs else [])
-    kept f true is = filter_all (λ e. f (source e)) xs (all_are f true is xs of_u)
-    kept f false is = filter_none (λ e. f (source e)) xs (all_are f false is xs of_u)
+      kept : (f : ℕ → Bool) (d : Bool) → f u ≡ d → filter (λ e. f (source e)) xs ≡ (if d then xs else [])
+      kept f true is = filter_all (λ e. f (source e)) xs (all_are f true is xs of_u)
+      kept f false is = filter_none (λ e. f (source e)) xs (all_are f false is xs of_u)
 
-    same : (d : Bool) (ys : List Edge) → AllByRecursion (λ e. new (source e) ≡ d) ys →
-        AllByRecursion (λ e. (if new (source e) then emits e else []) ≡ (if d then emits e else [])) ys
-    same d [] all = tt
-    same d (y ∷ ys) all = (ap (λ x. if x then emits y else []) all.0, same d ys all.1)
+      same : (d : Bool) (ys : List Edge) → AllByRecursion (λ e. new (source e) ≡ d) ys →
+          AllByRecursion (λ e. (if new (source e) then emits e else []) ≡ (if d then emits e else [])) ys
+      same d [] all = tt
+      same d (y ∷ ys) all = (ap (λ x. if x then emits y else []) all.0, same d ys all.1)
 
-    nothing : (ys : List Edge) → flat_map (λ (e : Edge). let none : List Emission = [] in none) ys ≡ []
-    nothing [] = refl
-    nothing (y ∷ ys) = nothing ys
+      nothing : (ys : List Edge) → flat_map (λ (e : Edge). let none : List Emission = [] in none) ys ≡ []
+      nothing [] = refl
+      nothing (y ∷ ys) = nothing ys
 
-    brought : (d : Bool) → new u ≡ d →
-        flat_map (λ e. if new (source e) then emits e else []) xs ≡ (if d then flat_map emits xs else [])
-    brought true is =
-        flat_map_same (λ e. if new (source e) then emits e else []) emits xs
-        (same true xs (all_are new true is xs of_u))
-    brought false is =
-        flat_map_same (λ e. if new (source e) then emits e else []) (λ e. []) xs
-        (same false xs (all_are new false is xs of_u))
-        ∙ nothing xs
+      brought : (d : Bool) → new u ≡ d →
+          flat_map (λ e. if new (source e) then emits e else []) xs ≡ (if d then flat_map emits xs else [])
+      brought true is =
+          flat_map_same (λ e. if new (source e) then emits e else []) emits xs
+          (same true xs (all_are new true is xs of_u))
+      brought false is =
+          flat_map_same (λ e. if new (source e) then emits e else []) (λ e. []) xs
+          (same false xs (all_are new false is xs of_u))
+          ∙ nothing xs
 
-    by : (b c : Bool) → (b && c) ≡ false →
-        words_for place (flat_map emits (if b then xs else [])) ++ words_for place (if c then flat_map emits xs else [])
-        ≡ words_for place (flat_map emits (if b || c then xs else []))
-    by true true wrong = cc
-    by true false apart = append-nil (words_for place (flat_map emits xs))
-    by false c apart = none c
-      where
-        none : (d : Bool) → words_for place (if d then flat_map emits xs else []) ≡
-            words_for place (flat_map emits (if d then xs else []))
-        none true = refl
-        none false = refl
+      by : (b c : Bool) → (b && c) ≡ false →
+          words_for place (flat_map emits (if b then xs else [])) ++ words_for place (if c then flat_map emits xs
+          else [])
+          ≡ words_for place (flat_map emits (if b || c then xs else []))
+      by true true wrong = cc
+      by true false apart = append-nil (words_for place (flat_map emits xs))
+      by false c apart = none c
+        where
+          none : (d : Bool) → words_for place (if d then flat_map emits xs else []) ≡
+              words_for place (flat_map emits (if d then xs else []))
+          none true = refl
+          none false = refl
 
 -- members with one source stand as they stood where the list turns
 turned_one : (t u : ℕ) (xs : List Edge) → AllByRecursion (λ e. source e ≡ u) xs → turned t xs ≡ xs

@@ -258,46 +258,46 @@ module _ (src : Source) (sparse : Sparse) (most m : ℕ) (state : State) (runs :
     brought new e = if new (source e) then emits e else []
 
     -- the sends of some sources that come now are worked: the buckets are those of all that came
-    pub worked_filled : (sends : ℕ → Option (List ℤ)) (came new both : ℕ → Bool) (all : List (List Partial)) →
-        AllByRecursion (λ e. start_of ends m ≤ target e) push →
-        AllByRecursion (λ e. sends (source e) ≡ (if new (source e) then ideal_send src r (source e) else None)) push →
-        ((u : ℕ) → u < n → (came u && new u) ≡ false) → ((u : ℕ) → u < n → both u ≡ (came u || new u)) →
-        v - start_of ends m < length all →
-        AreFilled 0 (partial_ops src.split) (push_buckets src.split sparse sc v came) (keys_below src)
-        (slice_index_or all (v - start_of ends m) []) →
-        AreFilled 0 (partial_ops src.split) (push_buckets src.split sparse sc v both) (keys_below src)
-        (slice_index_or (worked s r sends push all) (v - start_of ends m) [])
-    worked_filled sends came new both all starts told apart union lt filled =
-        subst (AreFilled 0 (partial_ops src.split) (push_buckets src.split sparse sc v both) (keys_below src))
-        (sym partials_are)
-        (subst
-        (λ ws. AreFilled 0 (partial_ops src.split) ws (keys_below src)
-        (emitted_in_turn key (brought new) ins (before all)))
-        (λ i place k. buckets_grow n turn v edges turn_low emits came new both apart union place k i)
-        (fills_in_turn (partial_ops src.split) (keys_below src) key (brought new) ins low_keys_all
-        (push_buckets src.split sparse sc v came) (before all) filled))
-      where
-        brings_is : (e : Edge) → target e ≡ v →
-            sends (source e) ≡ (if new (source e) then ideal_send src r (source e) else None) →
-            pushed_by s r (sends (source e)) e ≡ brought new e
-        brings_is e at_v is = ap (λ o. pushed_by s r o e) is ∙ by (new (source e))
-          where
-            by : (b : Bool) → pushed_by s r (if b then ideal_send src r (source e) else None) e ≡
-                (if b then emits e else [])
-            by true = pushed_is e at_v
-            by false = refl
+    module _ (sends : ℕ → Option (List ℤ)) (came new both : ℕ → Bool) (all : List (List Partial)) where
+      pub worked_filled : AllByRecursion (λ e. start_of ends m ≤ target e) push →
+          AllByRecursion (λ e. sends (source e) ≡ (if new (source e) then ideal_send src r (source e) else
+          None)) push → ((u : ℕ) → u < n → (came u && new u) ≡ false) →
+          ((u : ℕ) → u < n → both u ≡ (came u || new u)) → v - start_of ends m < length all →
+          AreFilled 0 (partial_ops src.split) (push_buckets src.split sparse sc v came) (keys_below src)
+          (slice_index_or all (v - start_of ends m) []) →
+          AreFilled 0 (partial_ops src.split) (push_buckets src.split sparse sc v both) (keys_below src)
+          (slice_index_or (worked s r sends push all) (v - start_of ends m) [])
+      worked_filled starts told apart union lt filled =
+          subst (AreFilled 0 (partial_ops src.split) (push_buckets src.split sparse sc v both) (keys_below src))
+          (sym partials_are)
+          (subst
+          (λ ws. AreFilled 0 (partial_ops src.split) ws (keys_below src)
+          (emitted_in_turn key (brought new) ins (before all)))
+          (λ i place k. buckets_grow n turn v edges turn_low emits came new both apart union place k i)
+          (fills_in_turn (partial_ops src.split) (keys_below src) key (brought new) ins low_keys_all
+          (push_buckets src.split sparse sc v came) (before all) filled))
+        where
+          brings_is : (e : Edge) → target e ≡ v →
+              sends (source e) ≡ (if new (source e) then ideal_send src r (source e) else None) →
+              pushed_by s r (sends (source e)) e ≡ brought new e
+          brings_is e at_v is = ap (λ o. pushed_by s r o e) is ∙ by (new (source e))
+            where
+              by : (b : Bool) → pushed_by s r (if b then ideal_send src r (source e) else None) e ≡
+                  (if b then emits e else [])
+              by true = pushed_is e at_v
+              by false = refl
 
-        partials_are : slice_index_or (worked s r sends push all) (v - start_of ends m) [] ≡
-            emitted_in_turn key (brought new) ins (before all)
-        partials_are =
-            walk s r v sends low push starts all lt
-            ∙ same_in_turn (machine_key s) (λ e. pushed_by s r (sends (source e)) e) (brought new)
-            (bucket target v push) (before all)
-            (all_pairs (λ e. target e ≡ v)
-            (λ e. sends (source e) ≡ (if new (source e) then ideal_send src r (source e) else None))
-            (λ e. pushed_by s r (sends (source e)) e ≡ brought new e) (bucket target v push) brings_is
-            (bucket_keys target v push)
-            (all_filter (λ e. sends (source e) ≡ (if new (source e) then ideal_send src r (source e) else None))
-            (λ e. target e == v) push told))
-            ∙ ap (λ k. emitted_in_turn k (brought new) (bucket target v push) (before all)) keys_are
-            ∙ ap (λ es. emitted_in_turn key (brought new) es (before all)) ins_are
+          partials_are : slice_index_or (worked s r sends push all) (v - start_of ends m) [] ≡
+              emitted_in_turn key (brought new) ins (before all)
+          partials_are =
+              walk s r v sends low push starts all lt
+              ∙ same_in_turn (machine_key s) (λ e. pushed_by s r (sends (source e)) e) (brought new)
+              (bucket target v push) (before all)
+              (all_pairs (λ e. target e ≡ v)
+              (λ e. sends (source e) ≡ (if new (source e) then ideal_send src r (source e) else None))
+              (λ e. pushed_by s r (sends (source e)) e ≡ brought new e) (bucket target v push) brings_is
+              (bucket_keys target v push)
+              (all_filter (λ e. sends (source e) ≡ (if new (source e) then ideal_send src r (source e) else None))
+              (λ e. target e == v) push told))
+              ∙ ap (λ k. emitted_in_turn k (brought new) (bucket target v push) (before all)) keys_are
+              ∙ ap (λ es. emitted_in_turn key (brought new) es (before all)) ins_are

@@ -23,15 +23,17 @@ pub record IsBehindScan (p round step h : ℕ) (x : Spot) : Type 0 where
       (is_past (record { spot = Scan round step h; round = round }) k g || (k == step && g == h))
 
 -- the next scan comes right behind
-next_place : (r a b k step g h : ℕ) → g ≤ 1 → h ≤ 1 → a ≡ 256 * r + (1 + 2 * step + h) → b ≡ a + 1 →
-    nat_lt (256 * r + (1 + 2 * k + g)) b ≡ (nat_lt (256 * r + (1 + 2 * k + g)) a || (k == step && g == h))
-next_place r a b k step g h gl hl is on = grind (arith, nat_tests)
+module _ (r a b k step g h : ℕ) where
+  next_place : g ≤ 1 → h ≤ 1 → a ≡ 256 * r + (1 + 2 * step + h) → b ≡ a + 1 →
+      nat_lt (256 * r + (1 + 2 * k + g)) b ≡ (nat_lt (256 * r + (1 + 2 * k + g)) a || (k == step && g == h))
+  next_place gl hl is on = grind (arith, nat_tests)
 
 -- and the close behind all scans
-last_place : (r b k step p g : ℕ) → g ≤ 1 → k < p → p ≤ 64 → step + 1 ≡ p → b ≡ 256 * r + 254 →
-    nat_lt (256 * r + (1 + 2 * k + g)) b ≡
-    (nat_lt (256 * r + (1 + 2 * k + g)) (256 * r + (1 + 2 * step + 1)) || (k == step && g == 1))
-last_place r b k step p g gl low few last is = grind (arith, nat_tests)
+module _ (r b k step p g : ℕ) where
+  last_place : g ≤ 1 → k < p → p ≤ 64 → step + 1 ≡ p → b ≡ 256 * r + 254 →
+      nat_lt (256 * r + (1 + 2 * k + g)) b ≡ (nat_lt (256 * r + (1 + 2 * k + g)) (256 * r + (1 + 2 * step + 1))
+      || (k == step && g == 1))
+  last_place gl low few last is = grind (arith, nat_tests)
 
 -- a step that isn't before the last is the last one
 pub last_step : (step p : ℕ) → step < p → nat_lt step (p - 1) ≡ false → step + 1 ≡ p

@@ -119,40 +119,44 @@ abbrev left_with : Combine → Option ℤ → ℤ
 left_with op None = neutral op
 left_with op (Some x) = x
 
-one_operand : (op : Combine) (own before x : ℤ) (t o : Option ℤ) → before ≡ with_operand op own t →
-    combined_of op before (neutral op) ≡ before → x ≡ left_with op o →
-    combined_of op before x ≡ with_operand op own (both_of op t o)
-one_operand op own before x t None is stays leaves =
-    ap (combined_of op before) leaves ∙ stays ∙ is ∙ ap (with_operand op own) (sym (nothing_more op t))
-one_operand op own before x None (Some y) is stays leaves = ap (λ b. combined_of op b x) is
-    ∙ ap (combined_of op own) leaves
-one_operand op own before x (Some z) (Some y) is stays leaves =
-    ap (λ b. combined_of op b x) is ∙ ap (combined_of op (combined_of op own z)) leaves ∙ combined_of-assoc op own z y
+module _ (op : Combine) (own before x : ℤ) where
+  one_operand : (t o : Option ℤ) → before ≡ with_operand op own t →
+      combined_of op before (neutral op) ≡ before → x ≡ left_with op o →
+      combined_of op before x ≡ with_operand op own (both_of op t o)
+  one_operand t None is stays leaves =
+      ap (combined_of op before) leaves ∙ stays ∙ is ∙ ap (with_operand op own) (sym (nothing_more op t))
+  one_operand None (Some y) is stays leaves = ap (λ b. combined_of op b x) is
+      ∙ ap (combined_of op own) leaves
+  one_operand (Some z) (Some y) is stays leaves =
+      ap (λ b. combined_of op b x) is ∙ ap (combined_of op (combined_of op own z)) leaves ∙ combined_of-assoc op
+      own z y
 
 -- with the words of one segment more
-closed_more : (cs : List Class) (own before xs : List ℤ) (ts : List (Option ℤ)) (came : ℕ → Option ℤ) (place : ℕ) →
-    AreClosed cs own before ts → AreLeft cs own before → AreLeft cs own (combined_words cs before xs) →
-    ((j : ℕ) (op : Combine) → slice_get cs j ≡ Some (Reduced op) → word_at xs j ≡ left_with op (came (place + j))) →
-    AreClosed cs own (combined_words cs before xs) (merged cs ts (each_operand came place cs))
-closed_more [] [] [] [] ts came place h l m leaves = tt
-closed_more [] [] [] (x ∷ xs) ts came place h l m leaves = m
-closed_more [] [] (b ∷ before) xs ts came place h l m leaves = absurd h
-closed_more [] (o ∷ own) before xs ts came place h l m leaves = absurd h
-closed_more (c ∷ cs) [] before xs ts came place h l m leaves = absurd h
-closed_more (c ∷ cs) (o ∷ own) [] xs ts came place h l m leaves = absurd h
-closed_more (c ∷ cs) (o ∷ own) (b ∷ before) [] ts came place h l m leaves = absurd m
-closed_more (Constant ∷ cs) (o ∷ own) (b ∷ before) (x ∷ xs) ts came place h l m leaves = (
-  m.0,
-  closed_more cs own before xs ts came (place + 1) h.1 l.1 m.1
+closed_more :
+    (came : ℕ → Option ℤ) (cs : List Class) (own before xs : List ℤ) (ts : List (Option ℤ)) (place : ℕ) →
+    AreClosed cs own before ts × AreLeft cs own before × AreLeft cs own (combined_words cs before xs) →
+    ((j : ℕ) (op : Combine) → slice_get cs j ≡ Some (Reduced op) → word_at xs j ≡ left_with op (came (place +
+    j))) → AreClosed cs own (combined_words cs before xs) (merged cs ts (each_operand came place cs))
+closed_more came [] [] [] [] ts place are leaves = tt
+closed_more came [] [] [] (x ∷ xs) ts place are leaves = are.2
+closed_more came [] [] (b ∷ before) xs ts place are leaves = absurd are.0
+closed_more came [] (o ∷ own) before xs ts place are leaves = absurd are.0
+closed_more came (c ∷ cs) [] before xs ts place are leaves = absurd are.0
+closed_more came (c ∷ cs) (o ∷ own) [] xs ts place are leaves = absurd are.0
+closed_more came (c ∷ cs) (o ∷ own) (b ∷ before) [] ts place are leaves = absurd are.2
+closed_more came (Constant ∷ cs) (o ∷ own) (b ∷ before) (x ∷ xs) ts place are leaves = (
+  are.2.0,
+  closed_more came cs own before xs ts (place + 1) (are.0.1, are.1.1, are.2.1)
       (λ j op is. leaves (suc j) op is ∙ ap (λ k. left_with op (came k)) (omega arith)),
 )
-closed_more (Carried ∷ cs) (o ∷ own) (b ∷ before) (x ∷ xs) ts came place h l m leaves =
-    closed_more cs own before xs ts came (place + 1) h l.1 m.1
+closed_more came (Carried ∷ cs) (o ∷ own) (b ∷ before) (x ∷ xs) ts place are leaves =
+    closed_more came cs own before xs ts (place + 1) (are.0, are.1.1, are.2.1)
     (λ j op is. leaves (suc j) op is ∙ ap (λ k. left_with op (came k)) (omega arith))
-closed_more (Reduced op ∷ cs) (o ∷ own) (b ∷ before) (x ∷ xs) [] came place h l m leaves = absurd h
-closed_more (Reduced op ∷ cs) (o ∷ own) (b ∷ before) (x ∷ xs) (t ∷ ts) came place h l m leaves = (
-  one_operand op o b x t (came place) h.0 l.0 (leaves 0 op refl ∙ ap (λ k. left_with op (came k)) (omega arith)),
-  closed_more cs own before xs ts came (place + 1) h.1 l.1 m.1
+closed_more came (Reduced op ∷ cs) (o ∷ own) (b ∷ before) (x ∷ xs) [] place are leaves = absurd are.0
+closed_more came (Reduced op ∷ cs) (o ∷ own) (b ∷ before) (x ∷ xs) (t ∷ ts) place are leaves = (
+  one_operand op o b x t (came place) are.0.0 are.1.0
+      (leaves 0 op refl ∙ ap (λ k. left_with op (came k)) (omega arith)),
+  closed_more came cs own before xs ts (place + 1) (are.0.1, are.1.1, are.2.1)
       (λ j other is. leaves (suc j) other is ∙ ap (λ k. left_with other (came k)) (omega arith)),
 )
 
@@ -211,8 +215,8 @@ module _ (s : Scene) (d : Dense) (env : Env) (p : Program) (h : IsSplit p d env)
   after_part a e es ts received c same =
       let part : Ran = segment s d env received (e ∷ es) in
       subst (λ l. AreClosed cs own l (merged cs ts (operands_in part))) (sym same.locals)
-      (closed_more cs own (w a).env.locals.items part.env.locals.items ts (λ place. operand_at place part.env) 0
-      c (left d env p h s a) (subst (AreLeft cs own) same.locals (left d env p h s (a ++ (e ∷ es))))
+      (closed_more (λ place. operand_at place part.env) cs own (w a).env.locals.items part.env.locals.items ts 0
+      (c, left d env p h s a, subst (AreLeft cs own) same.locals (left d env p h s (a ++ (e ∷ es))))
       (λ j op is. left_by op (bit_at part.env.touched j) (word_at part.env.locals.items j)
       (λ clear. neutrals d env s received (e ∷ es) j op is clear)
       ∙ (let here : j ≡ 0 + j = omega arith in ap (λ k. left_with op (operand_at k part.env)) here)))

@@ -25,12 +25,12 @@ filled_still op bucket bound key words q none f = record {
     still k true = sym (append-nil (bucket k))
     still k false = refl
 
-filled_word : (op : Combine) (bucket : ℕ → List ℤ) (bound key : ℕ) (words : List ℤ) (word : ℤ) (q : Partial) →
-    key < bound →
-    words ≡ word ∷ [] → Filled op bucket bound q → Filled op (with_more bucket key words) bound (with_word key word q)
-filled_word op bucket bound key words word q lt is f =
-    subst (λ ws. Filled op (with_more bucket key ws) bound (with_word key word q)) (sym is)
-    (fills_more op bucket bound key word q lt f)
+module _ (op : Combine) (bucket : ℕ → List ℤ) (bound key : ℕ) (words : List ℤ) (word : ℤ) (q : Partial) where
+  filled_word : key < bound → words ≡ word ∷ [] → Filled op bucket bound q →
+      Filled op (with_more bucket key words) bound (with_word key word q)
+  filled_word lt is f =
+      subst (λ ws. Filled op (with_more bucket key ws) bound (with_word key word q)) (sym is)
+      (fills_more op bucket bound key word q lt f)
 
 -- words for some places, the first of which has this number
 abbrev TellsFrom : ℕ → (ℕ → List ℤ) → List (Option ℤ) → Type 0
@@ -47,31 +47,31 @@ tells_here : (at : ℕ) (words : ℕ → List ℤ) (xs : List (Option ℤ)) → 
     words at ≡ option_to_list (slice_index_or xs 0 None)
 tells_here at words xs tells = let here : at ≡ at + 0 = omega arith in ap words here ∙ tells 0
 
-fills_values : (at : ℕ) (ops : List Combine) (buckets : ℕ → ℕ → List ℤ) (words : ℕ → List ℤ) (bound key : ℕ)
-    (xs : List (Option ℤ)) (qs : List Partial) → key < bound → TellsFrom at words xs →
-    AreFilled at ops buckets bound qs →
-    AreFilled at ops (λ place. with_more (buckets place) key (words place)) bound (with_values key xs qs)
-fills_values at [] buckets words bound key [] [] lt tells are = tt
-fills_values at [] buckets words bound key (x ∷ xs) [] lt tells are = tt
-fills_values at [] buckets words bound key xs (q ∷ qs) lt tells are = absurd are
-fills_values at (op ∷ ops) buckets words bound key xs [] lt tells are = absurd are
-fills_values at (op ∷ ops) buckets words bound key [] (q ∷ qs) lt tells are = (
-  filled_still op (buckets at) bound key (words at) q (tells_here at words [] tells) are.0,
-  fills_values (at + 1) ops buckets words bound key [] qs lt (tells_none at words tells) are.1,
-)
-fills_values at (op ∷ ops) buckets words bound key (None ∷ xs) (q ∷ qs) lt tells are = (
-  filled_still op (buckets at) bound key (words at) q (tells_here at words (None ∷ xs) tells) are.0,
-  fills_values (at + 1) ops buckets words bound key xs qs lt (tells_next at words None xs tells) are.1,
-)
-fills_values at (op ∷ ops) buckets words bound key (Some x ∷ xs) (q ∷ qs) lt tells are = (
-  filled_word op (buckets at) bound key (words at) x q lt (tells_here at words (Some x ∷ xs) tells) are.0,
-  fills_values (at + 1) ops buckets words bound key xs qs lt (tells_next at words (Some x) xs tells) are.1,
-)
+module _ (buckets : ℕ → ℕ → List ℤ) (words : ℕ → List ℤ) (bound key : ℕ) where
+  fills_values : (at : ℕ) (ops : List Combine) (xs : List (Option ℤ)) (qs : List Partial) → key < bound →
+      TellsFrom at words xs → AreFilled at ops buckets bound qs →
+      AreFilled at ops (λ place. with_more (buckets place) key (words place)) bound (with_values key xs qs)
+  fills_values at [] [] [] lt tells are = tt
+  fills_values at [] (x ∷ xs) [] lt tells are = tt
+  fills_values at [] xs (q ∷ qs) lt tells are = absurd are
+  fills_values at (op ∷ ops) xs [] lt tells are = absurd are
+  fills_values at (op ∷ ops) [] (q ∷ qs) lt tells are = (
+    filled_still op (buckets at) bound key (words at) q (tells_here at words [] tells) are.0,
+    fills_values (at + 1) ops [] qs lt (tells_none at words tells) are.1,
+  )
+  fills_values at (op ∷ ops) (None ∷ xs) (q ∷ qs) lt tells are = (
+    filled_still op (buckets at) bound key (words at) q (tells_here at words (None ∷ xs) tells) are.0,
+    fills_values (at + 1) ops xs qs lt (tells_next at words None xs tells) are.1,
+  )
+  fills_values at (op ∷ ops) (Some x ∷ xs) (q ∷ qs) lt tells are = (
+    filled_word op (buckets at) bound key (words at) x q lt (tells_here at words (Some x ∷ xs) tells) are.0,
+    fills_values (at + 1) ops xs qs lt (tells_next at words (Some x) xs tells) are.1,
+  )
 
 pub fills_sent : FillsSent
 fills_sent ops buckets bound key sent qs lt are =
-    fills_values 0 ops buckets
-    (λ place. option_to_list (slice_index_or (sent.values ++ sent.operands) place None)) bound key
+    fills_values buckets (λ place. option_to_list (slice_index_or (sent.values ++ sent.operands) place None)) bound
+    key 0 ops
     (sent.values ++ sent.operands) qs lt
     (λ j. let here : 0 + j ≡ j = omega arith in ap
     (λ k. option_to_list (slice_index_or (sent.values ++ sent.operands) k None)) here)

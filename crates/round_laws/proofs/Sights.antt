@@ -32,25 +32,26 @@ use Rattle.round_laws.proofs.Lists.{any_kept, any_range}
 use Rattle.round_laws.proofs.Vertices.{own_law, refreshed_law, worked_law}
 
 -- ---- lists side by side
-by_place : {X : Type 0} (b : Bool) (u v : ℕ) (x rest : X) (f : ℕ → X) (more : Bool) → (u == v) ≡ b → x ≡ f u →
-    (more ≡ true → rest ≡ f v) → (b || more) ≡ true → (if b then x else rest) ≡ f v
-by_place true u v x rest f more is here later some = here ∙ ap f (eqb-true u v is)
-by_place false u v x rest f more is here later some = later some
+module _ {X : Type 0} (u v : ℕ) (x rest : X) (f : ℕ → X) (more : Bool) where
+  by_place : (b : Bool) → (u == v) ≡ b → x ≡ f u → (more ≡ true → rest ≡ f v) → (b || more) ≡ true →
+      (if b then x else rest) ≡ f v
+  by_place true is here later some = here ∙ ap f (eqb-true u v is)
+  by_place false is here later some = later some
 
 -- the degrees of a vertex among those of some vertices
 pub degree_known : (ins outs : List Edge) (us : List ℕ) (v : ℕ) → list_any (λ u. u == v) us ≡ true →
     degree_among (map (degree_in ins outs) us) v ≡ degree_in ins outs v
 degree_known ins outs [] v some = cc
 degree_known ins outs (u ∷ us) v some =
-    by_place (u == v) u v (degree_in ins outs u) (degree_among (map (degree_in ins outs) us) v) (degree_in ins outs)
-    (list_any (λ u. u == v) us) refl refl (degree_known ins outs us v) some
+    by_place u v (degree_in ins outs u) (degree_among (map (degree_in ins outs) us) v) (degree_in ins outs)
+    (list_any (λ u. u == v) us) (u == v) refl refl (degree_known ins outs us v) some
 
 -- what stands beside a vertex of a list
 pub beside_is : {X : Type 0} (d : X) (f : ℕ → X) (us : List ℕ) (v : ℕ) → list_any (λ u. u == v) us ≡ true →
     beside d v us (map f us) ≡ f v
 beside_is d f [] v some = cc
 beside_is d f (u ∷ us) v some =
-    by_place (u == v) u v (f u) (beside d v us (map f us)) f (list_any (λ u. u == v) us) refl refl
+    by_place u v (f u) (beside d v us (map f us)) f (list_any (λ u. u == v) us) (u == v) refl refl
     (beside_is d f us v) some
 
 -- the row of an own vertex among those of the chunk

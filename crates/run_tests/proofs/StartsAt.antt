@@ -42,9 +42,9 @@ parts_ready vertices parts one sized split splits start ready = λ i d lt.
     (ready (plain_of part) (ap vertices_of ends ∙ sized))
 
 -- the start that is read of an image is ready for the graph
-pub read_ready : (split : Split) (vertices : ℕ) (key bytes : List ℕ) (start : Start) →
-    Reads split vertices key bytes (Ok start) → StartIsReady → (whole : PlainPart) →
-    vertices_of whole.ends ≡ vertices → IsStart whole split (plain_start start)
-read_ready split vertices key bytes start reads ready whole same =
-    subst (λ (n : ℕ). Reads split n key bytes (Ok start) → IsStart whole split (plain_start start)) same
-    (λ here. subst (IsStart whole split) (sym here.2) (ready whole split key bytes here.1)) reads
+module _ (split : Split) (vertices : ℕ) (key bytes : List ℕ) (start : Start) where
+  pub read_ready : Reads split vertices key bytes (Ok start) → StartIsReady → (whole : PlainPart) →
+      vertices_of whole.ends ≡ vertices → IsStart whole split (plain_start start)
+  read_ready reads ready whole same =
+      subst (λ (n : ℕ). Reads split n key bytes (Ok start) → IsStart whole split (plain_start start)) same
+      (λ here. subst (IsStart whole split) (sym here.2) (ready whole split key bytes here.1)) reads

@@ -108,18 +108,18 @@ pub judge_goes : (ring : Ring) (a : Ruling) (s : Standing) (r : ℕ) → s.spot 
 judge_goes ring a s r is = ap (λ spot. standing_at (round_ruled s.round spot) (next_spot ring 0 spot a)) is
 
 -- the list of machine 0 ends behind round 0
-ends_late : (ring : Ring) (mode a : Ruling) (round : ℕ) (spot : Spot) → HasSpot ring 0 mode spot →
-    is_over spot ≡ false → round ≡ round_of round spot → is_over (next_spot ring 0 spot a) ≡ true →
-    1 ≤ leads ring a round spot
-ends_late ring mode a round Tell has going e over = absurd (false≢true over)
-ends_late ring mode a round (Judge r) has going e over = let on = judged_on r a in omega (arith, on)
-ends_late ring mode a round (Begin r) has going e over = let on = begun_round r a in omega (arith, on, has)
-ends_late ring mode a round (Scan r step h) has going e over =
-    let on = stays_by ring a round (Scan r step h) refl e in
-    let some = has.0 in
-    omega (arith, on, some, e)
-ends_late ring mode a round (Close r dense) has going e over = absurd (false≢true over)
-ends_late ring mode a round Over has going e over = absurd (false≢true (sym going))
+module _ (ring : Ring) (mode a : Ruling) (round : ℕ) where
+  ends_late : (spot : Spot) → HasSpot ring 0 mode spot → is_over spot ≡ false → round ≡ round_of round spot →
+      is_over (next_spot ring 0 spot a) ≡ true → 1 ≤ leads ring a round spot
+  ends_late Tell has going e over = absurd (false≢true over)
+  ends_late (Judge r) has going e over = let on = judged_on r a in omega (arith, on)
+  ends_late (Begin r) has going e over = let on = begun_round r a in omega (arith, on, has)
+  ends_late (Scan r step h) has going e over =
+      let on = stays_by ring a round (Scan r step h) refl e in
+      let some = has.0 in
+      omega (arith, on, some, e)
+  ends_late (Close r dense) has going e over = absurd (false≢true over)
+  ends_late Over has going e over = absurd (false≢true (sym going))
 
 taken_over : (which : NameKind) (a : Ruling) (s : Standing) → is_over s.spot ≡ false →
     is_over (standing_taken which a s).spot ≡ true → which ≡ kind.Verdict

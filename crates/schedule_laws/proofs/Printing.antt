@@ -175,21 +175,22 @@ module _ (lines : Lines) (src : Source) (parts : List PlainPart) (one : IsOneRun
       let many = f.alike.count in
       there_at w.sites 0 (omega (arith, some, many))
 
-  pub all_print : (w : World) (k : Skeleton) → Follows src parts w k → (s : State) → slice_get w.sites 0 ≡ Some s →
-      (es : List Event) → all_possible core_work w es ≡ true → finished (after core_work w es) ≡ true →
-      lines.log ≡ false →
-      lines_of core_work lines w es ++ table_of core_work (after core_work w es) ≡
-      rest lines src (to_come src s.at.round)
-  all_print w k f s at [] can ends quiet = table_prints w k f ends s at
-  all_print w k f s at (e ∷ es) can ends quiet =
-      let c = and_parts (possible w e) (all_possible core_work (step core_work w e) es) can in
-      let next = next_follows src parts one run same_ends w k f e c.0 in
-      let t = zero_site (step core_work w e) (next_by src k e) next in
-      ap (λ (b : Bool). ((if b then event_line e (taken_in w e) else []) ++ round_lines core_work lines w e
-      ++ lines_of core_work lines (step core_work w e) es)
-      ++ table_of core_work (after core_work (step core_work w e) es)) quiet
-      ∙ append_assoc (round_lines core_work lines w e) (lines_of core_work lines (step core_work w e) es)
-      (table_of core_work (after core_work (step core_work w e) es))
-      ∙ ap (λ text. round_lines core_work lines w e ++ text)
-      (all_print (step core_work w e) (next_by src k e) next t.0 t.1 es c.1 ends quiet)
-      ∙ event_prints lines src parts one run same_ends w k f e s t.0 at t.1 c.0
+  module _ (quiet : lines.log ≡ false) where
+    pub all_print : (w : World) (k : Skeleton) → Follows src parts w k → (s : State) →
+        slice_get w.sites 0 ≡ Some s → (es : List Event) → all_possible core_work w es ≡ true →
+        finished (after core_work w es) ≡ true →
+        lines_of core_work lines w es ++ table_of core_work (after core_work w es) ≡ rest lines src (to_come src
+        s.at.round)
+    all_print w k f s at [] can ends = table_prints w k f ends s at
+    all_print w k f s at (e ∷ es) can ends =
+        let c = and_parts (possible w e) (all_possible core_work (step core_work w e) es) can in
+        let next = next_follows src parts one run same_ends w k f e c.0 in
+        let t = zero_site (step core_work w e) (next_by src k e) next in
+        ap (λ (b : Bool). ((if b then event_line e (taken_in w e) else []) ++ round_lines core_work lines w e
+        ++ lines_of core_work lines (step core_work w e) es)
+        ++ table_of core_work (after core_work (step core_work w e) es)) quiet
+        ∙ append_assoc (round_lines core_work lines w e) (lines_of core_work lines (step core_work w e) es)
+        (table_of core_work (after core_work (step core_work w e) es))
+        ∙ ap (λ text. round_lines core_work lines w e ++ text)
+        (all_print (step core_work w e) (next_by src k e) next t.0 t.1 es c.1 ends)
+        ∙ event_prints lines src parts one run same_ends w k f e s t.0 at t.1 c.0

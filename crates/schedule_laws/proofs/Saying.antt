@@ -158,7 +158,7 @@ module _ (lines : Lines) (src : Source) (parts : List PlainPart) (one : IsOneRun
       pub table_says : table_of core_work (after core_work w es) ≡ table_text src.job.program (run_of src).last.rows
       table_says =
           ap (λ text. text ++ table_of core_work (after core_work w es)) (sym (quiet_lines w es))
-          ∙ all_print no_lines src parts one run same_ends w k f s at es can ends refl
+          ∙ all_print no_lines src parts one run same_ends refl w k f s at es can ends
           ∙ quiet_rest src (to_come src s.at.round)
           ∙ ap (λ round. table_text src.job.program (run_at src round).last.rows) first
           ∙ ap (λ (r : Run). table_text src.job.program r.last.rows) (first_run src)
@@ -171,6 +171,6 @@ module _ (lines : Lines) (src : Source) (parts : List PlainPart) (one : IsOneRun
       pub text_runs : lines.log ≡ false →
           text_of core_work lines w es ≡ text_of_run lines src.job.program (run_of src)
       text_runs none =
-          all_print lines src parts one run same_ends w k f s at es can ends none
+          all_print lines src parts one run same_ends none w k f s at es can ends
           ∙ ap (rest lines src) first
           ∙ ap (text_of_run lines src.job.program) (first_run src)

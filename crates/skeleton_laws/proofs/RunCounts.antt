@@ -111,19 +111,18 @@ module _ (state : SettledState) (counting : Counting state.ring state.k) where
       (take_first ruling x can es (skeleton_after ring es (took taking))
       (λ c. rest (took taking) (took_settles taking) c (subst (λ q. all_possible ring blocks es q ≡ true) is all)))
 
-runs_within : (ring : Ring) (few : ring.machines ≤ 64) (some : 1 ≤ ring.machines) (blocks : Blocks)
-    (es : List (Event × Ruling)) (k : Skeleton) →
-    Settled ring few blocks k → Counting ring k → all_possible ring blocks es k ≡ true →
-    Ran ring es k (skeleton_after ring es k)
-runs_within ring few some blocks [] k settled counting can =
-    record { counting = counting; goes = omega arith; takes = omega arith }
-runs_within ring few some blocks (e ∷ es) k settled counting can =
-    let parts =
-    and_parts (is_possible ring blocks e.1 e.0 k)
-    (all_possible ring blocks es (step_of ring e.1 e.0 k)) can in
-    let state : SettledState =
-    record { ring = ring; few = few; some = some; blocks = blocks; k = k; settled = settled } in
-    run_one state counting e.0 e.1 es parts.0 parts.1 (runs_within ring few some blocks es)
+module _ (ring : Ring) (few : ring.machines ≤ 64) (some : 1 ≤ ring.machines) (blocks : Blocks) where
+  runs_within : (es : List (Event × Ruling)) (k : Skeleton) → Settled ring few blocks k → Counting ring k →
+      all_possible ring blocks es k ≡ true → Ran ring es k (skeleton_after ring es k)
+  runs_within [] k settled counting can =
+      record { counting = counting; goes = omega arith; takes = omega arith }
+  runs_within (e ∷ es) k settled counting can =
+      let parts =
+      and_parts (is_possible ring blocks e.1 e.0 k)
+      (all_possible ring blocks es (step_of ring e.1 e.0 k)) can in
+      let state : SettledState =
+      record { ring = ring; few = few; some = some; blocks = blocks; k = k; settled = settled } in
+      run_one state counting e.0 e.1 es parts.0 parts.1 (runs_within es)
 
 -- what a run from a state has done
 runs : (state : SettledState) → Counting state.ring state.k → (es : List (Event × Ruling)) →

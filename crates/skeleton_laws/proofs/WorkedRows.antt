@@ -11,17 +11,17 @@ abbrev behind : List (ℕ × Ruling) → List (ℕ × Ruling)
 behind [] = []
 behind (made ∷ more) = more
 
-run_has : (p goes takes : ℕ) (last : ℕ × Ruling) (rounds : List (ℕ × Ruling)) → 1 ≤ p → p ≤ 64 →
-    p + 1 + over_rounds (goes_in (carrying_ring p)) rounds ≡ goes →
-    2 * (p - 1) + over_rounds (takes_in (carrying_ring p)) rounds ≡ takes →
-    RunsHave (carrying_ring p) (last ∷ rounds) goes takes
-run_has p goes takes last rounds some few goes_are takes_are blocks es complete made =
-    let ring = carrying_ring p in
-    let counted = complete_runs_are_counted ring blocks es some few complete in
-    let same : counted.rounds ≡ rounds = ap behind (sym counted.rulings ∙ made) in (
-      counted.goes ∙ ap (λ q. p + 1 + over_rounds (goes_in ring) q) same ∙ goes_are,
-      counted.takes ∙ ap (λ q. 2 * (p - 1) + over_rounds (takes_in ring) q) same ∙ takes_are,
-    )
+module _ (p goes takes : ℕ) (last : ℕ × Ruling) (rounds : List (ℕ × Ruling)) where
+  run_has : 1 ≤ p → p ≤ 64 → p + 1 + over_rounds (goes_in (carrying_ring p)) rounds ≡ goes →
+      2 * (p - 1) + over_rounds (takes_in (carrying_ring p)) rounds ≡ takes →
+      RunsHave (carrying_ring p) (last ∷ rounds) goes takes
+  run_has some few goes_are takes_are blocks es complete made =
+      let ring = carrying_ring p in
+      let counted = complete_runs_are_counted ring blocks es some few complete in
+      let same : counted.rounds ≡ rounds = ap behind (sym counted.rulings ∙ made) in (
+        counted.goes ∙ ap (λ q. p + 1 + over_rounds (goes_in ring) q) same ∙ goes_are,
+        counted.takes ∙ ap (λ q. 2 * (p - 1) + over_rounds (takes_in ring) q) same ∙ takes_are,
+      )
 
 pub worked_runs : WorkedRuns
 worked_runs = record {

@@ -97,23 +97,22 @@ fills_each op bucket bound key (word ∷ words) q lt f =
     (λ k. more_cons (key == k) word (bucket k) words)
     (fills_each op (one_more bucket key word) bound key words next lt (fills_more op bucket bound key word q lt f))
 
-fills_spread : (at : ℕ) (ops : List Combine) (buckets : ℕ → ℕ → List ℤ) (bound key : ℕ) (es : List Emission)
-    (qs : List Partial) →
-    key < bound → AreFilled at ops buckets bound qs →
-    AreFilled at ops (λ slot. with_more (buckets slot) key (words_for slot es)) bound (spread key at qs es)
-fills_spread at [] buckets bound key es [] lt f = f
-fills_spread at [] buckets bound key es (q ∷ qs) lt f = absurd f
-fills_spread at (op ∷ ops) buckets bound key es [] lt f = absurd f
-fills_spread at (op ∷ ops) buckets bound key es (q ∷ qs) lt f = (
-  fills_each op (buckets at) bound key (words_for at es) q lt f.0,
-  fills_spread
-      (at + 1) ops buckets bound key es qs lt f.1,
-)
+module _ (buckets : ℕ → ℕ → List ℤ) (bound key : ℕ) (es : List Emission) where
+  fills_spread : (at : ℕ) (ops : List Combine) (qs : List Partial) → key < bound →
+      AreFilled at ops buckets bound qs →
+      AreFilled at ops (λ slot. with_more (buckets slot) key (words_for slot es)) bound (spread key at qs es)
+  fills_spread at [] [] lt f = f
+  fills_spread at [] (q ∷ qs) lt f = absurd f
+  fills_spread at (op ∷ ops) [] lt f = absurd f
+  fills_spread at (op ∷ ops) (q ∷ qs) lt f = (
+    fills_each op (buckets at) bound key (words_for at es) q lt f.0,
+    fills_spread (at + 1) ops qs lt f.1,
+  )
 
 pub fills_emissions : FillsEmissions
 fills_emissions ops buckets bound key es qs lt f =
     let more : ℕ → ℕ → List ℤ = λ slot. with_more (buckets slot) key (words_for slot es) in
-    subst (AreFilled 0 ops more bound) (sym (spread_is key qs es)) (fills_spread 0 ops buckets bound key es qs lt f)
+    subst (AreFilled 0 ops more bound) (sym (spread_is key qs es)) (fills_spread buckets bound key es 0 ops qs lt f)
 
 -- ---- the value
 range_from : (a n d : ℕ) → a + n ≡ d → range_with_len a (n + 1) ≡ range_with_len a n ++ d ∷ []

@@ -48,14 +48,13 @@ others_few most p m i f few = at_few most (λ k. if k == m then [] else f k) (λ
     (range_with_len 0 p) i
 
 -- the same of a list that is equal, and of vertices with these numbers
-pub short_lists : {X : Type 0} (number : X → ℕ) (most p m i : ℕ) (f : ℕ → List ℕ) (lists : List (List ℕ))
-    (list : List X) →
-    lists ≡ for_others p m f → map number list ≡ get_or lists i [] → ((k : ℕ) → length (f k) ≤ most) →
-    length list ≤ most
-short_lists number most p m i f lists list same here few =
-    let P : List (List ℕ) → Type 0 = λ ls. length (get_or ls i []) ≤ most in
-    let h : length (get_or lists i []) ≤ most = subst P (sym same) (others_few most p m i f few) in
-    omega (arith, ap length here, length-map list number)
+module _ {X : Type 0} (number : X → ℕ) (most p m i : ℕ) (f : ℕ → List ℕ) (lists : List (List ℕ)) (list : List X) where
+  pub short_lists : lists ≡ for_others p m f → map number list ≡ get_or lists i [] →
+      ((k : ℕ) → length (f k) ≤ most) → length list ≤ most
+  short_lists same here few =
+      let P : List (List ℕ) → Type 0 = λ ls. length (get_or ls i []) ≤ most in
+      let h : length (get_or lists i []) ≤ most = subst P (sym same) (others_few most p m i f few) in
+      omega (arith, ap length here, length-map list number)
 
 -- the lists of other machines have what was put there
 pub other_list : (p m k : ℕ) (f : ℕ → List ℕ) → k < p → (k == m) ≡ false → slice_index_or (for_others p m f) k [] ≡ f k

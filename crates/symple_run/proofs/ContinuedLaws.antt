@@ -115,21 +115,23 @@ module _ (job : Job) where
       )
 
 -- the text of a run in two parts
-text_parts : (lines : Lines) (program : Program) (run rest : Run) (before behind : List Played) →
-    run.rounds ≡ before ++ behind → rest.rounds ≡ behind → rest.last ≡ run.last →
-    rounds_text lines before ++ text_of_run lines program rest ≡ text_of_run lines program run
-text_parts lines program run rest before behind are same last =
-    let table = table_text program run.last.rows in
-    ap (λ (ps : List Played). rounds_text lines before ++ (rounds_text lines ps ++ table_text program rest.last.rows))
-    same
-    ∙ ap (λ (s : Standing). rounds_text lines before ++ (rounds_text lines behind ++ table_text program s.rows)) last
-    ∙ sym (append_assoc (rounds_text lines before) (rounds_text lines behind) table)
-    ∙ ap (λ (text : List ℕ). text ++ table)
-    (sym (flat_map-append (told_lines lines) (map (told_played lines.reads) before)
-    (map (told_played lines.reads) behind)))
-    ∙ ap (λ tolds. flat_map (told_lines lines) tolds ++ table) (sym (map-append (told_played lines.reads) before
-    behind))
-    ∙ ap (λ (ps : List Played). rounds_text lines ps ++ table) (sym are)
+module _ (lines : Lines) (program : Program) (run rest : Run) (before behind : List Played) where
+  text_parts : run.rounds ≡ before ++ behind → rest.rounds ≡ behind → rest.last ≡ run.last →
+      rounds_text lines before ++ text_of_run lines program rest ≡ text_of_run lines program run
+  text_parts are same last =
+      let table = table_text program run.last.rows in
+      ap (λ (ps : List Played). rounds_text lines before ++ (rounds_text lines ps ++ table_text program
+      rest.last.rows))
+      same
+      ∙ ap (λ (s : Standing). rounds_text lines before ++ (rounds_text lines behind ++ table_text program s.rows))
+      last
+      ∙ sym (append_assoc (rounds_text lines before) (rounds_text lines behind) table)
+      ∙ ap (λ (text : List ℕ). text ++ table)
+      (sym (flat_map-append (told_lines lines) (map (told_played lines.reads) before)
+      (map (told_played lines.reads) behind)))
+      ∙ ap (λ tolds. flat_map (told_lines lines) tolds ++ table) (sym (map-append (told_played lines.reads) before
+      behind))
+      ∙ ap (λ (ps : List Played). rounds_text lines ps ++ table) (sym are)
 
 module _ (play : Play) where
   abbrev job : Job
@@ -170,20 +172,21 @@ module _ (play : Play) where
     told_left (Some bytes) start told of_run =
         subst (LeavesStart (run_played play)) (sym told.1) (of_run told.0)
 
-    found_left : (even odd : Option (List ℕ)) (first second : Option PlainStart) →
-        Tells split play.graph.vertices key even first → Tells split play.graph.vertices key odd second →
-        IsOfRun play split key even → IsOfRun play split key odd → (start : PlainStart) →
-        later_of first second ≡ Some start → LeavesStart (run_played play) start
-    found_left even odd None second a b c d start is =
-        told_left odd start (subst (Tells split play.graph.vertices key odd) is b) d
-    found_left even odd (Some first) None a b c d start is =
-        told_left even start (subst (Tells split play.graph.vertices key even) is a) c
-    found_left even odd (Some first) (Some second) a b c d start is = either (nat_lt second.round first.round) is
-      where
-        either : (t : Bool) → (if t then Some first else Some second) ≡ Some start →
-            LeavesStart (run_played play) start
-        either true here = told_left even start (subst (Tells split play.graph.vertices key even) here a) c
-        either false here = told_left odd start (subst (Tells split play.graph.vertices key odd) here b) d
+    module _ (even odd : Option (List ℕ)) where
+      found_left : (first second : Option PlainStart) → Tells split play.graph.vertices key even first →
+          Tells split play.graph.vertices key odd second → IsOfRun play split key even →
+          IsOfRun play split key odd → (start : PlainStart) → later_of first second ≡ Some start →
+          LeavesStart (run_played play) start
+      found_left None second a b c d start is =
+          told_left odd start (subst (Tells split play.graph.vertices key odd) is b) d
+      found_left (Some first) None a b c d start is =
+          told_left even start (subst (Tells split play.graph.vertices key even) is a) c
+      found_left (Some first) (Some second) a b c d start is = either (nat_lt second.round first.round) is
+        where
+          either : (t : Bool) → (if t then Some first else Some second) ≡ Some start →
+              LeavesStart (run_played play) start
+          either true here = told_left even start (subst (Tells split play.graph.vertices key even) here a) c
+          either false here = told_left odd start (subst (Tells split play.graph.vertices key odd) here b) d
 
   rest_by : (found : Option PlainStart) →
       ((start : PlainStart) → found ≡ Some start → LeavesStart (run_played play) start) → (text : List ℕ) →

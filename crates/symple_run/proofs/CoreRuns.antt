@@ -94,14 +94,15 @@ job_with program n ends edges draws = record {
   draws = draws;
 }
 
-pub same_job : (p q : Program) (n k : ℕ) (ends others : List ℕ) (edges list : List Edge) (draws told : ℕ) → p ≡ q →
-    n ≡ k → ends ≡ others → edges ≡ list → draws ≡ told → job_with p n ends edges draws ≡ job_with q k others list told
-same_job p q n k ends others edges list draws told a b c d e =
-    ap (λ (x : Program). job_with x n ends edges draws) a
-    ∙ ap (λ (x : ℕ). job_with q x ends edges draws) b
-    ∙ ap (λ (x : List ℕ). job_with q k x edges draws) c
-    ∙ ap (λ (x : List Edge). job_with q k others x draws) d
-    ∙ ap (λ (x : ℕ). job_with q k others list x) e
+module _ (p q : Program) (n k : ℕ) (ends others : List ℕ) (edges list : List Edge) (draws told : ℕ) where
+  pub same_job : p ≡ q → n ≡ k → ends ≡ others → edges ≡ list → draws ≡ told →
+      job_with p n ends edges draws ≡ job_with q k others list told
+  same_job a b c d e =
+      ap (λ (x : Program). job_with x n ends edges draws) a
+      ∙ ap (λ (x : ℕ). job_with q x ends edges draws) b
+      ∙ ap (λ (x : List ℕ). job_with q k x edges draws) c
+      ∙ ap (λ (x : List Edge). job_with q k others x draws) d
+      ∙ ap (λ (x : ℕ). job_with q k others list x) e
 
 text_said : (lines : Lines) (program other : Program) (job same : Job) → program ≡ other → job ≡ same →
     text_of_run lines program (source_run job) ≡ text_of_run lines other (source_run same)
@@ -251,18 +252,20 @@ module _ (work : Work) (lines : Lines) where
   at_last w None is fine = record { can = refl; lacks = is; text = append-nil (table_of work w) }
   at_last w (Some what) is fine = absurd (cc)
 
-  at_event : (w : World) (e : Event) (es : List Event) (line : ℕ) (rest : Course) →
-      (course_end rest ≡ None → ComesToEnd (step work w e) es rest) → (o : Option EventFault) → fault_of w e ≡ o →
-      course_end (unless_refused (option_map (why_of e) o) line (told_event (by_worlds work lines) w e rest)) ≡ None →
-      ComesToEnd w (e ∷ es)
-      (unless_refused (option_map (why_of e) o) line (told_event (by_worlds work lines) w e rest))
-  at_event w e es line rest more None is fine =
-      let behind = more fine in record {
-        can = and_from (possible w e) (all_possible work (step work w e) es) (not_refused w e is) behind.can;
-        lacks = behind.lacks;
-        text = text_behind work lines w e es (course_text rest) behind.text;
-      }
-  at_event w e es line rest more (Some why) is fine = absurd (cc)
+  module _ (w : World) (e : Event) (es : List Event) (line : ℕ) (rest : Course) where
+    at_event : (course_end rest ≡ None → ComesToEnd (step work w e) es rest) → (o : Option EventFault) →
+        fault_of w e ≡ o →
+        course_end (unless_refused (option_map (why_of e) o) line (told_event (by_worlds work lines) w e rest))
+        ≡ None →
+        ComesToEnd w (e ∷ es) (unless_refused (option_map (why_of e) o) line (told_event (by_worlds work lines)
+        w e rest))
+    at_event more None is fine =
+        let behind = more fine in record {
+          can = and_from (possible w e) (all_possible work (step work w e) es) (not_refused w e is) behind.can;
+          lacks = behind.lacks;
+          text = text_behind work lines w e es (course_text rest) behind.text;
+        }
+    at_event more (Some why) is fine = absurd (cc)
 
   followed_text : (form : Form) (held count : ℕ) (w : World) (es : List Event) →
       course_end (followed (by_worlds work lines) form held count w es) ≡ None →

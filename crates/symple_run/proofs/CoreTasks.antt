@@ -55,10 +55,10 @@ core_task sound laws restarts ready (Parted play program prefix) course is = is
 core_task sound laws restarts ready (Served part rows) course is = is
 
 -- whatever cores do, the source's run tells
-pub core_runs : (work : Work) (sound : State → Type 0) → work ≡ core_work → ChosenWell work sound →
-    IsRestartLawful work sound → StartIsReady → (task : Task) (course : Course) → IsPlayed work task course →
-    IsSourceRun task course
-core_runs work sound core laws restarts ready task course is =
-    core_task sound (subst (λ (v : Work). ChosenWell v sound) core laws)
-    (subst (λ (v : Work). IsRestartLawful v sound) core restarts) ready task course
-    (subst (λ (v : Work). IsPlayed v task course) core is)
+module _ (work : Work) (sound : State → Type 0) where
+  pub core_runs : work ≡ core_work → ChosenWell work sound → IsRestartLawful work sound → StartIsReady →
+      (task : Task) (course : Course) → IsPlayed work task course → IsSourceRun task course
+  core_runs core laws restarts ready task course is =
+      core_task sound (subst (λ (v : Work). ChosenWell v sound) core laws)
+      (subst (λ (v : Work). IsRestartLawful v sound) core restarts) ready task course
+      (subst (λ (v : Work). IsPlayed v task course) core is)

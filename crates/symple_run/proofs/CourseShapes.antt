@@ -19,11 +19,12 @@ use Rattle.vert_base.specs.declared.limits.TheConstants.{SCHEDULE_BYTES}
 use Rattle.vert_base.specs.declared.message.Event.{Event}
 
 -- a course that is the same comes out alike
-pub same_alike : (courses : Task → Course → Type 0) (course other : Course) → course ≡ other → TakesNothing course →
-    (files : List File) (input : Option (List ℕ)) (outcome : Option Fault) →
-    Comes courses (follows course) files input outcome → Must courses (follows other) files input outcome
-same_alike courses course other same calm files input outcome =
-    ends_alike courses files input outcome course other calm (subst TakesNothing same calm) (ap course_end same)
+module _ (courses : Task → Course → Type 0) (course other : Course) where
+  pub same_alike : course ≡ other → TakesNothing course →
+      (files : List File) (input : Option (List ℕ)) (outcome : Option Fault) →
+      Comes courses (follows course) files input outcome → Must courses (follows other) files input outcome
+  same_alike same calm files input outcome =
+      ends_alike courses files input outcome course other calm (subst TakesNothing same calm) (ap course_end same)
 
 -- a fact of a course that fails, and of one that goes on
 either_holds : (P : Course → Type 0) → ((fault : Fault) → P (Fails fault)) → (b : Bool) (fault : Fault)

@@ -126,15 +126,15 @@ lines_few text machines events says =
     omega (arith, small, whole, same, fits)
 
 -- its events are followed from the first world on
-pub run_follows : (work : Work) (play : Play) (form : Form) (events : List Event) (first : World) →
-    IsFirstWorld work play.program play.graph play.machines play.draws first → (old new : Held)
-    (outcome : Option Fault) →
-    FollowsUp work play.lines form (record { held = 0; lines = 1; world = first; left = events }) old new outcome →
-    (shelf : Kept) (input : Left) →
-    Goes (IsFollowedPlay work play form events) (outside shelf old input) (outside shelf new input) outcome
-run_follows work play form events first is_first old new outcome up shelf input =
-    Ran (followed (by_worlds work play.lines) form 0 1 first events)
-    (record { first = first; is_first = is_first; course_is = refl }) (up shelf input)
+module _ (work : Work) (play : Play) (form : Form) (events : List Event) (first : World) where
+  pub run_follows : IsFirstWorld work play.program play.graph play.machines play.draws first →
+      (old new : Held) (outcome : Option Fault) →
+      FollowsUp work play.lines form (record { held = 0; lines = 1; world = first; left = events }) old new
+      outcome → (shelf : Kept) (input : Left) →
+      Goes (IsFollowedPlay work play form events) (outside shelf old input) (outside shelf new input) outcome
+  run_follows is_first old new outcome up shelf input =
+      Ran (followed (by_worlds work play.lines) form 0 1 first events)
+      (record { first = first; is_first = is_first; course_is = refl }) (up shelf input)
 
 -- ---- a task that goes one of some ways
 -- what is left of a course is left of a task that may go so
@@ -157,15 +157,15 @@ module _ (work : Work) (play : ℕ → Play) (text : List ℕ) where
   Told machines form events = IsFollowedPlay work (play machines) form events
 
   -- it says machines and events in form 1 or 2
-  pub text_follows : (machines : ℕ) (events : List Event) (says : Says text machines events) (form : Form) →
-      form ≡ says.form → (old new : Outside) (outcome : Option Fault) →
-      Goes (Told machines form events) old new outcome →
-      Leaves (IsPlayed work) (Runs (Followed play text) follows) old new outcome
-  text_follows machines events says form is_form old new outcome goes =
-      task_goes work (Followed play text) (Told machines form events)
-      (λ course is. ByEvents (λ none. no_fault text machines events says Header (λ e. cc) none)
-      (Tells machines events says (subst (λ (f : Form). Told machines f events course) is_form is))) old new outcome
-      goes
+  module _ (machines : ℕ) (events : List Event) (says : Says text machines events) (form : Form) where
+    pub text_follows : form ≡ says.form → (old new : Outside) (outcome : Option Fault) →
+        Goes (Told machines form events) old new outcome →
+        Leaves (IsPlayed work) (Runs (Followed play text) follows) old new outcome
+    text_follows is_form old new outcome goes =
+        task_goes work (Followed play text) (Told machines form events)
+        (λ course is. ByEvents (λ none. no_fault text machines events says Header (λ e. cc) none)
+        (Tells machines events says (subst (λ (f : Form). Told machines f events course) is_form is))) old new outcome
+        goes
 
   -- it has no first line of them
   pub text_linked : HasNoHeader text → (old new : Outside) (outcome : Option Fault) →

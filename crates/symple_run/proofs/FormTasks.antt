@@ -66,19 +66,19 @@ links_settle text told settles course other (LinksAreFaulty why real gives is) (
 
 -- ---- a text of any form
 -- where what is told settles a course, so does the text
-pub each_settles : (text : List ℕ) (told : ℕ → Form → List Event → Course → Type 0)
-    (linked : ℕ → List LinkEvent → Course → Type 0) →
-    ((machines : ℕ) (form : Form) (events : List Event) (a b : Course) → told machines form events a →
-    told machines form events b → a ≡ b) →
-    ((machines : ℕ) (events : List LinkEvent) (a b : Course) → linked machines events a → linked machines events b →
-    a ≡ b) →
-    (course other : Course) → ByEachForm text told linked course → ByEachForm text told linked other → course ≡ other
-each_settles text told linked one two course other (ByEvents some is) (ByEvents some' also) =
-    text_settles text told one course other is also
-each_settles text told linked one two course other (ByEvents some is) (ByLinks none also) = absurd (some none)
-each_settles text told linked one two course other (ByLinks none is) (ByEvents some also) = absurd (some none)
-each_settles text told linked one two course other (ByLinks none is) (ByLinks none' also) =
-    links_settle text linked two course other is also
+module _ (text : List ℕ) (told : ℕ → Form → List Event → Course → Type 0)
+    (linked : ℕ → List LinkEvent → Course → Type 0) where
+  pub each_settles : ((machines : ℕ) (form : Form) (events : List Event) (a b : Course) → told machines form
+      events a → told machines form events b → a ≡ b) →
+      ((machines : ℕ) (events : List LinkEvent) (a b : Course) → linked machines events a → linked machines
+      events b → a ≡ b) → (course other : Course) → ByEachForm text told linked course →
+      ByEachForm text told linked other → course ≡ other
+  each_settles one two course other (ByEvents some is) (ByEvents some' also) =
+      text_settles text told one course other is also
+  each_settles one two course other (ByEvents some is) (ByLinks none also) = absurd (some none)
+  each_settles one two course other (ByLinks none is) (ByEvents some also) = absurd (some none)
+  each_settles one two course other (ByLinks none is) (ByLinks none' also) =
+      links_settle text linked two course other is also
 
 -- what holds of a course that fails, and of each that is told, holds of that by a text
 links_hold : (text : List ℕ) (told : ℕ → List LinkEvent → Course → Type 0) (P : Course → Type 0) →
@@ -89,14 +89,15 @@ links_hold text told P fails holds course (TellsLinks machines events says is) =
 links_hold text told P fails holds course (LinksAreFaulty why real gives is) =
     subst P (sym is) (fails (link_text_fault why))
 
-pub each_holds : (text : List ℕ) (told : ℕ → Form → List Event → Course → Type 0)
-    (linked : ℕ → List LinkEvent → Course → Type 0) (P : Course → Type 0) → ((fault : Fault) → P (Fails fault)) →
-    ((machines : ℕ) (form : Form) (events : List Event) (course : Course) → told machines form events course →
-    P course) →
-    ((machines : ℕ) (events : List LinkEvent) (course : Course) → linked machines events course → P course) →
-    (course : Course) → ByEachForm text told linked course → P course
-each_holds text told linked P fails holds also course (ByEvents some is) = text_holds text told P fails holds course is
-each_holds text told linked P fails holds also course (ByLinks none is) = links_hold text linked P fails also course is
+module _ (text : List ℕ) (told : ℕ → Form → List Event → Course → Type 0)
+    (linked : ℕ → List LinkEvent → Course → Type 0) (P : Course → Type 0) where
+  pub each_holds : ((fault : Fault) → P (Fails fault)) →
+      ((machines : ℕ) (form : Form) (events : List Event) (course : Course) → told machines form events course →
+      P course) →
+      ((machines : ℕ) (events : List LinkEvent) (course : Course) → linked machines events course → P course) →
+      (course : Course) → ByEachForm text told linked course → P course
+  each_holds fails holds also course (ByEvents some is) = text_holds text told P fails holds course is
+  each_holds fails holds also course (ByLinks none is) = links_hold text linked P fails also course is
 
 -- a text of form 3 has no first line of another one: its number stands behind nine bytes
 abbrev first_of : List ℕ → ℕ

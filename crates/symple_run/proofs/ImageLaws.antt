@@ -130,42 +130,45 @@ none_told work w s at none =
     ∙ ap (λ (o : Option PlainAhead). option_map (start_with (map (row_in work w) (vertices_in w))) o) none
 
 -- ---- an image among the steps of a run
-image_goes : (key image : List ℕ) (told : Option PlainStart) (shelf mid : Kept) →
-    KeepsImage key image told shelf mid (Ok tt) → (rest : Course) (out : Held) (input : Left) (after : Outside)
-    (outcome : Option Fault) → Leaves NoTask (follows rest) (outside mid out input) after outcome →
-    Leaves NoTask (follows (with_image key image told rest)) (outside shelf out input) after outcome
-image_goes key image None shelf mid same rest out input after outcome leaves =
-    subst (λ (k : Kept). Leaves NoTask (follows rest) (outside k out input) after outcome) same leaves
-image_goes key image (Some start) shelf mid stored rest out input after outcome leaves =
-    store_goes NoTask _ _ shelf mid stored (follows rest) out input after outcome leaves
+module _ (key image : List ℕ) (shelf mid : Kept) (rest : Course) (out : Held) (input : Left) (after : Outside)
+    (outcome : Option Fault) where
+  image_goes : (told : Option PlainStart) → KeepsImage key image told shelf mid (Ok tt) →
+      Leaves NoTask (follows rest) (outside mid out input) after outcome →
+      Leaves NoTask (follows (with_image key image told rest)) (outside shelf out input) after outcome
+  image_goes None same leaves =
+      subst (λ (k : Kept). Leaves NoTask (follows rest) (outside k out input) after outcome) same leaves
+  image_goes (Some start) stored leaves =
+      store_goes NoTask _ _ shelf mid stored (follows rest) out input after outcome leaves
 
-image_stops : (key image : List ℕ) (told : Option PlainStart) (shelf mid : Kept) (failure : Failure) →
-    KeepsImage key image told shelf mid (Err failure) → (rest : Course) (out : Held) (input : Left) →
-    Leaves NoTask (follows (with_image key image told rest)) (outside shelf out input) (outside mid out input)
-    (Some (fault_of failure))
-image_stops key image None shelf mid failure kept rest out input = absurd kept
-image_stops key image (Some start) shelf mid failure kept rest out input =
-    store_stops NoTask _ _ shelf mid (fault_of failure) kept (follows rest) out input
+module _ (key image : List ℕ) where
+  image_stops : (told : Option PlainStart) (shelf mid : Kept) (failure : Failure) →
+      KeepsImage key image told shelf mid (Err failure) → (rest : Course) (out : Held) (input : Left) →
+      Leaves NoTask (follows (with_image key image told rest)) (outside shelf out input) (outside mid out input)
+      (Some (fault_of failure))
+  image_stops None shelf mid failure kept rest out input = absurd kept
+  image_stops (Some start) shelf mid failure kept rest out input =
+      store_stops NoTask _ _ shelf mid (fault_of failure) kept (follows rest) out input
 
 module _ (work : Work) (lines : Lines) (key image : List ℕ) where
   module _ (w : World) (e : Event) (more : finished w ≡ false) (plain : plain_of w ≡ Some e) where
     -- the event was played and its image stored, and the run goes on behind it
-    pub imaged_goes : (shelf mid shelf_after : Kept) (old new after : Held) (outcome : Option Fault) (v : World) →
-        v ≡ step work w e → PutsLines work lines w e old new →
-        KeepsImage key image (start_behind work w e) shelf mid (Ok tt) →
-        LeavesImages work lines key image v mid shelf_after new after outcome →
-        LeavesImages work lines key image w shelf shelf_after old after outcome
-    imaged_goes shelf mid shelf_after old new after outcome v is puts kept goes =
-        let on = subst (λ (u : World). LeavesImages work lines key image u mid shelf_after new after outcome) is goes in
-        let rest = imaged_from work lines key image (step work w e) on.events in
-        record {
-          events = e ∷ on.events;
-          plain = (more, plain, on.plain);
-          leaves = λ input. puts (follows (with_image key image (start_behind work w e) rest)) shelf input
-              (outside shelf_after after input) outcome
-              (image_goes key image (start_behind work w e) shelf mid kept rest new input
-              (outside shelf_after after input) outcome (on.leaves input));
-        }
+    module _ (shelf mid shelf_after : Kept) (old new after : Held) (outcome : Option Fault) (v : World) where
+      pub imaged_goes : v ≡ step work w e → PutsLines work lines w e old new →
+          KeepsImage key image (start_behind work w e) shelf mid (Ok tt) →
+          LeavesImages work lines key image v mid shelf_after new after outcome →
+          LeavesImages work lines key image w shelf shelf_after old after outcome
+      imaged_goes is puts kept goes =
+          let on = subst (λ (u : World). LeavesImages work lines key image u mid shelf_after new after outcome) is
+          goes in
+          let rest = imaged_from work lines key image (step work w e) on.events in
+          record {
+            events = e ∷ on.events;
+            plain = (more, plain, on.plain);
+            leaves = λ input. puts (follows (with_image key image (start_behind work w e) rest)) shelf input
+                (outside shelf_after after input) outcome
+                (image_goes key image shelf mid rest new input (outside shelf_after after input) outcome
+                (start_behind work w e) kept (on.leaves input));
+          }
 
     module _ (runs : (es : List Event) × IsPlainRun work w es × (all_possible work w es ≡ true)) where
       -- it was played up to a fault

@@ -97,14 +97,14 @@ module _ (src : Source) (parts : List PlainPart) (one : IsOneRun parts) (run : I
         (λ i. Prints (own i) (Prints (ended i) (with_image key image (start i) (rest i))))
 
 -- a complete run from the first world
-pub course_told : (split : Split) (parts : List PlainPart) (one : IsOneRun parts) →
-    (fits : IsFitting split.program.program) → (lines : Lines) (key image : List ℕ) (es : List Event) →
-    is_complete core_work (first_world core_work split parts) es ≡ true →
-    imaged_from core_work lines key image (first_world core_work split parts) es
-    ≡ imaged_by_source lines (whole_run split parts one) key image (first_skeleton (length parts)) es
-course_told split parts one fits lines key image es complete =
-    let w : World = first_world core_work split parts in
-    let both = and_parts (all_possible core_work w es) (finished (after core_work w es)) complete in
-    all_leave (whole_run split parts one) parts one (whole_is_a_run split parts one fits) refl lines key image w
-    (first_skeleton (length parts)) (whole_follows split parts one fits) es both.0
-    ((first_goes split parts one fits).ends es complete)
+module _ (split : Split) (parts : List PlainPart) (one : IsOneRun parts)
+    (fits : IsFitting split.program.program) (lines : Lines) (key image : List ℕ) (es : List Event) where
+  pub course_told : is_complete core_work (first_world core_work split parts) es ≡ true →
+      imaged_from core_work lines key image (first_world core_work split parts) es ≡ imaged_by_source lines
+      (whole_run split parts one) key image (first_skeleton (length parts)) es
+  course_told complete =
+      let w : World = first_world core_work split parts in
+      let both = and_parts (all_possible core_work w es) (finished (after core_work w es)) complete in
+      all_leave (whole_run split parts one) parts one (whole_is_a_run split parts one fits) refl lines key image w
+      (first_skeleton (length parts)) (whole_follows split parts one fits) es both.0
+      ((first_goes split parts one fits).ends es complete)

@@ -125,15 +125,16 @@ module _ (split : Split) (vertices : ℕ) (key : List ℕ) where
       subst (λ (n : ℕ). Tells split n key (Some bytes) (Some start) → IsStart whole split start) same
       (λ here. subst (IsStart whole split) (sym here.1) (ready whole split key bytes here.0.own)) told
 
-  pub later_ready : (even odd : Option (List ℕ)) (first second : Option PlainStart) → Tells split vertices key even
-      first →
-      Tells split vertices key odd second → (start : PlainStart) → later_of first second ≡ Some start →
-      (whole : PlainPart) → vertices_of whole.ends ≡ vertices → StartIsReady → IsStart whole split start
-  later_ready even odd None second a b start is whole same ready =
+  pub later_ready :
+      (even odd : Option (List ℕ)) (start : PlainStart) (whole : PlainPart) (first second : Option PlainStart) →
+      Tells split vertices key even first → Tells split vertices key odd second →
+      later_of first second ≡ Some start → vertices_of whole.ends ≡ vertices → StartIsReady →
+      IsStart whole split start
+  later_ready even odd start whole None second a b is same ready =
       told_ready odd start (subst (Tells split vertices key odd) is b) whole same ready
-  later_ready even odd (Some first) None a b start is whole same ready =
+  later_ready even odd start whole (Some first) None a b is same ready =
       told_ready even start (subst (Tells split vertices key even) is a) whole same ready
-  later_ready even odd (Some first) (Some second) a b start is whole same ready =
+  later_ready even odd start whole (Some first) (Some second) a b is same ready =
       either (nat_lt second.round first.round) is
     where
       either : (c : Bool) → (if c then Some first else Some second) ≡ Some start → IsStart whole split start
@@ -151,14 +152,16 @@ each_part parts one P holds =
     (λ m. holds (part_of one.ends one.draws one.edges m) refl) (range_with_len 0 (length one.ends)))))
 
 -- the later of the starts that two files tell is one for each part
-pub parts_start : (machines draws : ℕ) (graph : Graph) (parts : List PlainPart) → IsRunOf machines draws graph parts →
-    (split : Split) (key : List ℕ) (even odd : Option (List ℕ)) (first second : Option PlainStart) →
-    Tells split graph.vertices key even first → Tells split graph.vertices key odd second → StartIsReady →
-    (start : PlainStart) → later_of first second ≡ Some start → All (λ part. IsStart part split start) parts
-parts_start machines draws graph parts of_graph split key even odd first second a b ready start is =
-    each_part parts of_graph.one (λ part. IsStart part split start) (λ whole ends.
-    later_ready split graph.vertices key even odd first second a b start is whole
-    (ap vertices_of ends ∙ of_graph.sized) ready)
+module _ (machines draws : ℕ) (graph : Graph) (parts : List PlainPart)
+    (of_graph : IsRunOf machines draws graph parts) (split : Split) (key : List ℕ) (even odd : Option (List ℕ))
+    (first second : Option PlainStart) where
+  pub parts_start : Tells split graph.vertices key even first → Tells split graph.vertices key odd second →
+      StartIsReady → (start : PlainStart) → later_of first second ≡ Some start →
+      All (λ part. IsStart part split start) parts
+  parts_start a b ready start is =
+      each_part parts of_graph.one (λ part. IsStart part split start) (λ whole ends.
+      later_ready split graph.vertices key even odd start whole first second a b is
+      (ap vertices_of ends ∙ of_graph.sized) ready)
 
 -- ---- cores
 module _ (sound : State → Type 0) (complete : PlainRunsAreComplete core_work sound)

@@ -316,19 +316,20 @@ module _ (key image : List ℕ) (split : Split) (parts : List PlainPart) (one : 
       let many = f.alike.count in
       there_at w.sites 0 (omega (arith, some, many))
 
-  all_keep : (lines : Lines) (w : World) (k : Skeleton) → Follows src parts w k → (s : State) →
-      slice_get w.sites 0 ≡ Some s → (es : List Event) → all_possible core_work w es ≡ true →
-      finished (after core_work w es) ≡ true →
-      files_kept (imaged_from core_work lines key image w es) ≡ to_keep s.at.round
-  all_keep lines w k f s at [] can ends = none_left w k f ends s at
-  all_keep lines w k f s at (e ∷ es) can ends =
-      let c = and_parts (possible w e) (all_possible core_work (step core_work w e) es) can in
-      let next = next_follows src parts one run refl w k f e c.0 in
-      let t = zero_site (step core_work w e) (next_by src k e) next in
-      with_files key image (start_behind core_work w e) (imaged_from core_work lines key image (step core_work w e) es)
-      ∙ ap (λ (fs : List File). told_files key image (start_behind core_work w e) ++ fs)
-      (all_keep lines (step core_work w e) (next_by src k e) next t.0 t.1 es c.1 ends)
-      ∙ event_keeps w k f e s t.0 at t.1 c.0
+  module _ (lines : Lines) where
+    all_keep : (w : World) (k : Skeleton) → Follows src parts w k → (s : State) → slice_get w.sites 0 ≡ Some s →
+        (es : List Event) → all_possible core_work w es ≡ true → finished (after core_work w es) ≡ true →
+        files_kept (imaged_from core_work lines key image w es) ≡ to_keep s.at.round
+    all_keep w k f s at [] can ends = none_left w k f ends s at
+    all_keep w k f s at (e ∷ es) can ends =
+        let c = and_parts (possible w e) (all_possible core_work (step core_work w e) es) can in
+        let next = next_follows src parts one run refl w k f e c.0 in
+        let t = zero_site (step core_work w e) (next_by src k e) next in
+        with_files key image (start_behind core_work w e) (imaged_from core_work lines key image (step core_work w
+        e) es)
+        ∙ ap (λ (fs : List File). told_files key image (start_behind core_work w e) ++ fs)
+        (all_keep (step core_work w e) (next_by src k e) next t.0 t.1 es c.1 ends)
+        ∙ event_keeps w k f e s t.0 at t.1 c.0
 
   first_keep : (lines : Lines) (es : List Event) →
       is_complete core_work (first_world core_work split parts) es ≡ true →
@@ -341,14 +342,14 @@ module _ (key image : List ℕ) (split : Split) (parts : List PlainPart) (one : 
       all_keep lines w (first_skeleton (length parts)) (whole_follows split parts one fits) (core_first part.0 split)
       (map_get (λ part. core_first part split) parts 0 part.0 part.1) es both.0 both.1
 
-pub images_told : (lines : Lines) (key image : List ℕ) (program : Program) (graph : Graph) (machines draws : ℕ)
-    (v : World) (first : IsFirstWorld core_work program graph machines draws v) →
-    job_of first.split first.of_graph.one.ends first.of_graph.one.draws first.of_graph.one.edges
-    ≡ sources.job_of machines draws program graph → (es : List Event) → is_complete core_work v es ≡ true →
-    files_kept (imaged_from core_work lines key image v es)
-    ≡ images_of key image (source_run (sources.job_of machines draws program graph))
-images_told lines key image program graph machines draws v first same es complete =
-    ap (λ (u : World). files_kept (imaged_from core_work lines key image u es)) first.here
-    ∙ first_keep key image first.split first.parts first.of_graph.one first.fits lines es
-    (subst (λ (u : World). is_complete core_work u es ≡ true) first.here complete)
-    ∙ ap (λ (job : Job). images_of key image (source_run job)) same
+module _ (lines : Lines) (key image : List ℕ) (program : Program) (graph : Graph) (machines draws : ℕ)
+    (v : World) (first : IsFirstWorld core_work program graph machines draws v) where
+  pub images_told : job_of first.split first.of_graph.one.ends first.of_graph.one.draws first.of_graph.one.edges
+      ≡ sources.job_of machines draws program graph → (es : List Event) → is_complete core_work v es ≡ true →
+      files_kept (imaged_from core_work lines key image v es) ≡ images_of key image (source_run (sources.job_of
+      machines draws program graph))
+  images_told same es complete =
+      ap (λ (u : World). files_kept (imaged_from core_work lines key image u es)) first.here
+      ∙ first_keep key image first.split first.parts first.of_graph.one first.fits lines es
+      (subst (λ (u : World). is_complete core_work u es ≡ true) first.here complete)
+      ∙ ap (λ (job : Job). images_of key image (source_run job)) same

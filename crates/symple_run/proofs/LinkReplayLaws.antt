@@ -49,31 +49,33 @@ same_bytes a b is = cc
 module _ (work : Work) (sound : State → Type 0) (laws : ChosenWell work sound) (lines : Lines) (name : List ℕ)
     (machines : ℕ) (bytes : List ℕ) where
   -- of an event in front of others, where the text with it is long or not
-  kept_event : (added : List LinkEvent) (l : Linked) (e : LinkEvent) (es : List LinkEvent) (rest behind : Course)
-      (long : Bool) → (nat_lt SCHEDULE_BYTES (length (links_text machines (added ++ e ∷ []))) ≡ false →
-      kept_bytes rest ≡ Some bytes → KeptAll (course_text rest) bytes machines ((added ++ e ∷ []) ++ es) behind) →
-      nat_lt SCHEDULE_BYTES (length (links_text machines (added ++ e ∷ []))) ≡ long →
-      kept_bytes (if long then Fails LongSchedule else told_event (by_links work lines) l e rest) ≡ Some bytes →
-      KeptAll (course_text (if long then Fails LongSchedule else told_event (by_links work lines) l e rest)) bytes
-      machines (added ++ e ∷ es) (told_event (by_links work lines) l e behind)
-  kept_event added l e es rest behind true more is kept = absurd (cc)
-  kept_event added l e es rest behind false more is kept =
-      let all = more is kept in record {
-        bytes_are = all.bytes_are ∙ ap (links_text machines) (append_assoc added (e ∷ []) es);
-        fits = all.fits;
-        same = ap (λ (t : List ℕ). link_line lines l e ++ (link_round work lines l e ++ t)) all.same;
-        ends = all.ends;
-      }
+  module _ (added : List LinkEvent) (l : Linked) (e : LinkEvent) (es : List LinkEvent) (rest behind : Course) where
+    kept_event : (long : Bool) →
+        (nat_lt SCHEDULE_BYTES (length (links_text machines (added ++ e ∷ []))) ≡ false → kept_bytes rest ≡ Some
+        bytes → KeptAll (course_text rest) bytes machines ((added ++ e ∷ []) ++ es) behind) →
+        nat_lt SCHEDULE_BYTES (length (links_text machines (added ++ e ∷ []))) ≡ long →
+        kept_bytes (if long then Fails LongSchedule else told_event (by_links work lines) l e rest) ≡ Some bytes
+        →
+        KeptAll (course_text (if long then Fails LongSchedule else told_event (by_links work lines) l e rest))
+        bytes machines (added ++ e ∷ es) (told_event (by_links work lines) l e behind)
+    kept_event true more is kept = absurd (cc)
+    kept_event false more is kept =
+        let all = more is kept in record {
+          bytes_are = all.bytes_are ∙ ap (links_text machines) (append_assoc added (e ∷ []) es);
+          fits = all.fits;
+          same = ap (λ (t : List ℕ). link_line lines l e ++ (link_round work lines l e ++ t)) all.same;
+          ends = all.ends;
+        }
 
   kept_all : (added : List LinkEvent) (l : Linked) (es : List LinkEvent) (count : ℕ) → IsLinkReached work sound l →
-      length (links_text machines added) ≤ SCHEDULE_BYTES → links_possible work l es ≡ true →
-      finished (link_after work l es).world ≡ true →
+      length (links_text machines added) ≤ SCHEDULE_BYTES →
+      (links_possible work l es ≡ true) × (finished (link_after work l es).world ≡ true) →
       kept_bytes (recorded_as (by_links work lines) (links_text machines) name added l es) ≡ Some bytes →
       KeptAll (course_text (recorded_as (by_links work lines) (links_text machines) name added l es)) bytes machines
       (added ++ es) (followed_as (by_links work lines) l (listed_links count es))
-  kept_all added l [] count r fits can over kept =
+  kept_all added l [] count r fits done kept =
       let none : lacking l.world ≡ None =
-      ap (option_map lacks) ((laws.goes l.world (links_are_reached work sound l r)).missing.1 over) in
+      ap (option_map lacks) ((laws.goes l.world (links_are_reached work sound l r)).missing.1 done.1) in
       let is : bytes ≡ links_text machines added = same_bytes _ _ kept in
       subst (λ (o : Option Fault). KeptAll
       (course_text (recorded_as (by_links work lines) (links_text machines) name added l [])) bytes machines
@@ -85,8 +87,8 @@ module _ (work : Work) (sound : State → Type 0) (laws : ChosenWell work sound)
         same = refl;
         ends = refl;
       })
-  kept_all added l (e ∷ es) count r fits can over kept =
-      let c = and_parts (link_possible l e) (links_possible work (link_step work l e) es) can in
+  kept_all added l (e ∷ es) count r fits done kept =
+      let c = and_parts (link_possible l e) (links_possible work (link_step work l e) es) done.0 in
       let free = link_free l e (λ d there. ((laws.goes l.world (links_are_reached work sound l r)).played d).0 there)
       c.0 in
       subst (λ (o : Option Impossible). KeptAll
@@ -97,7 +99,7 @@ module _ (work : Work) (sound : State → Type 0) (laws : ChosenWell work sound)
       (sym (ap (option_map (why_not e)) free))
       (kept_event added l e es _ _ (nat_lt SCHEDULE_BYTES (length (links_text machines (added ++ e ∷ []))))
       (λ short. kept_all (added ++ e ∷ []) (link_step work l e) es (count + 1)
-      (link_steps_reach work sound l e r c.0) (ltb-false _ _ short) c.1 over) refl kept)
+      (link_steps_reach work sound l e r c.0) (ltb-false _ _ short) (c.1, done.1)) refl kept)
 
   -- a recording that kept bytes stayed within the limit, so a text that passes it was not kept
   kept_short : (added : List LinkEvent) (l : Linked) (es : List LinkEvent) →
@@ -160,7 +162,7 @@ module _ (work : Work) (sound : State → Type 0) (lawful : IsLawful work sound)
   all : KeptAll (course_text recorded) bytes play.machines is.events
       (followed_as (by_links work play.lines) begun (listed_links 1 is.events))
   all = kept_all work sound laws play.lines name play.machines bytes [] begun is.events 1 r
-      (header_short play.machines is.few.1) can over keeps
+      (header_short play.machines is.few.1) (can, over) keeps
 
   says : SaysLinks bytes play.machines is.events
   says = record {

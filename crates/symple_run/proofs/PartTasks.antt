@@ -33,12 +33,13 @@ part_order work first second w after outcome same leaves =
     (weaker (IsPartRun work) (IsPlayed work) (part_run_played work) first w after outcome leaves)
 
 -- by equal names
-pub split_same : (a b c x y z : List ℕ) (form : GraphForm) (machines draws : ℕ) → a ≡ x → b ≡ y → c ≡ z →
-    split_order a b c form machines draws ≡ split_order x y z form machines draws
-split_same a b c x y z form machines draws p q r =
-    ap (λ (name : List ℕ). split_order name b c form machines draws) p
-    ∙ ap (λ (name : List ℕ). split_order x name c form machines draws) q
-    ∙ ap (λ (name : List ℕ). split_order x y name form machines draws) r
+module _ (a b c x y z : List ℕ) (form : GraphForm) (machines draws : ℕ) where
+  pub split_same : a ≡ x → b ≡ y → c ≡ z →
+      split_order a b c form machines draws ≡ split_order x y z form machines draws
+  split_same p q r =
+      ap (λ (name : List ℕ). split_order name b c form machines draws) p
+      ∙ ap (λ (name : List ℕ). split_order x name c form machines draws) q
+      ∙ ap (λ (name : List ℕ). split_order x y name form machines draws) r
 
 pub worker_same : (a b x y : List ℕ) → a ≡ x → b ≡ y → worker_order a b ≡ worker_order x y
 worker_same a b x y p q =

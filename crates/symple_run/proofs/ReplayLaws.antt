@@ -52,51 +52,53 @@ same_bytes a b is = cc
 module _ (work : Work) (sound : State → Type 0) (laws : ChosenWell work sound) (lines : Lines) (name : List ℕ)
     (machines : ℕ) (bytes : List ℕ) where
   -- of an event in front of others, where the text with it is long or not
-  kept_event : (added : List Event) (w : World) (e : Event) (es : List Event) (rest behind : Course) (long : Bool) →
-      (nat_lt SCHEDULE_BYTES (length (schedule_text Roundless machines (added ++ e ∷ []))) ≡ false →
-      kept_bytes rest ≡ Some bytes → KeptAll (course_text rest) bytes machines ((added ++ e ∷ []) ++ es) behind) →
-      nat_lt SCHEDULE_BYTES (length (schedule_text Roundless machines (added ++ e ∷ []))) ≡ long →
-      kept_bytes (if long then Fails LongSchedule else told_event (by_worlds work lines) w e rest) ≡ Some bytes →
-      KeptAll (course_text (if long then Fails LongSchedule else told_event (by_worlds work lines) w e rest)) bytes
-      machines (added ++ e ∷ es) (told_event (by_worlds work lines) w e behind)
-  kept_event added w e es rest behind true more is kept = absurd (cc)
-  kept_event added w e es rest behind false more is kept =
-      let all = more is kept in record {
-        bytes_are = all.bytes_are ∙ ap (schedule_text Roundless machines) (append_assoc added (e ∷ []) es);
-        fits = all.fits;
-        same = ap (λ (t : List ℕ). log_line lines w e ++ (round_lines work lines w e ++ t)) all.same;
-        ends = all.ends;
-      }
+  module _ (added : List Event) (w : World) (e : Event) (es : List Event) (rest behind : Course) where
+    kept_event : (long : Bool) →
+        (nat_lt SCHEDULE_BYTES (length (schedule_text Roundless machines (added ++ e ∷ []))) ≡ false →
+        kept_bytes rest ≡ Some bytes → KeptAll (course_text rest) bytes machines ((added ++ e ∷ []) ++ es)
+        behind) → nat_lt SCHEDULE_BYTES (length (schedule_text Roundless machines (added ++ e ∷ []))) ≡ long →
+        kept_bytes (if long then Fails LongSchedule else told_event (by_worlds work lines) w e rest) ≡ Some
+        bytes →
+        KeptAll (course_text (if long then Fails LongSchedule else told_event (by_worlds work lines) w e rest))
+        bytes machines (added ++ e ∷ es) (told_event (by_worlds work lines) w e behind)
+    kept_event true more is kept = absurd (cc)
+    kept_event false more is kept =
+        let all = more is kept in record {
+          bytes_are = all.bytes_are ∙ ap (schedule_text Roundless machines) (append_assoc added (e ∷ []) es);
+          fits = all.fits;
+          same = ap (λ (t : List ℕ). log_line lines w e ++ (round_lines work lines w e ++ t)) all.same;
+          ends = all.ends;
+        }
 
-  kept_all : (added : List Event) (w : World) (es : List Event) (held count : ℕ) → IsReached work sound w →
-      length (schedule_text Roundless machines added) ≤ SCHEDULE_BYTES → all_possible work w es ≡ true →
-      finished (after work w es) ≡ true →
+  kept_all : (added : List Event) (w : World) (es : List Event) (held count : ℕ) →
+      IsReached work sound w × (length (schedule_text Roundless machines added) ≤ SCHEDULE_BYTES) →
+      (all_possible work w es ≡ true) × (finished (after work w es) ≡ true) →
       kept_bytes (recorded (by_worlds work lines) name machines added w es) ≡ Some bytes →
       KeptAll (course_text (recorded (by_worlds work lines) name machines added w es)) bytes machines (added ++ es)
       (followed (by_worlds work lines) Roundless held count w es)
-  kept_all added w [] held count r fits can over kept =
-      let none : lacking w ≡ None = ap (option_map lacks) ((laws.goes w r).missing.1 over) in
+  kept_all added w [] held count here done kept =
+      let none : lacking w ≡ None = ap (option_map lacks) ((laws.goes w here.0).missing.1 done.1) in
       let is : bytes ≡ schedule_text Roundless machines added = same_bytes _ _ kept in
       subst (λ (o : Option Missing). KeptAll
       (course_text (recorded (by_worlds work lines) name machines added w [])) bytes machines (added ++ [])
       (unless_lacking (option_map lack_of o) (told_end (by_worlds work lines) w))) (sym none)
       (record {
         bytes_are = is ∙ ap (schedule_text Roundless machines) (sym (append-nil added));
-        fits = subst (λ (t : List ℕ). length t ≤ SCHEDULE_BYTES) (sym is) fits;
+        fits = subst (λ (t : List ℕ). length t ≤ SCHEDULE_BYTES) (sym is) here.1;
         same = refl;
         ends = refl;
       })
-  kept_all added w (e ∷ es) held count r fits can over kept =
-      let c = and_parts (possible w e) (all_possible work (step work w e) es) can in
+  kept_all added w (e ∷ es) held count here done kept =
+      let c = and_parts (possible w e) (all_possible work (step work w e) es) done.0 in
       let line = count + length (event_lines Roundless held e) in
       subst (λ (o : Option EventFault). KeptAll
       (course_text (recorded (by_worlds work lines) name machines added w (e ∷ es))) bytes machines (added ++ e ∷ es)
       (unless_refused (option_map (why_of e) o) line (told_event (by_worlds work lines) w e
       (followed (by_worlds work lines) Roundless (round_after held e) line (step work w e) es))))
-      (sym (((laws.goes w r).played e).0 c.0))
+      (sym (((laws.goes w here.0).played e).0 c.0))
       (kept_event added w e es _ _ (nat_lt SCHEDULE_BYTES (length (schedule_text Roundless machines (added ++ e ∷ []))))
-      (λ short. kept_all (added ++ e ∷ []) (step work w e) es (round_after held e) line (laws.reach w e r c.0)
-      (ltb-false _ _ short) c.1 over) refl kept)
+      (λ short. kept_all (added ++ e ∷ []) (step work w e) es (round_after held e) line
+      (laws.reach w e here.0 c.0, ltb-false _ _ short) (c.1, done.1)) refl kept)
 
 -- ---- the law
 module _ (work : Work) (sound : State → Type 0) (lawful : IsLawful work sound) (laws : ChosenWell work sound)
@@ -122,8 +124,8 @@ module _ (work : Work) (sound : State → Type 0) (lawful : IsLawful work sound)
 
   all : KeptAll (course_text (recorded (by_worlds work play.lines) name play.machines [] is.first is.events)) bytes
       play.machines is.events (followed (by_worlds work play.lines) Roundless 0 1 is.first is.events)
-  all = kept_all work sound laws play.lines name play.machines bytes [] is.first is.events 0 1 r
-      (let small = begun_small play.machines few.1 in omega (arith, small)) complete.0 complete.1
+  all = kept_all work sound laws play.lines name play.machines bytes [] is.first is.events 0 1
+      (r, (let small = begun_small play.machines few.1 in omega (arith, small))) complete
       (ap kept_bytes (sym is.course_is) ∙ kept)
 
   says : Says bytes play.machines is.events

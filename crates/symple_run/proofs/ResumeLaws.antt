@@ -39,14 +39,15 @@ name_is image number few =
     ap (λ (k : ℕ). image ++ codes "." ++ decimal k) same
 
 -- a file was tried, and then the rest came
-pub found_goes : (courses : Task → Course → Type 0) (old new : Kept) (name : List ℕ) (file : Option (List ℕ)) →
-    HasFile old new name file → (next : Option (List ℕ) → Order) (out : Held) (input : Left) (after : Outside)
-    (outcome : Option Fault) → Leaves courses (next file) (outside new out input) after outcome →
-    Leaves courses (Tries name IMAGE_BYTES next) (outside old out input) after outcome
-found_goes courses old new name None tried next out input after outcome rest =
-    try_none courses old new name IMAGE_BYTES tried next out input after outcome rest
-found_goes courses old new name (Some bytes) tried next out input after outcome rest =
-    try_there courses old new name IMAGE_BYTES bytes tried next out input after outcome rest
+module _ (courses : Task → Course → Type 0) (old new : Kept) (name : List ℕ) where
+  pub found_goes : (file : Option (List ℕ)) → HasFile old new name file →
+      (next : Option (List ℕ) → Order) (out : Held) (input : Left) (after : Outside) (outcome : Option Fault) →
+      Leaves courses (next file) (outside new out input) after outcome →
+      Leaves courses (Tries name IMAGE_BYTES next) (outside old out input) after outcome
+  found_goes None tried next out input after outcome rest =
+      try_none courses old new name IMAGE_BYTES tried next out input after outcome rest
+  found_goes (Some bytes) tried next out input after outcome rest =
+      try_there courses old new name IMAGE_BYTES bytes tried next out input after outcome rest
 
 module _ (split : Split) (vertices : ℕ) (key name : List ℕ) (old new : Kept) (bytes : List ℕ)
     (tried : HasTried old new name IMAGE_BYTES bytes) where
@@ -68,30 +69,31 @@ module _ (split : Split) (vertices : ℕ) (key name : List ℕ) (old new : Kept)
   found_none not = record { file = Some bytes; tried = tried; tells = not; ready = tt }
 
 -- a run goes on with the later of the starts that were found
-pub ready_by : (split : Split) (vertices : ℕ) (key : List ℕ) (even odd : Option (List ℕ))
-    (first second : Option PlainStart) → Tells split vertices key even first →
-    Tells split vertices key odd second → StartIsReady → (start : Option Start) →
-    option_map plain_start start ≡ later_of first second → IsReady split vertices start
-ready_by split vertices key even odd first second a b ready None is = tt
-ready_by split vertices key even odd first second a b ready (Some start) is = λ whole same.
-    later_ready split vertices key even odd first second a b (plain_start start) (sym is) whole same ready
+module _ (split : Split) (vertices : ℕ) (key : List ℕ) (even odd : Option (List ℕ))
+    (first second : Option PlainStart) where
+  pub ready_by : Tells split vertices key even first → Tells split vertices key odd second → StartIsReady →
+      (start : Option Start) → option_map plain_start start ≡ later_of first second →
+      IsReady split vertices start
+  ready_by a b ready None is = tt
+  ready_by a b ready (Some start) is = λ whole same.
+      later_ready split vertices key even odd (plain_start start) whole first second a b (sym is) same ready
 
 -- ---- parts
 -- a start that is ready for the graph is one for each part
-pub parts_ready : (machines draws : ℕ) (graph : Graph) (parts : List Part) →
-    (of_graph : IsRunOf machines draws graph (map plain_of parts)) → (split : Split) →
-    All (λ part. part.split.value ≡ split) parts → (start : PlainStart) →
-    ((whole : PlainPart) → vertices_of whole.ends ≡ graph.vertices → IsStart whole split start) →
-    All (λ part. IsStart (plain_of part) part.split.value start) parts
-parts_ready machines draws graph parts of_graph split splits start ready = λ i d lt.
-    let part = get_or parts i d in
-    let all : All (λ (p : PlainPart). p.ends ≡ of_graph.one.ends) (map plain_of parts) =
-    each_part (map plain_of parts) of_graph.one (λ p. p.ends ≡ of_graph.one.ends) (λ whole same. same) in
-    let ends : (plain_of part).ends ≡ of_graph.one.ends =
-    subst (λ (p : PlainPart). p.ends ≡ of_graph.one.ends) (get_or-map plain_of parts i d (plain_of d) lt)
-    (all i (plain_of d) (omega (arith, length-map parts plain_of, lt))) in
-    subst (λ (s : Split). IsStart (plain_of part) s start) (sym (splits i d lt))
-    (ready (plain_of part) (ap vertices_of ends ∙ of_graph.sized))
+module _ (machines draws : ℕ) (graph : Graph) (parts : List Part)
+    (of_graph : IsRunOf machines draws graph (map plain_of parts)) (split : Split) where
+  pub parts_ready : All (λ part. part.split.value ≡ split) parts → (start : PlainStart) →
+      ((whole : PlainPart) → vertices_of whole.ends ≡ graph.vertices → IsStart whole split start) →
+      All (λ part. IsStart (plain_of part) part.split.value start) parts
+  parts_ready splits start ready = λ i d lt.
+      let part = get_or parts i d in
+      let all : All (λ (p : PlainPart). p.ends ≡ of_graph.one.ends) (map plain_of parts) =
+      each_part (map plain_of parts) of_graph.one (λ p. p.ends ≡ of_graph.one.ends) (λ whole same. same) in
+      let ends : (plain_of part).ends ≡ of_graph.one.ends =
+      subst (λ (p : PlainPart). p.ends ≡ of_graph.one.ends) (get_or-map plain_of parts i d (plain_of d) lt)
+      (all i (plain_of d) (omega (arith, length-map parts plain_of, lt))) in
+      subst (λ (s : Split). IsStart (plain_of part) s start) (sym (splits i d lt))
+      (ready (plain_of part) (ap vertices_of ends ∙ of_graph.sized))
 
 -- a run from the later of the starts that two files tell
 pub resumed_plays :

@@ -96,29 +96,30 @@ count_none work w = λ behind plain. record {
 }
 
 -- one more event was played
-pub count_more : (work : Work) (w v u : World) (rounds reads more_rounds more_reads : ℕ) (e : Event) →
-    CountsOn work w v rounds reads → finished v ≡ false → plain_of v ≡ Some e → u ≡ step work v e →
-    more_rounds ≡ rounds + length (round_ended false work v e) →
-    more_reads ≡ reads + reads_in_all (round_ended false work v e) → CountsOn work w u more_rounds more_reads
-count_more work w v u rounds reads more_rounds more_reads e on going plain next rounds_is reads_is = λ behind plays.
-    let through = on (e ∷ behind) (going, plain, subst (λ (x : World). IsPlainRun work x behind) next plays) in
-    let one = round_ended false work v e in
-    let rest = rounds_ended false work (step work v e) behind in
-    let same : rounds_ended false work u behind ≡ rest = ap (λ (x : World). rounds_ended false work x behind) next in
-    record {
-      events = through.events;
-      plain = through.plain;
-      same_end = through.same_end ∙ sym (ap (λ (x : World). after work x behind) next);
-      rounds_are =
-          through.rounds_are ∙ ap (λ (n : ℕ). rounds + n) (length-append one rest)
-          ∙ sym (add_assoc rounds (length one) (length rest)) ∙ ap (λ (n : ℕ). n + length rest) (sym rounds_is)
-          ∙ ap (λ (told : List Told). more_rounds + length told) (sym same);
-      reads_are =
-          through.reads_are ∙ ap (λ (n : ℕ). reads + n) (reads_append one rest)
-          ∙ sym (add_assoc reads (reads_in_all one) (reads_in_all rest))
-          ∙ ap (λ (n : ℕ). n + reads_in_all rest) (sym reads_is)
-          ∙ ap (λ (told : List Told). more_reads + reads_in_all told) (sym same);
-    }
+module _ (work : Work) (w v u : World) (rounds reads more_rounds more_reads : ℕ) (e : Event) where
+  pub count_more : CountsOn work w v rounds reads → finished v ≡ false → plain_of v ≡ Some e →
+      u ≡ step work v e → more_rounds ≡ rounds + length (round_ended false work v e) →
+      more_reads ≡ reads + reads_in_all (round_ended false work v e) → CountsOn work w u more_rounds more_reads
+  count_more on going plain next rounds_is reads_is = λ behind plays.
+      let through = on (e ∷ behind) (going, plain, subst (λ (x : World). IsPlainRun work x behind) next plays) in
+      let one = round_ended false work v e in
+      let rest = rounds_ended false work (step work v e) behind in
+      let same : rounds_ended false work u behind ≡ rest = ap (λ (x : World). rounds_ended false work x behind)
+      next in
+      record {
+        events = through.events;
+        plain = through.plain;
+        same_end = through.same_end ∙ sym (ap (λ (x : World). after work x behind) next);
+        rounds_are =
+            through.rounds_are ∙ ap (λ (n : ℕ). rounds + n) (length-append one rest)
+            ∙ sym (add_assoc rounds (length one) (length rest)) ∙ ap (λ (n : ℕ). n + length rest) (sym rounds_is)
+            ∙ ap (λ (told : List Told). more_rounds + length told) (sym same);
+        reads_are =
+            through.reads_are ∙ ap (λ (n : ℕ). reads + n) (reads_append one rest)
+            ∙ sym (add_assoc reads (reads_in_all one) (reads_in_all rest))
+            ∙ ap (λ (n : ℕ). n + reads_in_all rest) (sym reads_is)
+            ∙ ap (λ (told : List Told). more_reads + reads_in_all told) (sym same);
+      }
 
 -- the last event was played
 pub count_over : (work : Work) (w v : World) (rounds reads : ℕ) → CountsOn work w v rounds reads → finished v ≡ true →

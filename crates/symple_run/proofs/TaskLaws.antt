@@ -53,12 +53,13 @@ printed_well (Keeps name bytes rest) is = absurd is
 printed_well (Takes used text rest) is = absurd is
 
 -- two courses that put texts and are over come out alike
-printed_alike : (courses : Task → Course → Type 0) (course other : Course) → IsPrinted course → IsPrinted other →
-    (files : List File) (input : Option (List ℕ)) (outcome : Option note.Fault) →
-    Comes courses (follows course) files input outcome → Must courses (follows other) files input outcome
-printed_alike courses course other is same files input outcome =
-    ends_alike courses files input outcome course other (printed_calm course is) (printed_calm other same)
-    (printed_well course is ∙ sym (printed_well other same))
+module _ (courses : Task → Course → Type 0) (course other : Course) where
+  printed_alike : IsPrinted course → IsPrinted other →
+      (files : List File) (input : Option (List ℕ)) (outcome : Option note.Fault) →
+      Comes courses (follows course) files input outcome → Must courses (follows other) files input outcome
+  printed_alike is same files input outcome =
+      ends_alike courses files input outcome course other (printed_calm course is) (printed_calm other same)
+      (printed_well course is ∙ sym (printed_well other same))
 
 -- ---- courses that store images
 module _ (image : List ℕ) where
@@ -91,12 +92,13 @@ module _ (image : List ℕ) where
   stores_well (Keeps other bytes rest) is = stores_well rest is.1
   stores_well (Takes used text rest) is = absurd is
 
-  stores_alike : (courses : Task → Course → Type 0) (course other : Course) → StoresImages image course →
-      StoresImages image other → (files : List File) (input : Option (List ℕ)) (outcome : Option note.Fault) →
-      Comes courses (follows course) files input outcome → Must courses (follows other) files input outcome
-  stores_alike courses course other is same files input outcome =
-      ends_alike courses files input outcome course other (stores_calm course is) (stores_calm other same)
-      (stores_well course is ∙ sym (stores_well other same))
+  module _ (courses : Task → Course → Type 0) (course other : Course) where
+    stores_alike : StoresImages image course → StoresImages image other →
+        (files : List File) (input : Option (List ℕ)) (outcome : Option note.Fault) →
+        Comes courses (follows course) files input outcome → Must courses (follows other) files input outcome
+    stores_alike is same files input outcome =
+        ends_alike courses files input outcome course other (stores_calm course is) (stores_calm other same)
+        (stores_well course is ∙ sym (stores_well other same))
 
 source_printed : (play : Play) (course : Course) → IsSourcePlay play course → IsPrinted course
 source_printed play course is = is.printed

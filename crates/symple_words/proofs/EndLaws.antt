@@ -238,18 +238,18 @@ row_value id (p ∷ given) = go (bytes_eq p.0 id) (row_value id given)
     go false ih = ih
 
 -- what clap has at a name that is no flag is what was read there
-pub right_value : (name : Text) (f : Form) (first : Text) (words : List Text) (given : Given) (id : Text) → IsForm f →
-    given_by f words ≡ Some given → has id f.flags ≡ false
-    → first_of id (matches_of (app_for name f) (first ∷ words)) ≡ value_at id given
-unfolding find_id
-right_value name f first words given id form e other =
-    let w = ended name f words given form e in
-    let at_the_end : matches_of (app_for name f) (first ∷ words) ≡ fold with_default (rows given) (rules f) =
-    rw (filled_rules f form.few) (rw w.walk (rw w.settles.rows refl)) in
-    ap (first_of id) at_the_end
-    ∙ (ap (first_of id) (only_flags f (rows given))
-    ∙ (ap (option_and_then (λ (r : Row). slice_get r.values 0)) (flags_leave id f.flags (rows given) other)
-    ∙ row_value id given))
+module _ (name : Text) (f : Form) (first : Text) (words : List Text) (given : Given) (id : Text) where
+  pub right_value : IsForm f → given_by f words ≡ Some given → has id f.flags ≡ false →
+      first_of id (matches_of (app_for name f) (first ∷ words)) ≡ value_at id given
+  unfolding find_id
+  right_value form e other =
+      let w = ended name f words given form e in
+      let at_the_end : matches_of (app_for name f) (first ∷ words) ≡ fold with_default (rows given) (rules f) =
+      rw (filled_rules f form.few) (rw w.walk (rw w.settles.rows refl)) in
+      ap (first_of id) at_the_end
+      ∙ (ap (first_of id) (only_flags f (rows given))
+      ∙ (ap (option_and_then (λ (r : Row). slice_get r.values 0)) (flags_leave id f.flags (rows given) other)
+      ∙ row_value id given))
 
 -- ---- the flags
 
@@ -337,43 +337,42 @@ flag_there id f (p ∷ given) known e is = go (bytes_eq p.0 id) (λ h. (bytes_eq
         e).1 h
 
 -- what clap has at a flag says whether the flag was read
-pub right_flag : (name : Text) (f : Form) (first : Text) (words : List Text) (given : Given) (id : Text) → IsForm f →
-    given_by f words ≡ Some given → has id f.flags ≡ true
-    → one_of id (matches_of (app_for name f) (first ∷ words)) ≡ Some (flag_text (has_given id given))
-unfolding find_id
-right_flag name f first words given id form e known =
-    let w = ended name f words given form e in
-    let at_the_end : matches_of (app_for name f) (first ∷ words) ≡ fold with_default (rows given) (rules f) =
-    rw (filled_rules f form.few) (rw w.walk (rw w.settles.rows refl)) in
-    ap (one_of id) at_the_end
-    ∙ (ap (one_of id) (only_flags f (rows given)) ∙ go (has_given id given) refl w.flags)
-  where
-    value : (r : Row) (v : Text) → r.values ≡ v ∷ [] → r.reading ≡ reading.AsWritten → row_text r ≡ Some v
-    value r v h how = rw (h, how) refl
-
-    go : (b : Bool) → has_given id given ≡ b → flags_true f given ≡ true →
-        one_of id (fold with_default (rows given) (map flag f.flags)) ≡ Some (flag_text b)
-    go true is all =
-        let r = flag_there id f given known all is in
-        ap (option_and_then row_text) (row_stays id f.flags (rows given) r.0 r.1) ∙ value r.0 (codes "true") r.2 r.3
-    go false is all =
-        let r = flag_absent id f.flags (rows given) known (has_row_given id given ∙ is) in
-        ap (option_and_then row_text) r.1 ∙ value r.0 (codes "false") r.2 r.3
-
--- at a name that the form does not have there is nothing
-pub nothing_there : (name : Text) (f : Form) (first : Text) (words : List Text) (given : Given) (id : Text) →
-    IsForm f → given_by f words ≡ Some given
-    → has id f.positionals ≡ false → has id f.options ≡ false → has id f.flags ≡ false
-    → (one_of id (matches_of (app_for name f) (first ∷ words)) ≡ None) × (has_given id given ≡ false)
-unfolding find_id
-nothing_there name f first words given id form e place option flag =
-    let w = ended name f words given form e in
-    let absent = w.outside id place option flag in
-    let at_the_end : matches_of (app_for name f) (first ∷ words) ≡ fold with_default (rows given) (rules f) =
-    rw (filled_rules f form.few) (rw w.walk (rw w.settles.rows refl)) in (
+module _ (name : Text) (f : Form) (first : Text) (words : List Text) (given : Given) (id : Text) where
+  pub right_flag : IsForm f → given_by f words ≡ Some given → has id f.flags ≡ true →
+      one_of id (matches_of (app_for name f) (first ∷ words)) ≡ Some (flag_text (has_given id given))
+  unfolding find_id
+  right_flag form e known =
+      let w = ended name f words given form e in
+      let at_the_end : matches_of (app_for name f) (first ∷ words) ≡ fold with_default (rows given) (rules f) =
+      rw (filled_rules f form.few) (rw w.walk (rw w.settles.rows refl)) in
       ap (one_of id) at_the_end
-          ∙ (ap (one_of id) (only_flags f (rows given))
-          ∙ ap (option_and_then row_text) (flags_leave id f.flags (rows given) flag
-          ∙ no_row id (rows given) (has_row_given id given ∙ absent))),
-      absent,
-    )
+      ∙ (ap (one_of id) (only_flags f (rows given)) ∙ go (has_given id given) refl w.flags)
+    where
+      value : (r : Row) (v : Text) → r.values ≡ v ∷ [] → r.reading ≡ reading.AsWritten → row_text r ≡ Some v
+      value r v h how = rw (h, how) refl
+
+      go : (b : Bool) → has_given id given ≡ b → flags_true f given ≡ true →
+          one_of id (fold with_default (rows given) (map flag f.flags)) ≡ Some (flag_text b)
+      go true is all =
+          let r = flag_there id f given known all is in
+          ap (option_and_then row_text) (row_stays id f.flags (rows given) r.0 r.1) ∙ value r.0 (codes "true") r.2 r.3
+      go false is all =
+          let r = flag_absent id f.flags (rows given) known (has_row_given id given ∙ is) in
+          ap (option_and_then row_text) r.1 ∙ value r.0 (codes "false") r.2 r.3
+
+  -- at a name that the form does not have there is nothing
+  pub nothing_there : IsForm f → given_by f words ≡ Some given → has id f.positionals ≡ false →
+      has id f.options ≡ false → has id f.flags ≡ false →
+      (one_of id (matches_of (app_for name f) (first ∷ words)) ≡ None) × (has_given id given ≡ false)
+  unfolding find_id
+  nothing_there form e place option flag =
+      let w = ended name f words given form e in
+      let absent = w.outside id place option flag in
+      let at_the_end : matches_of (app_for name f) (first ∷ words) ≡ fold with_default (rows given) (rules f) =
+      rw (filled_rules f form.few) (rw w.walk (rw w.settles.rows refl)) in (
+        ap (one_of id) at_the_end
+            ∙ (ap (one_of id) (only_flags f (rows given))
+            ∙ ap (option_and_then row_text) (flags_leave id f.flags (rows given) flag
+            ∙ no_row id (rows given) (has_row_given id given ∙ absent))),
+        absent,
+      )

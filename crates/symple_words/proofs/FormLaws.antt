@@ -62,16 +62,17 @@ not_among m n ps absent there = go (bytes_eq m n) refl
     go false h = refl
     go true h = absurd (true≢false (sym there ∙ (ap (λ x. has x ps) (sym ((bytes_eq-Decides m n).0 h)) ∙ absent)))
 
-distinct_at : (ps : List Text) (j k : ℕ) (m n : Text) → is_distinct ps ≡ true → j < k → slice_get ps j ≡ Some m →
-    slice_get ps k ≡ Some n → bytes_eq m n ≡ false
-distinct_at [] j k m n d lt a b = absurd (true≢false (ap is_some (sym a)))
-distinct_at (p ∷ ps) zero zero m n d lt a b = absurd (omega arith)
-distinct_at (p ∷ ps) zero (suc k) m n d lt a b =
-    let alone = is_false _ (and_parts (not (has p ps)) (is_distinct ps) d).0 in
-    ap (λ x. bytes_eq x n) (sym (same_some p m a)) ∙ not_among p n ps alone (has_at ps k n b)
-distinct_at (p ∷ ps) (suc j) zero m n d lt a b = absurd (omega arith)
-distinct_at (p ∷ ps) (suc j) (suc k) m n d lt a b = distinct_at ps j k m n
-    (and_parts (not (has p ps)) (is_distinct ps) d).1 (omega arith) a b
+module _ (m n : Text) where
+  distinct_at : (ps : List Text) (j k : ℕ) → is_distinct ps ≡ true → j < k → slice_get ps j ≡ Some m →
+      slice_get ps k ≡ Some n → bytes_eq m n ≡ false
+  distinct_at [] j k d lt a b = absurd (true≢false (ap is_some (sym a)))
+  distinct_at (p ∷ ps) zero zero d lt a b = absurd (omega arith)
+  distinct_at (p ∷ ps) zero (suc k) d lt a b =
+      let alone = is_false _ (and_parts (not (has p ps)) (is_distinct ps) d).0 in
+      ap (λ x. bytes_eq x n) (sym (same_some p m a)) ∙ not_among p n ps alone (has_at ps k n b)
+  distinct_at (p ∷ ps) (suc j) zero d lt a b = absurd (omega arith)
+  distinct_at (p ∷ ps) (suc j) (suc k) d lt a b = distinct_at ps j k
+      (and_parts (not (has p ps)) (is_distinct ps) d).1 (omega arith) a b
 
 -- a list of which no name passes a test
 refused_in : (p : Text → Bool) (n : Text) (xs : List Text) → list_all (λ x. not (p x)) xs ≡ true → p n ≡ true →
@@ -122,7 +123,7 @@ form_from f e =
       );
       places = λ k n h. has_at f.positionals k n h;
       below = λ k n h. below_at f.positionals k n h;
-      apart = λ j k m n lt a b. distinct_at f.positionals j k m n distinct.0 lt a b;
+      apart = λ j k m n lt a b. distinct_at m n f.positionals j k distinct.0 lt a b;
     }
 
 pub forms_right : (v : Verb) → is_form (form_for v) ≡ true
@@ -158,20 +159,20 @@ taken name f words form lt e =
     (from_some _ e)
 
 -- what clap has at a flag that the form has, or may have
-says_flag : (name : Text) (f : Form) (first : Text) (words : List Text) (given : Given) (id : Text) → IsForm f →
-    given_by f words ≡ Some given → has id flag_names ≡ true
-    → unwrap_or (one_of id (matches_of (app_for name f) (first ∷ words))) (codes "false")
-    ≡ flag_text (has_given id given)
-says_flag name f first words given id form e known = go (has id f.flags) refl
-  where
-    go : (b : Bool) → has id f.flags ≡ b →
-        unwrap_or (one_of id (matches_of (app_for name f) (first ∷ words))) (codes "false")
-        ≡ flag_text (has_given id given)
-    go true h = ap (λ o. unwrap_or o (codes "false")) (right_flag name f first words given id form e h)
-    go false h =
-        let alone = form.flag_alone id known in
-        let nothing = nothing_there name f first words given id form e alone.0 alone.1 h in
-        ap (λ o. unwrap_or o (codes "false")) nothing.0 ∙ sym (ap flag_text nothing.1)
+module _ (name : Text) (f : Form) (first : Text) (words : List Text) (given : Given) (id : Text) where
+  says_flag : IsForm f → given_by f words ≡ Some given → has id flag_names ≡ true →
+      unwrap_or (one_of id (matches_of (app_for name f) (first ∷ words))) (codes "false") ≡ flag_text (has_given
+      id given)
+  says_flag form e known = go (has id f.flags) refl
+    where
+      go : (b : Bool) → has id f.flags ≡ b →
+          unwrap_or (one_of id (matches_of (app_for name f) (first ∷ words))) (codes "false")
+          ≡ flag_text (has_given id given)
+      go true h = ap (λ o. unwrap_or o (codes "false")) (right_flag name f first words given id form e h)
+      go false h =
+          let alone = form.flag_alone id known in
+          let nothing = nothing_there name f first words given id form e alone.0 alone.1 h in
+          ap (λ o. unwrap_or o (codes "false")) nothing.0 ∙ sym (ap flag_text nothing.1)
 
 pub reads_as : (name : Text) (f : Form) (words : List (String Global)) (m : ArgMatches) → is_form f ≡ true →
     0 < length words

@@ -125,14 +125,14 @@ run_within None m image line f g e = never line e
 run_within (Some j) None image line f g e = never line e
 run_within (Some j) (Some n) image line f g e = subst IsWithin (same _ line e) (f j refl, g n refl)
 
-record_within : (job : Option PlainJob) (schedule : Option Text) (machines seed : Option ℕ) (lossy : Bool)
-    (line : PlainLine) → Forms job → Machines machines
-    → record_by job schedule machines seed lossy ≡ Some line → IsWithin line
-record_within None s m k lossy line f g e = never line e
-record_within (Some j) None m k lossy line f g e = never line e
-record_within (Some j) (Some s) None k lossy line f g e = never line e
-record_within (Some j) (Some s) (Some n) None lossy line f g e = never line e
-record_within (Some j) (Some s) (Some n) (Some k) lossy line f g e = subst IsWithin (same _ line e) (f j refl, g n refl)
+module _ (lossy : Bool) (line : PlainLine) where
+  record_within : (job : Option PlainJob) (schedule : Option Text) (machines seed : Option ℕ) → Forms job →
+      Machines machines → record_by job schedule machines seed lossy ≡ Some line → IsWithin line
+  record_within None s m k f g e = never line e
+  record_within (Some j) None m k f g e = never line e
+  record_within (Some j) (Some s) None k f g e = never line e
+  record_within (Some j) (Some s) (Some n) None f g e = never line e
+  record_within (Some j) (Some s) (Some n) (Some k) f g e = subst IsWithin (same _ line e) (f j refl, g n refl)
 
 replay_within : (job : Option PlainJob) (schedule : Option Text) (line : PlainLine) → Forms job
     → replay_by job schedule ≡ Some line → IsWithin line
@@ -162,22 +162,23 @@ demo_within None m line g e = never line e
 demo_within (Some k) None line g e = never line e
 demo_within (Some k) (Some n) line g e = subst IsWithin (same _ line e) (g n refl)
 
-split_within : (program graph prefix : Option Text) (form : Option GraphForm) (machines draws : Option ℕ)
-    (line : PlainLine) → ((x : GraphForm) → form ≡ Some x → IsGraphForm x) → Machines machines
-    → split_by program graph prefix form machines draws ≡ Some line → IsWithin line
-split_within None g p form m d line f h e = never line e
-split_within (Some t) None p form m d line f h e = never line e
-split_within (Some t) (Some u) None form m d line f h e = never line e
-split_within (Some t) (Some u) (Some v) None m d line f h e = never line e
-split_within (Some t) (Some u) (Some v) (Some x) None d line f h e = never line e
-split_within (Some t) (Some u) (Some v) (Some x) (Some n) None line f h e = never line e
-split_within (Some t) (Some u) (Some v) (Some x) (Some n) (Some k) line f h e = subst IsWithin (same _ line e)
-    (f x refl, h n refl)
+module _ (line : PlainLine) where
+  split_within : (program graph prefix : Option Text) (form : Option GraphForm) (machines draws : Option ℕ) →
+      ((x : GraphForm) → form ≡ Some x → IsGraphForm x) × Machines machines →
+      split_by program graph prefix form machines draws ≡ Some line → IsWithin line
+  split_within None g p form m d fits e = never line e
+  split_within (Some t) None p form m d fits e = never line e
+  split_within (Some t) (Some u) None form m d fits e = never line e
+  split_within (Some t) (Some u) (Some v) None m d fits e = never line e
+  split_within (Some t) (Some u) (Some v) (Some x) None d fits e = never line e
+  split_within (Some t) (Some u) (Some v) (Some x) (Some n) None fits e = never line e
+  split_within (Some t) (Some u) (Some v) (Some x) (Some n) (Some k) fits e = subst IsWithin (same _ line e)
+      (fits.0 x refl, fits.1 n refl)
 
 -- the line of a command is within the ranges of its numbers
 pub line_within : (v : Verb) (given : Given) (line : PlainLine) → line_from v given ≡ Some line → IsWithin line
 line_within verb.Run given line e = run_within _ _ _ line (job_within given) (are_machines given) e
-line_within verb.Record given line e = record_within _ _ _ _ _ line (job_within given) (are_machines given) e
+line_within verb.Record given line e = record_within _ line _ _ _ _ (job_within given) (are_machines given) e
 line_within verb.Replay given line e = replay_within _ _ line (job_within given) e
 line_within verb.Resume given line e = resume_within _ _ _ line (job_within given) (are_machines given) e
 line_within verb.Show given line e = one_within ShowOf (λ t. tt) _ line e
@@ -185,5 +186,5 @@ line_within verb.Free given line e = one_within FreeOf (λ t. tt) _ line e
 line_within verb.Plan given line e = plan_within _ _ _ line (is_graph_form given) (are_machines given) e
 line_within verb.Demo given line e = demo_within _ _ line (are_machines_or_four given) e
 line_within verb.Renew given line e = two_within RenewOf (λ t u. tt) _ _ line e
-line_within verb.Split given line e = split_within _ _ _ _ _ _ line (is_graph_form given) (are_machines given) e
+line_within verb.Split given line e = split_within line _ _ _ _ _ _ (is_graph_form given, are_machines given) e
 line_within verb.Worker given line e = two_within WorkerOf (λ t u. tt) _ _ line e

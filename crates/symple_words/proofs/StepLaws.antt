@@ -152,72 +152,71 @@ pub record Keeps (name : Text) (f : Form) (s : Stand) (w : Walk) (word : Text) :
   pub stands : Stands f s (walked (rules f) [] w word)
 
 -- `--name=value`
-pub attached : (n : Text) (f : Form) (given : Given) (count : ℕ) (h : Held) (word name value : Text) →
-    Settles f given h → option_of word ≡ Some (name, Some value)
-    → has name f.options ≡ true → has_given name given ≡ false
-    → Keeps n f (record { given = given ++ (name, value) ∷ []; waiting = None; count = count })
-    (walk_at h idle (suc count)) word
-attached n f given count h word name value held is known new =
-    let other = not_dashes_option word _ is in
-    let long : long_of word ≡ Some (name, Some value) = same_option word ∙ is in
-    let found = long_choice f name known in
-    let row : has_row name (rows given) ≡ false = has_row_given name given ∙ new in
-    record {
-      passes = turn_word (shape_for n f) h idle (suc count) word other refl
-          ∙ rw (long, found) (rw (held.passes, held.rows, row) refl);
-      stands = (
-        record { rows = rows (given ++ (name, value) ∷ []); pending = None; skip = 0 },
-        walked_word (rules f) h idle (suc count) word other refl
-            ∙ rw (long, found) (rw (held.rows, held.skip)
-            (ap (λ rs. walk_at (record { rows = rs; pending = None; skip = 0 }) idle (suc count))
-            (rows_with name value given new))),
-        record { rows = refl; skip = refl; passes = refl },
-      );
-    }
+module _ (n : Text) (f : Form) (given : Given) (count : ℕ) (h : Held) (word name value : Text) where
+  pub attached : Settles f given h → option_of word ≡ Some (name, Some value) → has name f.options ≡ true →
+      has_given name given ≡ false →
+      Keeps n f (record { given = given ++ (name, value) ∷ []; waiting = None; count = count }) (walk_at h idle
+      (suc count)) word
+  attached held is known new =
+      let other = not_dashes_option word _ is in
+      let long : long_of word ≡ Some (name, Some value) = same_option word ∙ is in
+      let found = long_choice f name known in
+      let row : has_row name (rows given) ≡ false = has_row_given name given ∙ new in
+      record {
+        passes = turn_word (shape_for n f) h idle (suc count) word other refl
+            ∙ rw (long, found) (rw (held.passes, held.rows, row) refl);
+        stands = (
+          record { rows = rows (given ++ (name, value) ∷ []); pending = None; skip = 0 },
+          walked_word (rules f) h idle (suc count) word other refl
+              ∙ rw (long, found) (rw (held.rows, held.skip)
+              (ap (λ rs. walk_at (record { rows = rs; pending = None; skip = 0 }) idle (suc count))
+              (rows_with name value given new))),
+          record { rows = refl; skip = refl; passes = refl },
+        );
+      }
 
 -- `--name`, whose value is the next word
-pub begun : (n : Text) (f : Form) (given : Given) (count : ℕ) (h : Held) (word name : Text) → Settles f given h →
-    option_of word ≡ Some (name, None)
-    → has name f.options ≡ true → has_given name given ≡ false
-    → Keeps n f (record { given = given; waiting = Some name; count = count }) (walk_at h idle (suc count)) word
-begun n f given count h word name held is known new =
-    let other = not_dashes_option word _ is in
-    let long : long_of word ≡ Some (name, None) = same_option word ∙ is in
-    let found = long_choice f name known in
-    record {
-      passes = turn_word (shape_for n f) h idle (suc count) word other refl
-          ∙ rw (long, found) (rw (held.passes) refl);
-      stands = (
-        walked_word (rules f) h idle (suc count) word other refl
-            ∙ rw (long, found) (rw (held.rows, held.skip) refl),
-        known,
-        new,
-      );
-    }
+module _ (n : Text) (f : Form) (given : Given) (count : ℕ) (h : Held) (word name : Text) where
+  pub begun : Settles f given h → option_of word ≡ Some (name, None) → has name f.options ≡ true →
+      has_given name given ≡ false →
+      Keeps n f (record { given = given; waiting = Some name; count = count }) (walk_at h idle (suc count)) word
+  begun held is known new =
+      let other = not_dashes_option word _ is in
+      let long : long_of word ≡ Some (name, None) = same_option word ∙ is in
+      let found = long_choice f name known in
+      record {
+        passes = turn_word (shape_for n f) h idle (suc count) word other refl
+            ∙ rw (long, found) (rw (held.passes) refl);
+        stands = (
+          walked_word (rules f) h idle (suc count) word other refl
+              ∙ rw (long, found) (rw (held.rows, held.skip) refl),
+          known,
+          new,
+        );
+      }
 
--- `--name`, a flag
-pub flagged : (n : Text) (f : Form) (given : Given) (count : ℕ) (h : Held) (word name : Text) → Settles f given h →
-    option_of word ≡ Some (name, None)
-    → has name f.options ≡ false → has name f.flags ≡ true → has_given name given ≡ false
-    → Keeps n f (record { given = given ++ (name, codes "true") ∷ []; waiting = None; count = count })
-    (walk_at h idle (suc count)) word
-flagged n f given count h word name held is unknown known new =
-    let other = not_dashes_option word _ is in
-    let long : long_of word ≡ Some (name, None) = same_option word ∙ is in
-    let found = long_flag f name unknown known in
-    let row : has_row name (rows given) ≡ false = has_row_given name given ∙ new in
-    record {
-      passes = turn_word (shape_for n f) h idle (suc count) word other refl
-          ∙ rw (long, found) (rw (held.passes, held.rows, row) refl);
-      stands = (
-        record { rows = rows (given ++ (name, codes "true") ∷ []); pending = None; skip = 0 },
-        walked_word (rules f) h idle (suc count) word other refl
-            ∙ rw (long, found) (rw (held.rows, held.skip)
-            (ap (λ rs. walk_at (record { rows = rs; pending = None; skip = 0 }) idle (suc count))
-            (rows_with name (codes "true") given new))),
-        record { rows = refl; skip = refl; passes = refl },
-      );
-    }
+  -- `--name`, a flag
+  pub flagged : Settles f given h → option_of word ≡ Some (name, None) → has name f.options ≡ false →
+      has name f.flags ≡ true → has_given name given ≡ false →
+      Keeps n f (record { given = given ++ (name, codes "true") ∷ []; waiting = None; count = count }) (walk_at
+      h idle (suc count)) word
+  flagged held is unknown known new =
+      let other = not_dashes_option word _ is in
+      let long : long_of word ≡ Some (name, None) = same_option word ∙ is in
+      let found = long_flag f name unknown known in
+      let row : has_row name (rows given) ≡ false = has_row_given name given ∙ new in
+      record {
+        passes = turn_word (shape_for n f) h idle (suc count) word other refl
+            ∙ rw (long, found) (rw (held.passes, held.rows, row) refl);
+        stands = (
+          record { rows = rows (given ++ (name, codes "true") ∷ []); pending = None; skip = 0 },
+          walked_word (rules f) h idle (suc count) word other refl
+              ∙ rw (long, found) (rw (held.rows, held.skip)
+              (ap (λ rs. walk_at (record { rows = rs; pending = None; skip = 0 }) idle (suc count))
+              (rows_with name (codes "true") given new))),
+          record { rows = refl; skip = refl; passes = refl },
+        );
+      }
 
 -- a value that waits to be settled
 pub pending_place : (f : Form) (given : Given) (name word : Text) → has name f.positionals ≡ true →
@@ -248,46 +247,46 @@ same_text : (t : Text) → bytes_eq t t ≡ true
 same_text t = (bytes_eq-Decides t t).1 refl
 
 -- the word behind `--name`
-pub filled_in : (n : Text) (f : Form) (given : Given) (count : ℕ) (word name : Text) → IsForm f → is_plain word ≡ true
-    → has name f.options ≡ true → has_given name given ≡ false
-    → Keeps n f (record { given = given ++ (name, word) ∷ []; waiting = None; count = count })
-    (walk_at (awaiting given name []) (option name) (suc count)) word
-filled_in n f given count word name form plain known new =
-    let p = plain_word word plain in
-    let apart = (form.options name known).0 in
-    let found = id_choice f name apart known in
-    record {
-      passes = turn_word (shape_for n f) (awaiting given name []) (option name) (suc count) word p.dashes refl
-          ∙ rw (p.long, p.short) refl;
-      stands = (
-        awaiting given name (word ∷ []),
-        walked_word (rules f) (awaiting given name []) (option name) (suc count) word p.dashes refl
-            ∙ rw (p.long, p.short) (rw (found, same_text name) refl),
-        pending_choice f given name word apart known new,
-      );
-    }
+module _ (n : Text) (f : Form) (given : Given) (count : ℕ) (word name : Text) where
+  pub filled_in : IsForm f → is_plain word ≡ true → has name f.options ≡ true → has_given name given ≡ false →
+      Keeps n f (record { given = given ++ (name, word) ∷ []; waiting = None; count = count }) (walk_at
+      (awaiting given name []) (option name) (suc count)) word
+  filled_in form plain known new =
+      let p = plain_word word plain in
+      let apart = (form.options name known).0 in
+      let found = id_choice f name apart known in
+      record {
+        passes = turn_word (shape_for n f) (awaiting given name []) (option name) (suc count) word p.dashes refl
+            ∙ rw (p.long, p.short) refl;
+        stands = (
+          awaiting given name (word ∷ []),
+          walked_word (rules f) (awaiting given name []) (option name) (suc count) word p.dashes refl
+              ∙ rw (p.long, p.short) (rw (found, same_text name) refl),
+          pending_choice f given name word apart known new,
+        );
+      }
 
 -- a positional
-pub placed_in : (n : Text) (f : Form) (given : Given) (count : ℕ) (h : Held) (word name : Text) → IsForm f →
-    Settles f given h → is_plain word ≡ true
-    → slice_get f.positionals count ≡ Some name → has_given name given ≡ false
-    → Keeps n f (record { given = given ++ (name, word) ∷ []; waiting = None; count = count + 1 })
-    (walk_at h idle (suc count)) word
-placed_in n f given count h word name form held plain at new =
-    let p = plain_word word plain in
-    let found = index_place f count name at in
-    let small : count < length f.positionals = form.below count name at in
-    let few : length f.positionals < 999 = form.few in
-    let position : min (suc count + 1) usize_max ≡ suc (count + 1) = omega arith in
-    record {
-      passes = turn_word (shape_for n f) h idle (suc count) word p.dashes refl
-          ∙ rw (p.long, p.short) (rw found (rw held.passes (or_right _ true refl)));
-      stands = (
-        awaiting given name (word ∷ []),
-        walked_word (rules f) h idle (suc count) word p.dashes refl
-            ∙ rw (p.long, p.short) (rw found
-            (rw (and_false (Rattle.clap.specs.Walk.is_pending (place (suc count) name) h.pending), position)
-            (rw (held.rows, held.skip) refl))),
-        pending_place f given name word (form.places count name at) new,
-      );
-    }
+module _ (n : Text) (f : Form) (given : Given) (count : ℕ) (h : Held) (word name : Text) where
+  pub placed_in : IsForm f → Settles f given h → is_plain word ≡ true →
+      slice_get f.positionals count ≡ Some name → has_given name given ≡ false →
+      Keeps n f (record { given = given ++ (name, word) ∷ []; waiting = None; count = count + 1 }) (walk_at h
+      idle (suc count)) word
+  placed_in form held plain at new =
+      let p = plain_word word plain in
+      let found = index_place f count name at in
+      let small : count < length f.positionals = form.below count name at in
+      let few : length f.positionals < 999 = form.few in
+      let position : min (suc count + 1) usize_max ≡ suc (count + 1) = omega arith in
+      record {
+        passes = turn_word (shape_for n f) h idle (suc count) word p.dashes refl
+            ∙ rw (p.long, p.short) (rw found (rw held.passes (or_right _ true refl)));
+        stands = (
+          awaiting given name (word ∷ []),
+          walked_word (rules f) h idle (suc count) word p.dashes refl
+              ∙ rw (p.long, p.short) (rw found
+              (rw (and_false (Rattle.clap.specs.Walk.is_pending (place (suc count) name) h.pending), position)
+              (rw (held.rows, held.skip) refl))),
+          pending_place f given name word (form.places count name at) new,
+        );
+      }

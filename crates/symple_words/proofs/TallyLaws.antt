@@ -58,26 +58,26 @@ pub record Reads (f : Form) (t : Tally) (rest : List Text) (whole : Option Stand
   pub tally : tally_of stand ≡ t
   pub same : read_from f stand rest ≡ whole
 
-pub turn : (f : Form) (t u : Tally) (words : List (String Global)) (i : ℕ) (d : String Global) (word : Text)
-    (m : Move) (whole : Option Stand)
-    → Reads f t (words_of (drop i words)) whole → i < length words → d ≡ slice_index_or words i d →
-    word ≡ string_bytes d → Some m ≡ next_move f t word
-    → u ≡ advanced t m → Reads f u (words_of (drop (i + 1) words)) whole
-turn f t u words i d word m whole r lt at is move next = record {
-  stand = moved r.stand m;
-  tally = moved_tally r.stand m ∙ (ap (λ x. advanced x m) r.tally ∙ sym next);
-  same = sym (goes_on f r.stand word (words_of (drop (i + 1) words)) m (ap (λ x. next_move f x word) r.tally
-      ∙ sym move))
-      ∙ (ap (read_from f r.stand) (sym (left_at words i d word lt at is)) ∙ r.same);
-}
+module _ (f : Form) (t u : Tally) (words : List (String Global)) (i : ℕ) (d : String Global) (word : Text)
+    (m : Move) (whole : Option Stand) where
+  pub turn : Reads f t (words_of (drop i words)) whole → i < length words → d ≡ slice_index_or words i d →
+      word ≡ string_bytes d → Some m ≡ next_move f t word → u ≡ advanced t m →
+      Reads f u (words_of (drop (i + 1) words)) whole
+  turn r lt at is move next = record {
+    stand = moved r.stand m;
+    tally = moved_tally r.stand m ∙ (ap (λ x. advanced x m) r.tally ∙ sym next);
+    same = sym (goes_on f r.stand word (words_of (drop (i + 1) words)) m (ap (λ x. next_move f x word) r.tally
+        ∙ sym move))
+        ∙ (ap (read_from f r.stand) (sym (left_at words i d word lt at is)) ∙ r.same);
+  }
 
-pub turn_stops : (f : Form) (t : Tally) (words : List (String Global)) (i : ℕ) (d : String Global) (word : Text)
-    (whole : Option Stand)
-    → Reads f t (words_of (drop i words)) whole → i < length words → d ≡ slice_index_or words i d →
-    word ≡ string_bytes d → None ≡ next_move f t word → whole ≡ None
-turn_stops f t words i d word whole r lt at is move =
-    sym r.same ∙ (ap (read_from f r.stand) (left_at words i d word lt at is)
-    ∙ stops f r.stand word (words_of (drop (i + 1) words)) (ap (λ x. next_move f x word) r.tally ∙ sym move))
+module _ (f : Form) (t : Tally) (words : List (String Global)) (i : ℕ) (d : String Global) (word : Text)
+    (whole : Option Stand) where
+  pub turn_stops : Reads f t (words_of (drop i words)) whole → i < length words → d ≡ slice_index_or words i d →
+      word ≡ string_bytes d → None ≡ next_move f t word → whole ≡ None
+  turn_stops r lt at is move =
+      sym r.same ∙ (ap (read_from f r.stand) (left_at words i d word lt at is)
+      ∙ stops f r.stand word (words_of (drop (i + 1) words)) (ap (λ x. next_move f x word) r.tally ∙ sym move))
 
 pub count_grows : (t u : Tally) (m : Move) (n : ℕ) → u ≡ advanced t m → t.count ≤ n → u.count ≤ n + 1
 count_grows t u m n e le = by_move m (ap (λ (x : Tally). x.count) e)

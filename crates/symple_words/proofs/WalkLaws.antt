@@ -123,69 +123,71 @@ Goes n f w word t = Keeps n f t w word × Sound f t.given t.count
 abbrev stand : Given → ℕ → Option Text → Stand
 stand given count waiting = record { given = given; waiting = waiting; count = count }
 
-by_option : (n : Text) (f : Form) (given : Given) (count : ℕ) (h : Held) (word name : Text) (value : Option Text)
-    (t : Stand) → IsForm f → Settles f given h → Sound f given count
-    → option_of word ≡ Some (name, value)
-    → option_map (moved (stand given count None)) (option_move f (names_of given) name value) ≡ Some t →
-    Goes n f (walk_at h idle (suc count)) word t
-by_option n f given count h word name value t form held sound is e = go (has_given name given) (has name f.options)
-    (has name f.flags) refl refl refl value is e
-  where
-    go : (a b c : Bool) → has_given name given ≡ a → has name f.options ≡ b → has name f.flags ≡ c →
-        (v : Option Text) → option_of word ≡ Some (name, v)
-        → option_map (moved (stand given count None))
-        (cond a None (cond b (valued_move name v) (cond c (flag_move name v) None))) ≡ Some t
-        → Goes n f (walk_at h idle (suc count)) word t
-    go true b c x y z v is e = absurd (true≢false (ap is_some (sym e)))
-    go false true c x y z None is e =
-        subst (λ (u : Stand). Goes n f (walk_at h idle (suc count)) word u) (same_some _ t e)
-        (begun n f given count h word name held is y x, sound)
-    go false true c x y z (Some v) is e =
-        let k = kept_if (is_plain v) (stand given count None) (gives name v) t e in
-        subst (λ (u : Stand). Goes n f (walk_at h idle (suc count)) word u) k.1
-        (attached n f given count h word name v held is y x, more_option f given count name v form sound y)
-    go false false true x y z None is e =
-        subst (λ (u : Stand). Goes n f (walk_at h idle (suc count)) word u) (same_some _ t e)
-        (flagged n f given count h word name held is y z x, more_flag f given count name form sound z)
-    go false false true x y z (Some v) is e = absurd (true≢false (ap is_some (sym e)))
-    go false false false x y z v is e = absurd (true≢false (ap is_some (sym e)))
+module _ (n : Text) (f : Form) (given : Given) (count : ℕ) (h : Held) (word name : Text) (value : Option Text)
+    (t : Stand) where
+  by_option : IsForm f → Settles f given h → Sound f given count → option_of word ≡ Some (name, value) →
+      option_map (moved (stand given count None)) (option_move f (names_of given) name value) ≡ Some t →
+      Goes n f (walk_at h idle (suc count)) word t
+  by_option form held sound is e = go (has_given name given) (has name f.options)
+      (has name f.flags) refl refl refl value is e
+    where
+      go : (a b c : Bool) → has_given name given ≡ a → has name f.options ≡ b → has name f.flags ≡ c →
+          (v : Option Text) → option_of word ≡ Some (name, v)
+          → option_map (moved (stand given count None))
+          (cond a None (cond b (valued_move name v) (cond c (flag_move name v) None))) ≡ Some t
+          → Goes n f (walk_at h idle (suc count)) word t
+      go true b c x y z v is e = absurd (true≢false (ap is_some (sym e)))
+      go false true c x y z None is e =
+          subst (λ (u : Stand). Goes n f (walk_at h idle (suc count)) word u) (same_some _ t e)
+          (begun n f given count h word name held is y x, sound)
+      go false true c x y z (Some v) is e =
+          let k = kept_if (is_plain v) (stand given count None) (gives name v) t e in
+          subst (λ (u : Stand). Goes n f (walk_at h idle (suc count)) word u) k.1
+          (attached n f given count h word name v held is y x, more_option f given count name v form sound y)
+      go false false true x y z None is e =
+          subst (λ (u : Stand). Goes n f (walk_at h idle (suc count)) word u) (same_some _ t e)
+          (flagged n f given count h word name held is y z x, more_flag f given count name form sound z)
+      go false false true x y z (Some v) is e = absurd (true≢false (ap is_some (sym e)))
+      go false false false x y z v is e = absurd (true≢false (ap is_some (sym e)))
 
-by_place : (n : Text) (f : Form) (given : Given) (count : ℕ) (h : Held) (word : Text) (t : Stand) → IsForm f →
-    Settles f given h → Sound f given count
-    → option_map (moved (stand given count None)) (place_move f count word) ≡ Some t →
-    Goes n f (walk_at h idle (suc count)) word t
-by_place n f given count h word t form held sound e = go (is_plain word) (slice_get f.positionals count) refl refl e
-  where
-    go : (b : Bool) (o : Option Text) → is_plain word ≡ b → slice_get f.positionals count ≡ o
-        → option_map (moved (stand given count None)) (cond b (option_map (λ name. places name word) o) None) ≡ Some t
-        → Goes n f (walk_at h idle (suc count)) word t
-    go false o x y e = absurd (true≢false (ap is_some (sym e)))
-    go true None x y e = absurd (true≢false (ap is_some (sym e)))
-    go true (Some name) x y e =
-        subst (λ (u : Stand). Goes n f (walk_at h idle (suc count)) word u) (same_some _ t e) (
-          placed_in n f given count h word name form held x y (sound.fresh count name (omega arith) y),
-          more_place f given count name word form sound y,
-        )
+module _ (n : Text) (f : Form) (given : Given) (count : ℕ) (h : Held) (word : Text) (t : Stand) where
+  by_place : IsForm f → Settles f given h → Sound f given count →
+      option_map (moved (stand given count None)) (place_move f count word) ≡ Some t →
+      Goes n f (walk_at h idle (suc count)) word t
+  by_place form held sound e = go (is_plain word) (slice_get f.positionals count) refl refl e
+    where
+      go : (b : Bool) (o : Option Text) → is_plain word ≡ b → slice_get f.positionals count ≡ o
+          → option_map (moved (stand given count None)) (cond b (option_map (λ name. places name word) o) None) ≡
+          Some t
+          → Goes n f (walk_at h idle (suc count)) word t
+      go false o x y e = absurd (true≢false (ap is_some (sym e)))
+      go true None x y e = absurd (true≢false (ap is_some (sym e)))
+      go true (Some name) x y e =
+          subst (λ (u : Stand). Goes n f (walk_at h idle (suc count)) word u) (same_some _ t e) (
+            placed_in n f given count h word name form held x y (sound.fresh count name (omega arith) y),
+            more_place f given count name word form sound y,
+          )
 
-one_word : (n : Text) (f : Form) (given : Given) (count : ℕ) (waiting : Option Text) (w : Walk) (word : Text)
-    (t : Stand) → IsForm f → StandsBy f given count w waiting → Sound f given count
-    → option_map (moved (stand given count waiting)) (move_of f (names_of given) waiting count word) ≡ Some t →
-    Goes n f w word t
-one_word n f given count (Some name) w word t form stands sound e =
-    let k = kept_if (is_plain word) (stand given count (Some name)) (gives name word) t e in
-    subst (λ v. Goes n f v word t) (sym stands.0)
-    (subst (λ (u : Stand). Goes n f (walk_at (awaiting given name []) (option name) (suc count)) word u) k.1 (
-      filled_in n f given count word name form k.0 stands.1 stands.2,
-      more_option f given count name word form sound stands.1,
-    ))
-one_word n f given count None w word t form stands sound e =
-    subst (λ v. Goes n f v word t) (sym stands.1) (go (option_of word) refl e)
-  where
-    go : (o : Option (Text × Option Text)) → option_of word ≡ o →
-        option_map (moved (stand given count None)) (fresh_move f (names_of given) count word o) ≡ Some t →
-        Goes n f (walk_at stands.0 idle (suc count)) word t
-    go (Some p) is e = by_option n f given count stands.0 word p.0 p.1 t form stands.2 sound is e
-    go None is e = by_place n f given count stands.0 word t form stands.2 sound e
+module _ (n : Text) (f : Form) (given : Given) (count : ℕ) where
+  one_word : (waiting : Option Text) (w : Walk) (word : Text) (t : Stand) → IsForm f →
+      StandsBy f given count w waiting → Sound f given count →
+      option_map (moved (stand given count waiting)) (move_of f (names_of given) waiting count word) ≡ Some t →
+      Goes n f w word t
+  one_word (Some name) w word t form stands sound e =
+      let k = kept_if (is_plain word) (stand given count (Some name)) (gives name word) t e in
+      subst (λ v. Goes n f v word t) (sym stands.0)
+      (subst (λ (u : Stand). Goes n f (walk_at (awaiting given name []) (option name) (suc count)) word u) k.1 (
+        filled_in n f given count word name form k.0 stands.1 stands.2,
+        more_option f given count name word form sound stands.1,
+      ))
+  one_word None w word t form stands sound e =
+      subst (λ v. Goes n f v word t) (sym stands.1) (go (option_of word) refl e)
+    where
+      go : (o : Option (Text × Option Text)) → option_of word ≡ o →
+          option_map (moved (stand given count None)) (fresh_move f (names_of given) count word o) ≡ Some t →
+          Goes n f (walk_at stands.0 idle (suc count)) word t
+      go (Some p) is e = by_option n f given count stands.0 word p.0 p.1 t form stands.2 sound is e
+      go None is e = by_place n f given count stands.0 word t form stands.2 sound e
 
 -- ---- all the words
 
@@ -194,29 +196,29 @@ pub record Walks (n : Text) (f : Form) (w : Walk) (words : List Text) (t : Stand
   pub stands : Stands f t (fold (walked (rules f) []) w words)
   pub sound : Sound f t.given t.count
 
-pub all_words : (n : Text) (f : Form) (words : List Text) (s : Stand) (w : Walk) (t : Stand) → IsForm f →
-    Stands f s w → Sound f s.given s.count
-    → read_from f s words ≡ Some t → Walks n f w words t
-unfolding read_from walk_passes
-all_words n f [] s w t form stands sound e =
-    let same = same_some s t e in
-    record {
-      passes = refl;
-      stands = subst (λ (u : Stand). Stands f u w) same stands;
-      sound = subst (λ (u : Stand). Sound f u.given u.count) same sound;
-    }
-all_words n f (word ∷ rest) s w t form stands sound e = go (step f s word) refl e (λ u v st so h.
-    all_words n f rest u v t form st so h)
-  where
-    go : (o : Option Stand) → step f s word ≡ o → option_and_then (λ u. read_from f u rest) o ≡ Some t
-        → ((u : Stand) (v : Walk) → Stands f u v → Sound f u.given u.count → read_from f u rest ≡ Some t →
-        Walks n f v rest t) → Walks n f w (word ∷ rest) t
-    go None is e later = absurd (true≢false (ap is_some (sym e)))
-    go (Some u) is e later =
-        let one = one_word n f s.given s.count s.waiting w word u form stands sound is in
-        let more = later u (walked (rules f) [] w word) one.0.stands one.1 e in
-        record {
-          passes = ap₂ (λ x y. x && y) one.0.passes more.passes;
-          stands = more.stands;
-          sound = more.sound;
-        }
+module _ (n : Text) (f : Form) where
+  pub all_words : (words : List Text) (s : Stand) (w : Walk) (t : Stand) → IsForm f → Stands f s w →
+      Sound f s.given s.count → read_from f s words ≡ Some t → Walks n f w words t
+  unfolding read_from walk_passes
+  all_words [] s w t form stands sound e =
+      let same = same_some s t e in
+      record {
+        passes = refl;
+        stands = subst (λ (u : Stand). Stands f u w) same stands;
+        sound = subst (λ (u : Stand). Sound f u.given u.count) same sound;
+      }
+  all_words (word ∷ rest) s w t form stands sound e = go (step f s word) refl e (λ u v st so h.
+      all_words rest u v t form st so h)
+    where
+      go : (o : Option Stand) → step f s word ≡ o → option_and_then (λ u. read_from f u rest) o ≡ Some t
+          → ((u : Stand) (v : Walk) → Stands f u v → Sound f u.given u.count → read_from f u rest ≡ Some t →
+          Walks n f v rest t) → Walks n f w (word ∷ rest) t
+      go None is e later = absurd (true≢false (ap is_some (sym e)))
+      go (Some u) is e later =
+          let one = one_word n f s.given s.count s.waiting w word u form stands sound is in
+          let more = later u (walked (rules f) [] w word) one.0.stands one.1 e in
+          record {
+            passes = ap₂ (λ x y. x && y) one.0.passes more.passes;
+            stands = more.stands;
+            sound = more.sound;
+          }

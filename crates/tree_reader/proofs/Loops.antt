@@ -76,22 +76,23 @@ module _ {A : Type 0} (f : Kind → Bool) (p : Parser A) where
   unfolding many
   many_starts ts = record { bound = length ts; enough = omega arith; read = starts (many_from f p (length ts) ts) }
 
-  pub many_goes_on : (front : List A) (ts all after : List Placed) (y : A) → IsMany f p front ts all →
-      begins f ts ≡ true → p ts ≡ Ok (y, after) → length after + 1 ≤ length ts → IsMany f p (front ++ y ∷ []) after all
-  unfolding many_from
-  many_goes_on front ts all after y m b h less = go m.bound m.enough m.read
-    where
-      go : (n : ℕ) → length ts ≤ n → with_front front (many_from f p n ts) ≡ many f p all →
-          IsMany f p (front ++ y ∷ []) after all
-      go zero en g = absurd (let l = begun f ts b in omega arith)
-      go (suc n) en g =
-          let one : many_from f p (suc n) ts ≡ in_front y (many_from f p n after) = rw (b, h) refl in
-          record {
-            bound = n;
-            enough = omega arith;
-            read = sym (regroup front y (many_from f p n after))
-                ∙ ap (with_front front) (sym one) ∙ g;
-          }
+  module _ (front : List A) (ts all after : List Placed) (y : A) where
+    pub many_goes_on : IsMany f p front ts all → begins f ts ≡ true → p ts ≡ Ok (y, after) →
+        length after + 1 ≤ length ts → IsMany f p (front ++ y ∷ []) after all
+    unfolding many_from
+    many_goes_on m b h less = go m.bound m.enough m.read
+      where
+        go : (n : ℕ) → length ts ≤ n → with_front front (many_from f p n ts) ≡ many f p all →
+            IsMany f p (front ++ y ∷ []) after all
+        go zero en g = absurd (let l = begun f ts b in omega arith)
+        go (suc n) en g =
+            let one : many_from f p (suc n) ts ≡ in_front y (many_from f p n after) = rw (b, h) refl in
+            record {
+              bound = n;
+              enough = omega arith;
+              read = sym (regroup front y (many_from f p n after))
+                  ∙ ap (with_front front) (sym one) ∙ g;
+            }
 
   pub many_fails : (names : List (String Global)) (front : List A) (ts all : List Placed) (e : Halt) →
       IsMany f p front ts all → begins f ts ≡ true → Fails names e (p ts) → Fails names e (many f p all)

@@ -93,16 +93,17 @@ pub layer_fails : (names : Names) (room k : ℕ) (e : Halt) (ts : List Placed) �
     Fails names e (tree_at (room + 1) (k - 1) ts) → Fails names e (tree_at (room + 1) k ts)
 layer_fails names room k e ts lt le h = rw layer_pred (fails_then names e (tree_at (room + 1) (k - 1) ts) _ h)
 
-pub chain_starts : (room k : ℕ) (ts rest : List Placed) (left : Tree) (d : ℕ) → 0 < k → k ≤ 5 →
-    tree_at (room + 1) (k - 1) ts ≡ Ok (left, rest) → d ≡ depth left → d ≤ room + 1 → IsChain room k ts left d rest
-chain_starts room k ts r left d lt le h is fits = record {
-  depth_is = is;
-  fits = fits;
-  layered = lt;
-  turns = room;
-  enough = (let p = depth_pos left in omega arith);
-  goes = layer_pred room k ts lt le ∙ rw h refl;
-}
+module _ (room k : ℕ) (ts r : List Placed) (left : Tree) (d : ℕ) where
+  pub chain_starts : 0 < k → k ≤ 5 → tree_at (room + 1) (k - 1) ts ≡ Ok (left, r) → d ≡ depth left →
+      d ≤ room + 1 → IsChain room k ts left d r
+  chain_starts lt le h is fits = record {
+    depth_is = is;
+    fits = fits;
+    layered = lt;
+    turns = room;
+    enough = (let p = depth_pos left in omega arith);
+    goes = layer_pred room k ts lt le ∙ rw h refl;
+  }
 
 chain_stops : (room k f : ℕ) (below : Parser Tree) (left : Tree) (r : List Placed) → k ≤ 4 →
     (layer_ahead r ≡ suc k → ⊥) → chain room (suc k) below f left r ≡ Ok (left, r)
@@ -114,59 +115,62 @@ chain_stops room k zero below left (t ∷ ts) le h = let p : eqb (layer t.kind) 
 chain_stops room k (suc f) below left (t ∷ ts) le h = let p : eqb (layer t.kind) (suc k) ≡ false = ne_eqb _ _ h in
     rw p refl
 
-pub chain_done : (room k : ℕ) (ts r : List Placed) (left : Tree) (d : ℕ) → IsChain room k ts left d r → k ≤ 5 →
-    (layer_ahead r ≡ k → ⊥) → tree_at (room + 1) k ts ≡ Ok (left, r)
-chain_done room zero ts r left d c le n = absurd (let p = c.layered in omega arith)
-chain_done room (suc k) ts r left d c le n = c.goes ∙ chain_stops room k c.turns (tree_at room k) left r (omega arith) n
+module _ (room : ℕ) where
+  pub chain_done : (k : ℕ) (ts r : List Placed) (left : Tree) (d : ℕ) → IsChain room k ts left d r → k ≤ 5 →
+      (layer_ahead r ≡ k → ⊥) → tree_at (room + 1) k ts ≡ Ok (left, r)
+  chain_done zero ts r left d c le n = absurd (let p = c.layered in omega arith)
+  chain_done (suc k) ts r left d c le n = c.goes ∙ chain_stops room k c.turns (tree_at room k) left r (omega arith) n
 
-pub chain_refuses_second : (room k : ℕ) (ts r : List Placed) (left : Tree) (d : ℕ) → IsChain room k ts left d r →
-    k ≤ 5 → layer_ahead r ≡ k → (eqb k 3 && is_comparison left) ≡ true → tree_at (room + 1) k ts ≡ stop Unexpected r
-chain_refuses_second room zero ts r left d c le h t = absurd (let p = c.layered in omega arith)
-chain_refuses_second room (suc k) ts [] left d c le h t = absurd (omega arith)
-chain_refuses_second room (suc k) ts (x ∷ r) left d c le h t =
-    c.goes ∙ chain_twice room k c.turns (tree_at room k) left x r h t
+module _ (room : ℕ) (ts : List Placed) (left : Tree) (d : ℕ) where
+  pub chain_refuses_second : (k : ℕ) (r : List Placed) → IsChain room k ts left d r → k ≤ 5 →
+      layer_ahead r ≡ k → (eqb k 3 && is_comparison left) ≡ true → tree_at (room + 1) k ts ≡ stop Unexpected r
+  chain_refuses_second zero r c le h t = absurd (let p = c.layered in omega arith)
+  chain_refuses_second (suc k) [] c le h t = absurd (omega arith)
+  chain_refuses_second (suc k) (x ∷ r) c le h t =
+      c.goes ∙ chain_twice room k c.turns (tree_at room k) left x r h t
 
-pub chain_too_deep : (room k : ℕ) (ts r : List Placed) (left : Tree) (d : ℕ) → IsChain room k ts left d r → k ≤ 5 →
-    layer_ahead r ≡ k → (eqb k 3 && is_comparison left) ≡ false → room < d → tree_at (room + 1) k ts ≡ stop TooDeep r
-chain_too_deep room zero ts r left d c le h t q = absurd (let p = c.layered in omega arith)
-chain_too_deep room (suc k) ts [] left d c le h t q = absurd (omega arith)
-chain_too_deep room (suc k) ts (x ∷ r) left d c le h t q =
-    c.goes ∙ chain_deep room k c.turns (tree_at room k) left x r h t (let p = c.depth_is in omega arith)
+  pub chain_too_deep : (k : ℕ) (r : List Placed) → IsChain room k ts left d r → k ≤ 5 → layer_ahead r ≡ k →
+      (eqb k 3 && is_comparison left) ≡ false → room < d → tree_at (room + 1) k ts ≡ stop TooDeep r
+  chain_too_deep zero r c le h t q = absurd (let p = c.layered in omega arith)
+  chain_too_deep (suc k) [] c le h t q = absurd (omega arith)
+  chain_too_deep (suc k) (x ∷ r) c le h t q =
+      c.goes ∙ chain_deep room k c.turns (tree_at room k) left x r h t (let p = c.depth_is in omega arith)
 
-pub chain_operand_fails : (names : Names) (room k : ℕ) (ts r : List Placed) (left : Tree) (d : ℕ) (e : Halt) →
-    IsChain room k ts left d r → k ≤ 5 → layer_ahead r ≡ k → (eqb k 3 && is_comparison left) ≡ false → d ≤ room
-    → Fails names e (tree_at room (k - 1) (rest r)) → Fails names e (tree_at (room + 1) k ts)
-chain_operand_fails names room k ts r left d halts.Memory c le h t q f = tt
-chain_operand_fails names room zero ts r left d (halts.Fault w l) c le h t q f = absurd (let p = c.layered in
-    omega arith)
-chain_operand_fails names room (suc k) ts [] left d (halts.Fault w l) c le h t q f = absurd (omega arith)
-chain_operand_fails names room (suc k) ts (x ∷ r) left d (halts.Fault w l) c le h t q f =
-    let s : Stop = record { why = plain_why w; rest = plain names l.now } in
-    let g : tree_at room k r ≡ Err s = rw sub-one at f in
-    c.goes ∙ chain_inside room k c.turns (tree_at room k) left x r s h t (let p = c.depth_is in omega arith) g
+module _ (names : Names) (room : ℕ) (ts : List Placed) (left : Tree) (d : ℕ) (q : d ≤ room) where
+  pub chain_operand_fails : (k : ℕ) (r : List Placed) (e : Halt) → IsChain room k ts left d r → k ≤ 5 →
+      layer_ahead r ≡ k → (eqb k 3 && is_comparison left) ≡ false →
+      Fails names e (tree_at room (k - 1) (rest r)) → Fails names e (tree_at (room + 1) k ts)
+  chain_operand_fails k r halts.Memory c le h t f = tt
+  chain_operand_fails zero r (halts.Fault w l) c le h t f = absurd (let p = c.layered in
+      omega arith)
+  chain_operand_fails (suc k) [] (halts.Fault w l) c le h t f = absurd (omega arith)
+  chain_operand_fails (suc k) (x ∷ r) (halts.Fault w l) c le h t f =
+      let s : Stop = record { why = plain_why w; rest = plain names l.now } in
+      let g : tree_at room k r ≡ Err s = rw sub-one at f in
+      c.goes ∙ chain_inside room k (tree_at room k) left x r s c.turns h t (let p = c.depth_is in omega arith) g
 
-pub chain_goes_on : (room k : ℕ) (ts r : List Placed) (left : Tree) (d : ℕ) (right : Tree) (dr : ℕ)
-    (after : List Placed) → IsChain room k ts left d r → k ≤ 5 → layer_ahead r ≡ k →
-    (eqb k 3 && is_comparison left) ≡ false → d ≤ room
-    → tree_at room (k - 1) (rest r) ≡ Ok (right, after) → dr ≡ depth right → dr ≤ room →
-    IsChain room k ts (Pair (start left) (operator (kind r)) left right) (1 + max d dr) after
-chain_goes_on room zero ts r left d right dr after c le h t q f is fits = absurd (let p = c.layered in omega arith)
-chain_goes_on room (suc k) ts [] left d right dr after c le h t q f is fits = absurd (omega arith)
-chain_goes_on room (suc k) ts (x ∷ r) left d right dr after c le h t q f is fits = go c.turns c.enough c.goes
-  where
-    go : (turns : ℕ) → room < turns + depth left →
-        tree_at (room + 1) (suc k) ts ≡ chain room (suc k) (tree_at room k) turns left (x ∷ r) →
-        IsChain room (suc k) ts (Pair (start left) (operator x.kind) left right) (1 + max d dr) after
-    go zero en g = absurd (let p = c.depth_is in omega arith)
-    go (suc n) en g = record {
-      depth_is = (let p = c.depth_is in omega arith);
-      fits = omega arith;
-      layered = omega arith;
-      turns = n;
-      enough = omega arith;
-      goes = g ∙ chain_turn room k n (tree_at room k) left right x r after h t (let p = c.depth_is in omega arith)
-          (rw sub-one at f);
-    }
+module _ (room : ℕ) (ts : List Placed) (left : Tree) (d : ℕ) (right : Tree) (dr : ℕ) (after : List Placed)
+    (q : d ≤ room) (is : dr ≡ depth right) where
+  pub chain_goes_on : (k : ℕ) (r : List Placed) → IsChain room k ts left d r → k ≤ 5 → layer_ahead r ≡ k →
+      (eqb k 3 && is_comparison left) ≡ false → tree_at room (k - 1) (rest r) ≡ Ok (right, after) → dr ≤ room →
+      IsChain room k ts (Pair (start left) (operator (kind r)) left right) (1 + max d dr) after
+  chain_goes_on zero r c le h t f fits = absurd (let p = c.layered in omega arith)
+  chain_goes_on (suc k) [] c le h t f fits = absurd (omega arith)
+  chain_goes_on (suc k) (x ∷ r) c le h t f fits = go c.turns c.enough c.goes
+    where
+      go : (turns : ℕ) → room < turns + depth left →
+          tree_at (room + 1) (suc k) ts ≡ chain room (suc k) (tree_at room k) turns left (x ∷ r) →
+          IsChain room (suc k) ts (Pair (start left) (operator x.kind) left right) (1 + max d dr) after
+      go zero en g = absurd (let p = c.depth_is in omega arith)
+      go (suc n) en g = record {
+        depth_is = (let p = c.depth_is in omega arith);
+        fits = omega arith;
+        layered = omega arith;
+        turns = n;
+        enough = omega arith;
+        goes = g ∙ chain_turn room k n (tree_at room k) left right x r after h t (let p = c.depth_is in omega arith)
+            (rw sub-one at f);
+      }
 
 -- ---- a conditional: its test was read, and a question mark follows
 choice_is : (room : ℕ) (ts r : List Placed) (c : Tree) → tree_at (room + 1) 5 ts ≡ Ok (c, r) →
@@ -176,42 +180,46 @@ choice_is : (room : ℕ) (ts r : List Placed) (c : Tree) → tree_at (room + 1) 
 unfolding choice
 choice_is room ts r c h q d = choice_step room ts ∙ (let n = le-ltb room (depth c) d in rw (h, q, n) refl)
 
-pub choice_first_fails : (names : Names) (room : ℕ) (e : Halt) (ts r : List Placed) (c : Tree) →
-    tree_at (room + 1) 5 ts ≡ Ok (c, r) → begins (is_mark mark.QUESTION) r ≡ true → depth c ≤ room → 0 < room
-    → Fails names e (tree_at (room - 1 + 1) 6 (rest r)) → Fails names e (tree_at (room + 1) 6 ts)
-choice_first_fails names room halts.Memory ts r c h q d pos f = tt
-choice_first_fails names room (halts.Fault w l) ts r c h q d pos f =
-    let a = again room 6 pos in
-    let g : tree_at room 6 (rest r) ≡ Err (record { why = plain_why w; rest = plain names l.now }) = rw a at f in
-    choice_is room ts r c h q d ∙ rw g refl
+module _ (names : Names) (room : ℕ) (ts r : List Placed) (c : Tree) where
+  pub choice_first_fails : (e : Halt) → tree_at (room + 1) 5 ts ≡ Ok (c, r) →
+      begins (is_mark mark.QUESTION) r ≡ true → depth c ≤ room → 0 < room →
+      Fails names e (tree_at (room - 1 + 1) 6 (rest r)) → Fails names e (tree_at (room + 1) 6 ts)
+  choice_first_fails halts.Memory h q d pos f = tt
+  choice_first_fails (halts.Fault w l) h q d pos f =
+      let a = again room 6 pos in
+      let g : tree_at room 6 (rest r) ≡ Err (record { why = plain_why w; rest = plain names l.now }) = rw a at f in
+      choice_is room ts r c h q d ∙ rw g refl
 
-pub choice_mark_fails : (names : Names) (room : ℕ) (e : Halt) (ts r r2 : List Placed) (c x : Tree) →
-    tree_at (room + 1) 5 ts ≡ Ok (c, r) → begins (is_mark mark.QUESTION) r ≡ true → depth c ≤ room → 0 < room
-    → tree_at (room - 1 + 1) 6 (rest r) ≡ Ok (x, r2) → Fails names e (the_mark mark.COLON r2) →
-    Fails names e (tree_at (room + 1) 6 ts)
-choice_mark_fails names room halts.Memory ts r r2 c x h q d pos h2 f = tt
-choice_mark_fails names room (halts.Fault w l) ts r r2 c x h q d pos h2 f =
-    let a = again room 6 pos in
-    let g2 : tree_at room 6 (rest r) ≡ Ok (x, r2) = rw a at h2 in
-    choice_is room ts r c h q d ∙ rw (g2, f) refl
+module _ (names : Names) (room : ℕ) (ts r r2 : List Placed) (c x : Tree) where
+  pub choice_mark_fails : (e : Halt) → tree_at (room + 1) 5 ts ≡ Ok (c, r) →
+      begins (is_mark mark.QUESTION) r ≡ true → depth c ≤ room → 0 < room →
+      tree_at (room - 1 + 1) 6 (rest r) ≡ Ok (x, r2) → Fails names e (the_mark mark.COLON r2) →
+      Fails names e (tree_at (room + 1) 6 ts)
+  choice_mark_fails halts.Memory h q d pos h2 f = tt
+  choice_mark_fails (halts.Fault w l) h q d pos h2 f =
+      let a = again room 6 pos in
+      let g2 : tree_at room 6 (rest r) ≡ Ok (x, r2) = rw a at h2 in
+      choice_is room ts r c h q d ∙ rw (g2, f) refl
 
-pub choice_second_fails : (names : Names) (room : ℕ) (e : Halt) (ts r r2 r3 : List Placed) (c x : Tree) (o : Span) →
-    tree_at (room + 1) 5 ts ≡ Ok (c, r) → begins (is_mark mark.QUESTION) r ≡ true → depth c ≤ room → 0 < room
-    → tree_at (room - 1 + 1) 6 (rest r) ≡ Ok (x, r2) → the_mark mark.COLON r2 ≡ Ok (o, r3) →
+pub choice_second_fails :
+    (names : Names) (room : ℕ) (ts r r2 r3 : List Placed) (c x : Tree) (o : Span) (e : Halt) →
+    tree_at (room + 1) 5 ts ≡ Ok (c, r) → begins (is_mark mark.QUESTION) r ≡ true → depth c ≤ room → 0 < room →
+    tree_at (room - 1 + 1) 6 (rest r) ≡ Ok (x, r2) → the_mark mark.COLON r2 ≡ Ok (o, r3) →
     Fails names e (tree_at (room - 1 + 1) 6 r3) → Fails names e (tree_at (room + 1) 6 ts)
-choice_second_fails names room halts.Memory ts r r2 r3 c x o h q d pos h2 h3 f = tt
-choice_second_fails names room (halts.Fault w l) ts r r2 r3 c x o h q d pos h2 h3 f =
+choice_second_fails names room ts r r2 r3 c x o halts.Memory h q d pos h2 h3 f = tt
+choice_second_fails names room ts r r2 r3 c x o (halts.Fault w l) h q d pos h2 h3 f =
     let a = again room 6 pos in
     let g2 : tree_at room 6 (rest r) ≡ Ok (x, r2) = rw a at h2 in
     let g3 : tree_at room 6 r3 ≡ Err (record { why = plain_why w; rest = plain names l.now }) = rw a at f in
     choice_is room ts r c h q d ∙ rw (g2, h3, g3) refl
 
-pub choice_read : (room : ℕ) (ts r r2 r3 r4 : List Placed) (c x y : Tree) (o : Span) →
-    tree_at (room + 1) 5 ts ≡ Ok (c, r) → begins (is_mark mark.QUESTION) r ≡ true → depth c ≤ room → 0 < room
-    → tree_at (room - 1 + 1) 6 (rest r) ≡ Ok (x, r2) → the_mark mark.COLON r2 ≡ Ok (o, r3) →
-    tree_at (room - 1 + 1) 6 r3 ≡ Ok (y, r4) → tree_at (room + 1) 6 ts ≡ Ok (Choice (start c) c x y, r4)
-choice_read room ts r r2 r3 r4 c x y o h q d pos h2 h3 h4 =
-    let a = again room 6 pos in
-    let g2 : tree_at room 6 (rest r) ≡ Ok (x, r2) = rw a at h2 in
-    let g3 : tree_at room 6 r3 ≡ Ok (y, r4) = rw a at h4 in
-    choice_is room ts r c h q d ∙ rw (g2, h3, g3) refl
+module _ (room : ℕ) (ts r r2 r3 r4 : List Placed) (c x y : Tree) (o : Span) where
+  pub choice_read : tree_at (room + 1) 5 ts ≡ Ok (c, r) → begins (is_mark mark.QUESTION) r ≡ true →
+      depth c ≤ room → 0 < room → tree_at (room - 1 + 1) 6 (rest r) ≡ Ok (x, r2) →
+      the_mark mark.COLON r2 ≡ Ok (o, r3) → tree_at (room - 1 + 1) 6 r3 ≡ Ok (y, r4) →
+      tree_at (room + 1) 6 ts ≡ Ok (Choice (start c) c x y, r4)
+  choice_read h q d pos h2 h3 h4 =
+      let a = again room 6 pos in
+      let g2 : tree_at room 6 (rest r) ≡ Ok (x, r2) = rw a at h2 in
+      let g3 : tree_at room 6 r3 ≡ Ok (y, r4) = rw a at h4 in
+      choice_is room ts r c h q d ∙ rw (g2, h3, g3) refl

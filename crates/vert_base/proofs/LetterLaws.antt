@@ -21,10 +21,11 @@ behind_along x y (m ∷ ms) e all = (
 )
 
 -- the order stays
-behind_step : (x : Name) (m y : Letter) (ys rest : List Letter) (b : Bool) → is_before x m.name ≡ true →
-    Behind x (y ∷ ys) → Behind x rest → Behind x (if b then y ∷ rest else m ∷ y ∷ ys)
-behind_step x m y ys rest true e all more = (all.0, more)
-behind_step x m y ys rest false e all more = (e, all)
+module _ (x : Name) (m y : Letter) (ys rest : List Letter) where
+  behind_step : (b : Bool) → is_before x m.name ≡ true → Behind x (y ∷ ys) → Behind x rest →
+      Behind x (if b then y ∷ rest else m ∷ y ∷ ys)
+  behind_step true e all more = (all.0, more)
+  behind_step false e all more = (e, all)
 
 behind_placed : (x : Name) (m : Letter) (ms : List Letter) → is_before x m.name ≡ true → Behind x ms →
     Behind x (placed m ms)
@@ -291,14 +292,14 @@ heads m n ms ns up vp e f = go (same_name n.name m.name) refl
         absurd cc
 
 -- what a name has behind the first message
-tail_step : (x : Name) (m : Letter) (ms ns : List Letter) (b : Bool) → same_name m.name x ≡ b → Ascends (m ∷ ms) →
-    Ascends (m ∷ ns) →
-    (if b then Some m else found x ms) ≡ (if b then Some m else found x ns) → found x ms ≡ found x ns
-tail_step x m ms ns true same up vp e =
-    let is : m.name ≡ x = names_law m.name x same in
-    (none_behind x ms (subst (λ n. Behind n ms) is up.0)).missing
-    ∙ sym (none_behind x ns (subst (λ n. Behind n ns) is vp.0)).missing
-tail_step x m ms ns false other up vp e = e
+module _ (x : Name) (m : Letter) (ms ns : List Letter) where
+  tail_step : (b : Bool) → same_name m.name x ≡ b → Ascends (m ∷ ms) → Ascends (m ∷ ns) →
+      (if b then Some m else found x ms) ≡ (if b then Some m else found x ns) → found x ms ≡ found x ns
+  tail_step true same up vp e =
+      let is : m.name ≡ x = names_law m.name x same in
+      (none_behind x ms (subst (λ n. Behind n ms) is up.0)).missing
+      ∙ sym (none_behind x ns (subst (λ n. Behind n ns) is vp.0)).missing
+  tail_step false other up vp e = e
 
 pub same_law : SameLetters
 same_law [] [] up vp e = refl

@@ -24,12 +24,13 @@ total_step x y true s false f e g = grind arith
 total_step x y false true false f e g = grind arith
 total_step x y false false false f e g = grind arith
 
-along_step : (x y z : ℕ) (r s t : Bool) → (r ≡ true → s ≡ true → t ≡ true) → (nat_lt x y || (x == y && r)) ≡ true →
-    (nat_lt y z || (y == z && s)) ≡ true → (nat_lt x z || (x == z && t)) ≡ true
-along_step x y z r s true f e g = grind arith
-along_step x y z false s false f e g = grind arith
-along_step x y z true false false f e g = grind arith
-along_step x y z true true false f e g = grind arith
+module _ (x y z : ℕ) where
+  along_step : (r s t : Bool) → (r ≡ true → s ≡ true → t ≡ true) → (nat_lt x y || (x == y && r)) ≡ true →
+      (nat_lt y z || (y == z && s)) ≡ true → (nat_lt x z || (x == z && t)) ≡ true
+  along_step r s true f e g = grind arith
+  along_step false s false f e g = grind arith
+  along_step true false false f e g = grind arith
+  along_step true true false f e g = grind arith
 
 pub apart : (xs ys : List ℕ) → is_below xs ys ≡ true → same_numbers xs ys ≡ false
 apart [] [] e = grind arith

@@ -97,50 +97,51 @@ module _ (b : Bool) (c : Counts) where
     allowed = λ place. one_allowed i (both_true ok calm);
   }
 
-  use_good : (p : Piece) (i : Instr) (v : Env → ℤ) (k l : Rest → Rest) (need gives : ℕ) → way_of i ≡ Onward 1 gives →
-      has_names c i ≡ true → breaks_where b i ≡ true →
-      ((place : ℕ) (next : ℕ → Rest) → (λ stack env. stepped i place next stack env) ≡ k (next 0)) →
-      ((r : Rest) (stack : List ℤ) (env : Env) → k r (v env ∷ stack) env ≡ l r stack env) →
-      1 ≤ need → Good b c p (value v) need 1 → Good b c (chain p (just i)) l need gives
-  use_good p i v k l need gives way ok calm does same some g = record {
-    works = works_as (chain p (just i)) (λ r. value v (k r)) l same
-        (works_chain p (just i) (value v) k g.works (works_just i k does));
-    rises = rises_use p i need gives way some g.rises;
-    allowed = chain_allowed p (just i) g.allowed (λ place. one_allowed i (both_true ok calm));
-  }
+  module _ (p : Piece) (i : Instr) (v : Env → ℤ) (k l : Rest → Rest) (need gives : ℕ) where
+    use_good : way_of i ≡ Onward 1 gives → has_names c i ≡ true → breaks_where b i ≡ true →
+        ((place : ℕ) (next : ℕ → Rest) → (λ stack env. stepped i place next stack env) ≡ k (next 0)) →
+        ((r : Rest) (stack : List ℤ) (env : Env) → k r (v env ∷ stack) env ≡ l r stack env) → 1 ≤ need →
+        Good b c p (value v) need 1 → Good b c (chain p (just i)) l need gives
+    use_good way ok calm does same some g = record {
+      works = works_as (chain p (just i)) (λ r. value v (k r)) l same
+          (works_chain p (just i) (value v) k g.works (works_just i k does));
+      rises = rises_use p i need gives way some g.rises;
+      allowed = chain_allowed p (just i) g.allowed (λ place. one_allowed i (both_true ok calm));
+    }
 
-  pair_good : (p q : Piece) (i : Instr) (f : ℤ → ℤ → ℤ) (v w : Env → ℤ) (need_p need_q : ℕ) → way_of i ≡ Onward 2 1 →
-      has_names c i ≡ true → breaks_where b i ≡ true →
-      ((place : ℕ) (next : ℕ → Rest) → (λ stack env. stepped i place next stack env) ≡ on_two f (next 0)) →
-      1 ≤ need_q → Good b c p (value v) need_p 1 → Good b c q (value w) need_q 1 →
-      Good b c (chain p (chain q (just i))) (value (λ env. f (v env) (w env))) (max need_p need_q + 1) 1
-  pair_good p q i f v w need_p need_q way ok calm does some g h =
-      let k = on_two f in
-      let le_p : need_p ≤ max need_p need_q + 1 = omega arith in
-      let le_q : need_q + 1 ≤ max need_p need_q + 1 = omega arith in
-      record {
-        works = works_chain p (chain q (just i)) (value v) (λ r. value w (k r)) g.works
-            (works_chain q (just i) (value w) k h.works (works_just i k does));
-        rises = rises_pair p q i need_p need_q (max need_p need_q + 1) way some le_p le_q g.rises h.rises;
-        allowed = chain_allowed p (chain q (just i)) g.allowed
-            (chain_allowed q (just i) h.allowed (λ place. one_allowed i (both_true ok calm)));
-      }
+  module _ (p q : Piece) (i : Instr) (f : ℤ → ℤ → ℤ) (v w : Env → ℤ) (need_p need_q : ℕ) where
+    pair_good : way_of i ≡ Onward 2 1 → has_names c i ≡ true → breaks_where b i ≡ true →
+        ((place : ℕ) (next : ℕ → Rest) → (λ stack env. stepped i place next stack env) ≡ on_two f (next 0)) →
+        1 ≤ need_q → Good b c p (value v) need_p 1 → Good b c q (value w) need_q 1 →
+        Good b c (chain p (chain q (just i))) (value (λ env. f (v env) (w env))) (max need_p need_q + 1) 1
+    pair_good way ok calm does some g h =
+        let k = on_two f in
+        let le_p : need_p ≤ max need_p need_q + 1 = omega arith in
+        let le_q : need_q + 1 ≤ max need_p need_q + 1 = omega arith in
+        record {
+          works = works_chain p (chain q (just i)) (value v) (λ r. value w (k r)) g.works
+              (works_chain q (just i) (value w) k h.works (works_just i k does));
+          rises = rises_pair p q i need_p need_q (max need_p need_q + 1) way some le_p le_q g.rises h.rises;
+          allowed = chain_allowed p (chain q (just i)) g.allowed
+              (chain_allowed q (just i) h.allowed (λ place. one_allowed i (both_true ok calm)));
+        }
 
-  choice_good : (t p q : Piece) (test v w : Env → ℤ) (need_t need_p need_q : ℕ) → 1 ≤ need_t →
-      Good b c t (value test) need_t 1 → Good b c p (value v) need_p 1 → Good b c q (value w) need_q 1 →
-      Good b c (choice t p q) (value (λ env. if is_set (test env) then v env else w env))
-      (max need_t (max need_p need_q) + 1) 1
-  choice_good t p q test v w need_t need_p need_q some f g h =
-      let need = max need_t (max need_p need_q) + 1 in
-      let le_t : need_t ≤ need = omega arith in
-      let le_p : need_p ≤ need = omega arith in
-      let le_q : need_q ≤ need = omega arith in
-      let up : 1 ≤ need = omega arith in
-      record {
-        works = choice_value t p q test v w f.works g.works h.works;
-        rises = rises_choice t p q need_t need_p need_q need 1 some le_t le_p le_q up f.rises g.rises h.rises;
-        allowed = choice_allowed t p q f.allowed g.allowed h.allowed;
-      }
+  module _ (t p q : Piece) (test v w : Env → ℤ) (need_t need_p need_q : ℕ) where
+    choice_good : 1 ≤ need_t → Good b c t (value test) need_t 1 → Good b c p (value v) need_p 1 →
+        Good b c q (value w) need_q 1 →
+        Good b c (choice t p q) (value (λ env. if is_set (test env) then v env else w env)) (max need_t (max
+        need_p need_q) + 1) 1
+    choice_good some f g h =
+        let need = max need_t (max need_p need_q) + 1 in
+        let le_t : need_t ≤ need = omega arith in
+        let le_p : need_p ≤ need = omega arith in
+        let le_q : need_q ≤ need = omega arith in
+        let up : 1 ≤ need = omega arith in
+        record {
+          works = choice_value t p q test v w f.works g.works h.works;
+          rises = rises_choice t p q need_t need_p need_q need 1 some le_t le_p le_q up f.rises g.rises h.rises;
+          allowed = choice_allowed t p q f.allowed g.allowed h.allowed;
+        }
 
   more_good : (p : Piece) (k : Rest → Rest) (need up : ℕ) → Good b c p k need up → Good b c p k (need + 1) up
   more_good p k need up g = record {
@@ -276,51 +277,53 @@ module _ (b : Bool) (c : Counts) where
   nothing_good : Good b c nothing (acts leaves) 0 0
   nothing_good = record { works = nothing_acts; rises = rises_nothing; allowed = λ place. refl }
 
-  if_good : (t p q : Piece) (test : Env → ℤ) (f g : Act) (need_t need_p need_q : ℕ) → 1 ≤ need_t →
-      Good b c t (value test) need_t 1 → Good b c p (acts f) need_p 0 → Good b c q (acts g) need_q 0 →
-      Good b c (choice t p q) (acts (λ env. if is_set (test env) then f env else g env))
-      (max need_t (max need_p need_q) + 1) 0
-  if_good t p q test f g need_t need_p need_q some x y z =
-      let need = max need_t (max need_p need_q) + 1 in
-      let le_t : need_t ≤ need = omega arith in
-      let le_p : need_p ≤ need = omega arith in
-      let le_q : need_q ≤ need = omega arith in
-      let up : 0 ≤ need = omega arith in
-      record {
-        works = choice_acts t p q test f g x.works y.works z.works;
-        rises = rises_choice t p q need_t need_p need_q need 0 some le_t le_p le_q up x.rises y.rises z.rises;
-        allowed = choice_allowed t p q x.allowed y.allowed z.allowed;
-      }
+  module _ (t p q : Piece) (test : Env → ℤ) (f g : Act) (need_t need_p need_q : ℕ) where
+    if_good : 1 ≤ need_t → Good b c t (value test) need_t 1 → Good b c p (acts f) need_p 0 →
+        Good b c q (acts g) need_q 0 →
+        Good b c (choice t p q) (acts (λ env. if is_set (test env) then f env else g env)) (max need_t (max
+        need_p need_q) + 1) 0
+    if_good some x y z =
+        let need = max need_t (max need_p need_q) + 1 in
+        let le_t : need_t ≤ need = omega arith in
+        let le_p : need_p ≤ need = omega arith in
+        let le_q : need_q ≤ need = omega arith in
+        let up : 0 ≤ need = omega arith in
+        record {
+          works = choice_acts t p q test f g x.works y.works z.works;
+          rises = rises_choice t p q need_t need_p need_q need 0 some le_t le_p le_q up x.rises y.rises z.rises;
+          allowed = choice_allowed t p q x.allowed y.allowed z.allowed;
+        }
 
-  only_if_good : (t p : Piece) (test : Env → ℤ) (f : Act) (need_t need_p : ℕ) → 1 ≤ need_t →
-      Good b c t (value test) need_t 1 → Good b c p (acts f) need_p 0 →
-      Good b c (only_if t p) (acts (λ env. if is_set (test env) then f env else leaves env))
-      (max need_t (max need_p 0) + 1) 0
-  only_if_good t p test f need_t need_p some x y =
-      let need = max need_t (max need_p 0) + 1 in
-      let le_t : need_t ≤ need = omega arith in
-      let le_p : need_p ≤ need = omega arith in
-      record {
-        works = only_if_acts t p test f x.works y.works;
-        rises = rises_only_if t p need_t need_p need some le_t le_p x.rises y.rises;
-        allowed = only_if_allowed t p x.allowed y.allowed;
-      }
+  module _ (t p : Piece) (test : Env → ℤ) (f : Act) (need_t need_p : ℕ) where
+    only_if_good : 1 ≤ need_t → Good b c t (value test) need_t 1 → Good b c p (acts f) need_p 0 →
+        Good b c (only_if t p) (acts (λ env. if is_set (test env) then f env else leaves env)) (max need_t (max
+        need_p 0) + 1) 0
+    only_if_good some x y =
+        let need = max need_t (max need_p 0) + 1 in
+        let le_t : need_t ≤ need = omega arith in
+        let le_p : need_p ≤ need = omega arith in
+        record {
+          works = only_if_acts t p test f x.works y.works;
+          rises = rises_only_if t p need_t need_p need some le_t le_p x.rises y.rises;
+          allowed = only_if_allowed t p x.allowed y.allowed;
+        }
 
-  store_good : (r : Rights) (w : What) (op : AssignOp) (p : Piece) (v : Env → ℤ) (need : ℕ) → is_target r c w ≡ true →
-      1 ≤ need → Good b c p (value v) need 1 →
-      Good b c (store w op p) (acts (λ env. leaves (with_target w op (v env) env))) need 0
-  store_good r (what.Local i) op p v need h some g =
-      use_good p (ToLocal op i) v (λ k stack env. k (under stack) (with_target (what.Local i) op (top stack) env))
-      (acts (λ env. leaves (with_target (what.Local i) op (v env) env))) need 0 refl
-      (right_true r.locals (nat_lt i c.locals) h) refl (λ place next. refl) (λ k stack env. refl) some g
-  store_good r (what.Field i) op p v need h some g =
-      use_good p (ToField op i) v (λ k stack env. k (under stack) (with_target (what.Field i) op (top stack) env))
-      (acts (λ env. leaves (with_target (what.Field i) op (v env) env))) need 0 refl
-      (right_true r.fields (nat_lt i c.fields) h) refl (λ place next. refl) (λ k stack env. refl) some g
-  store_good r what.Unread op p v need h some g = cc
-  store_good r (what.Slot i) op p v need h some g = cc
-  store_good r (what.Send i) op p v need h some g = cc
-  store_good r (what.Total i) op p v need h some g = cc
+  module _ (r : Rights) where
+    store_good : (w : What) (op : AssignOp) (p : Piece) (v : Env → ℤ) (need : ℕ) → is_target r c w ≡ true →
+        1 ≤ need → Good b c p (value v) need 1 →
+        Good b c (store w op p) (acts (λ env. leaves (with_target w op (v env) env))) need 0
+    store_good (what.Local i) op p v need h some g =
+        use_good p (ToLocal op i) v (λ k stack env. k (under stack) (with_target (what.Local i) op (top stack) env))
+        (acts (λ env. leaves (with_target (what.Local i) op (v env) env))) need 0 refl
+        (right_true r.locals (nat_lt i c.locals) h) refl (λ place next. refl) (λ k stack env. refl) some g
+    store_good (what.Field i) op p v need h some g =
+        use_good p (ToField op i) v (λ k stack env. k (under stack) (with_target (what.Field i) op (top stack) env))
+        (acts (λ env. leaves (with_target (what.Field i) op (v env) env))) need 0 refl
+        (right_true r.fields (nat_lt i c.fields) h) refl (λ place next. refl) (λ k stack env. refl) some g
+    store_good what.Unread op p v need h some g = cc
+    store_good (what.Slot i) op p v need h some g = cc
+    store_good (what.Send i) op p v need h some g = cc
+    store_good (what.Total i) op p v need h some g = cc
 
   emit_good : (w : What) (p : Piece) (v : Env → ℤ) (need : ℕ) → is_slot c w ≡ true → 1 ≤ need →
       Good b c p (value v) need 1 →

@@ -90,47 +90,48 @@ either false next n stack env = refl
 abbrev ways : Rest → Rest → Rest
 ways f g stack env = if is_set (top stack) then f (under stack) env else g (under stack) env
 
-pub works_choice : (t p q : Piece) (j k l : Rest → Rest) → Works t j → Works p k → Works q l →
-    Works (choice t p q) (λ r. j (fork k l r))
-works_choice t p q j k l u v w = record {
-  works = λ place rest.
-      let tested = t place in
-      let here = place + length tested in
-      let branch = p (here + 1) in
-      let there = here + 1 + length branch in
-      let second = there + 1 in
-      let other = q second in
-      let end = second + length other in
-      let behind = other ++ rest in
-      let all = tested ++ JumpUnless second ∷ (branch ++ Jump end ∷ other) in
-      let flat : all ++ rest ≡ tested ++ JumpUnless second ∷ (branch ++ Jump end ∷ behind) = simp append_assoc in
-      let over_other : passed there end ≡ length other = omega arith in
-      let over_branch : passed here second ≡ length (branch ++ Jump end ∷ []) =
-      omega (arith, length-append branch (Jump end ∷ [])) in
-      let held : goes_on (here + 1) (branch ++ Jump end ∷ behind) 0 ≡ k (goes_on end rest 0) =
-      v.works (here + 1) (Jump end ∷ behind) ∙ ap k (passed_over other second rest (passed there end) over_other) in
-      let to_second : here + 1 + length (branch ++ Jump end ∷ []) ≡ second =
-      omega (arith, length-append branch (Jump end ∷ [])) in
-      let otherwise : goes_on (here + 1) (branch ++ Jump end ∷ behind) (passed here second) ≡ l (goes_on end rest 0) =
-      ap (λ (xs : List Instr). goes_on (here + 1) xs (passed here second))
-      (sym (append_assoc branch (Jump end ∷ []) behind))
-      ∙ passed_over (branch ++ Jump end ∷ []) (here + 1) behind (passed here second) over_branch
-      ∙ ap (λ (n : ℕ). goes_on n behind 0) to_second
-      ∙ w.works second rest in
-      let same : end ≡ place + length all =
-      omega (
-        arith,
-        length-append tested (JumpUnless second ∷ (branch ++ Jump end ∷ other)),
-        length-append branch (Jump end ∷ other),
-      ) in
-      ap (λ (xs : List Instr). goes_on place xs 0) flat
-      ∙ u.works place (JumpUnless second ∷ (branch ++ Jump end ∷ behind))
-      ∙ ap j (λ i. λ stack env. either (is_set (top stack)) (goes_on (here + 1) (branch ++ Jump end ∷ behind))
-      (passed here second) (under stack) env i)
-      ∙ ap (λ (f : Rest). j (ways f (goes_on (here + 1) (branch ++ Jump end ∷ behind) (passed here second)))) held
-      ∙ ap (λ (g : Rest). j (ways (k (goes_on end rest 0)) g)) otherwise
-      ∙ ap (λ (n : ℕ). j (fork k l (goes_on n rest 0))) same;
-}
+module _ (t p q : Piece) (j k l : Rest → Rest) where
+  pub works_choice : Works t j → Works p k → Works q l → Works (choice t p q) (λ r. j (fork k l r))
+  works_choice u v w = record {
+    works = λ place rest.
+        let tested = t place in
+        let here = place + length tested in
+        let branch = p (here + 1) in
+        let there = here + 1 + length branch in
+        let second = there + 1 in
+        let other = q second in
+        let end = second + length other in
+        let behind = other ++ rest in
+        let all = tested ++ JumpUnless second ∷ (branch ++ Jump end ∷ other) in
+        let flat : all ++ rest ≡ tested ++ JumpUnless second ∷ (branch ++ Jump end ∷ behind) = simp append_assoc in
+        let over_other : passed there end ≡ length other = omega arith in
+        let over_branch : passed here second ≡ length (branch ++ Jump end ∷ []) =
+        omega (arith, length-append branch (Jump end ∷ [])) in
+        let held : goes_on (here + 1) (branch ++ Jump end ∷ behind) 0 ≡ k (goes_on end rest 0) =
+        v.works (here + 1) (Jump end ∷ behind) ∙ ap k (passed_over other second rest (passed there end) over_other) in
+        let to_second : here + 1 + length (branch ++ Jump end ∷ []) ≡ second =
+        omega (arith, length-append branch (Jump end ∷ [])) in
+        let otherwise : goes_on (here + 1) (branch ++ Jump end ∷ behind) (passed here second) ≡ l (goes_on end rest
+        0) =
+        ap (λ (xs : List Instr). goes_on (here + 1) xs (passed here second))
+        (sym (append_assoc branch (Jump end ∷ []) behind))
+        ∙ passed_over (branch ++ Jump end ∷ []) (here + 1) behind (passed here second) over_branch
+        ∙ ap (λ (n : ℕ). goes_on n behind 0) to_second
+        ∙ w.works second rest in
+        let same : end ≡ place + length all =
+        omega (
+          arith,
+          length-append tested (JumpUnless second ∷ (branch ++ Jump end ∷ other)),
+          length-append branch (Jump end ∷ other),
+        ) in
+        ap (λ (xs : List Instr). goes_on place xs 0) flat
+        ∙ u.works place (JumpUnless second ∷ (branch ++ Jump end ∷ behind))
+        ∙ ap j (λ i. λ stack env. either (is_set (top stack)) (goes_on (here + 1) (branch ++ Jump end ∷ behind))
+        (passed here second) (under stack) env i)
+        ∙ ap (λ (f : Rest). j (ways f (goes_on (here + 1) (branch ++ Jump end ∷ behind) (passed here second)))) held
+        ∙ ap (λ (g : Rest). j (ways (k (goes_on end rest 0)) g)) otherwise
+        ∙ ap (λ (n : ℕ). j (fork k l (goes_on n rest 0))) same;
+  }
 
 pub works_only_if : (t p : Piece) (j k : Rest → Rest) → Works t j → Works p k →
     Works (only_if t p) (λ r. j (fork k (λ s. s) r))
@@ -159,13 +160,14 @@ value_if : (b : Bool) (x y : ℤ) (r : Rest) (stack : List ℤ) (env : Env) →
 value_if true x y r stack env = refl
 value_if false x y r stack env = refl
 
-pub choice_value : (t p q : Piece) (test v w : Env → ℤ) → Works t (value test) → Works p (value v) →
-    Works q (value w) → Works (choice t p q) (value (λ env. if is_set (test env) then v env else w env))
-choice_value t p q test v w a b c =
-    works_as (choice t p q) (λ r. value test (fork (value v) (value w) r))
-    (value (λ env. if is_set (test env) then v env else w env))
-    (λ r stack env. value_if (is_set (test env)) (v env) (w env) r stack env)
-    (works_choice t p q (value test) (value v) (value w) a b c)
+module _ (t p q : Piece) (test v w : Env → ℤ) where
+  pub choice_value : Works t (value test) → Works p (value v) → Works q (value w) →
+      Works (choice t p q) (value (λ env. if is_set (test env) then v env else w env))
+  choice_value a b c =
+      works_as (choice t p q) (λ r. value test (fork (value v) (value w) r))
+      (value (λ env. if is_set (test env) then v env else w env))
+      (λ r stack env. value_if (is_set (test env)) (v env) (w env) r stack env)
+      (works_choice t p q (value test) (value v) (value w) a b c)
 
 act_if : (b : Bool) (f g : Ran) (r : Act) → (if b then followed_by f r else followed_by g r)
     ≡ followed_by (if b then f else g) r
@@ -179,13 +181,14 @@ chain_acts p q f g v w =
     (λ r stack env. let one = f env in followed_assoc one.env one.emitted one.reads one.flow g (r stack))
     (works_chain p q (acts f) (acts g) v w)
 
-pub choice_acts : (t p q : Piece) (test : Env → ℤ) (f g : Act) → Works t (value test) → Works p (acts f) →
-    Works q (acts g) → Works (choice t p q) (acts (λ env. if is_set (test env) then f env else g env))
-choice_acts t p q test f g a b c =
-    works_as (choice t p q) (λ r. value test (fork (acts f) (acts g) r))
-    (acts (λ env. if is_set (test env) then f env else g env))
-    (λ r stack env. act_if (is_set (test env)) (f env) (g env) (r stack))
-    (works_choice t p q (value test) (acts f) (acts g) a b c)
+module _ (t p q : Piece) (test : Env → ℤ) (f g : Act) where
+  pub choice_acts : Works t (value test) → Works p (acts f) → Works q (acts g) →
+      Works (choice t p q) (acts (λ env. if is_set (test env) then f env else g env))
+  choice_acts a b c =
+      works_as (choice t p q) (λ r. value test (fork (acts f) (acts g) r))
+      (acts (λ env. if is_set (test env) then f env else g env))
+      (λ r stack env. act_if (is_set (test env)) (f env) (g env) (r stack))
+      (works_choice t p q (value test) (acts f) (acts g) a b c)
 
 pub only_if_acts : (t p : Piece) (test : Env → ℤ) (f : Act) → Works t (value test) → Works p (acts f) →
     Works (only_if t p) (acts (λ env. if is_set (test env) then f env else leaves env))

@@ -34,38 +34,41 @@ unfolding tree_at climb
 layer_is b k ts lt = let p : eqb k 5 ≡ false = ne_eqb k 5 (λ e. omega arith) in rw p refl
 
 -- one turn with an operand
-pub chain_turn : (b k f : ℕ) (below : Parser Tree) (left x : Tree) (t : Placed) (ts r : List Placed) →
-    layer t.kind ≡ suc k → (eqb (suc k) 3 && is_comparison left) ≡ false → depth left ≤ b → below ts ≡ Ok (x, r)
-    → chain b (suc k) below (suc f) left (t ∷ ts)
-    ≡ chain b (suc k) below f (Pair (start left) (operator t.kind) left x) r
-unfolding chain turn
-chain_turn b k f below left x t ts r l c d e =
-    let p = eq-eqb (layer t.kind) (suc k) l in
-    let q = le-ltb b (depth left) d in
-    rw (p, c, q, e) refl
+module _ (b k f : ℕ) (below : Parser Tree) (left x : Tree) (t : Placed) (ts r : List Placed) where
+  pub chain_turn : layer t.kind ≡ suc k → (eqb (suc k) 3 && is_comparison left) ≡ false → depth left ≤ b →
+      below ts ≡ Ok (x, r) →
+      chain b (suc k) below (suc f) left (t ∷ ts) ≡ chain b (suc k) below f (Pair (start left) (operator t.kind)
+      left x) r
+  unfolding chain turn
+  chain_turn l c d e =
+      let p = eq-eqb (layer t.kind) (suc k) l in
+      let q = le-ltb b (depth left) d in
+      rw (p, c, q, e) refl
 
 -- where the tests of a turn stop it, and where its operand does
-pub chain_twice : (b k f : ℕ) (below : Parser Tree) (left : Tree) (t : Placed) (ts : List Placed) →
-    layer t.kind ≡ suc k → (eqb (suc k) 3 && is_comparison left) ≡ true →
-    chain b (suc k) below f left (t ∷ ts) ≡ stop Unexpected (t ∷ ts)
-unfolding chain turn
-chain_twice b k zero below left t ts l c = let p = eq-eqb (layer t.kind) (suc k) l in rw (p, c) refl
-chain_twice b k (suc f) below left t ts l c = let p = eq-eqb (layer t.kind) (suc k) l in rw (p, c) refl
+module _ (b k : ℕ) where
+  pub chain_twice : (f : ℕ) (below : Parser Tree) (left : Tree) (t : Placed) (ts : List Placed) →
+      layer t.kind ≡ suc k → (eqb (suc k) 3 && is_comparison left) ≡ true →
+      chain b (suc k) below f left (t ∷ ts) ≡ stop Unexpected (t ∷ ts)
+  unfolding chain turn
+  chain_twice zero below left t ts l c = let p = eq-eqb (layer t.kind) (suc k) l in rw (p, c) refl
+  chain_twice (suc f) below left t ts l c = let p = eq-eqb (layer t.kind) (suc k) l in rw (p, c) refl
 
-pub chain_deep : (b k f : ℕ) (below : Parser Tree) (left : Tree) (t : Placed) (ts : List Placed) →
-    layer t.kind ≡ suc k → (eqb (suc k) 3 && is_comparison left) ≡ false → b < depth left →
-    chain b (suc k) below f left (t ∷ ts) ≡ stop TooDeep (t ∷ ts)
-unfolding chain turn
-chain_deep b k zero below left t ts l c d = let p = eq-eqb (layer t.kind) (suc k) l in
-    let q = lt-ltb b (depth left) d in rw (p, c, q) refl
-chain_deep b k (suc f) below left t ts l c d = let p = eq-eqb (layer t.kind) (suc k) l in
-    let q = lt-ltb b (depth left) d in rw (p, c, q) refl
+  pub chain_deep : (f : ℕ) (below : Parser Tree) (left : Tree) (t : Placed) (ts : List Placed) →
+      layer t.kind ≡ suc k → (eqb (suc k) 3 && is_comparison left) ≡ false → b < depth left →
+      chain b (suc k) below f left (t ∷ ts) ≡ stop TooDeep (t ∷ ts)
+  unfolding chain turn
+  chain_deep zero below left t ts l c d = let p = eq-eqb (layer t.kind) (suc k) l in
+      let q = lt-ltb b (depth left) d in rw (p, c, q) refl
+  chain_deep (suc f) below left t ts l c d = let p = eq-eqb (layer t.kind) (suc k) l in
+      let q = lt-ltb b (depth left) d in rw (p, c, q) refl
 
-pub chain_inside : (b k f : ℕ) (below : Parser Tree) (left : Tree) (t : Placed) (ts : List Placed) (s : Stop) →
+pub chain_inside :
+    (b k : ℕ) (below : Parser Tree) (left : Tree) (t : Placed) (ts : List Placed) (s : Stop) (f : ℕ) →
     layer t.kind ≡ suc k → (eqb (suc k) 3 && is_comparison left) ≡ false → depth left ≤ b → below ts ≡ Err s →
     chain b (suc k) below f left (t ∷ ts) ≡ Err s
 unfolding chain turn
-chain_inside b k zero below left t ts s l c d e = let p = eq-eqb (layer t.kind) (suc k) l in
+chain_inside b k below left t ts s zero l c d e = let p = eq-eqb (layer t.kind) (suc k) l in
     let q = le-ltb b (depth left) d in rw (p, c, q, e) refl
-chain_inside b k (suc f) below left t ts s l c d e = let p = eq-eqb (layer t.kind) (suc k) l in
+chain_inside b k below left t ts s (suc f) l c d e = let p = eq-eqb (layer t.kind) (suc k) l in
     let q = le-ltb b (depth left) d in rw (p, c, q, e) refl

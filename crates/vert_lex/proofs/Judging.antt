@@ -153,18 +153,19 @@ above : (m n : ℕ) → m < n → nat_lt m n ≡ true
 above m n lt = grind arith
 
 -- one more digit makes too much
-pub too_great : (digits : List ℕ) (i value digit : ℕ) → i < length digits → is_digit (get_or digits i 0) ≡ true →
-    digit ≡ get_or digits i 0 - 48 → (9223372036854775807 - digit) / 10 < value
-    → digits_value_after 10 value (drop i digits) ≡ digits_value 10 digits →
-    None ≡ cond (nat_lt 9223372036854775807 (digits_value 10 digits)) None (Some (digits_value 10 digits))
-too_great digits i value digit lt d e more passed =
-    let b = get_or digits i 0 in
-    let cut : drop i digits ≡ b ∷ drop (suc i) digits = drop-cons digits i 0 lt in
-    let next : digits_value_after 10 (value * 10 + digit_value b) (drop (suc i) digits) ≡ digits_value 10 digits =
-    sym (ap (digits_value_after 10 value) cut) ∙ passed in
-    let ge = after_ge (value * 10 + digit_value b) (drop (suc i) digits) in
-    let v : digit_value b ≡ b - 48 = digit_is b d in
-    let great : 9223372036854775807 < digits_value 10 digits = omega (arith, ge, next, v, e, more) in
-    let test : nat_lt 9223372036854775807 (digits_value 10 digits) ≡ true =
-    above 9223372036854775807 (digits_value 10 digits) great in
-    rw test refl
+module _ (digits : List ℕ) (i value digit : ℕ) where
+  pub too_great : i < length digits → is_digit (get_or digits i 0) ≡ true → digit ≡ get_or digits i 0 - 48 →
+      (9223372036854775807 - digit) / 10 < value →
+      digits_value_after 10 value (drop i digits) ≡ digits_value 10 digits →
+      None ≡ cond (nat_lt 9223372036854775807 (digits_value 10 digits)) None (Some (digits_value 10 digits))
+  too_great lt d e more passed =
+      let b = get_or digits i 0 in
+      let cut : drop i digits ≡ b ∷ drop (suc i) digits = drop-cons digits i 0 lt in
+      let next : digits_value_after 10 (value * 10 + digit_value b) (drop (suc i) digits) ≡ digits_value 10 digits =
+      sym (ap (digits_value_after 10 value) cut) ∙ passed in
+      let ge = after_ge (value * 10 + digit_value b) (drop (suc i) digits) in
+      let v : digit_value b ≡ b - 48 = digit_is b d in
+      let great : 9223372036854775807 < digits_value 10 digits = omega (arith, ge, next, v, e, more) in
+      let test : nat_lt 9223372036854775807 (digits_value 10 digits) ≡ true =
+      above 9223372036854775807 (digits_value 10 digits) great in
+      rw test refl

@@ -40,56 +40,60 @@ nothing_read (Ok ts) = refl
 nothing_read (Err fault) = refl
 
 -- the step of a token
-token_step : (s : Span) (front : List Placed) (text : List ℕ) (n : ℕ) (k : Kind)
-    (total : Result (List Placed) LexFault) → 0 < length text → is_blank (get_or text 0 0) ≡ false →
-    is_comment (get_or text 0 0) (drop 1 text) ≡ false
-    → longest (length text) text ≡ n → 0 < n → judged s (kind_of (take n text)) ≡ Ok k →
-    with_front front (tokens_at false 0 s text) ≡ total
-    → with_front (front ++ record { span = s; kind = k } ∷ [])
-    (tokens_at false 0 (through s (take n text)) (drop n text)) ≡ total
-token_step s front [] n k total pos b c e some j so_far = absurd (omega arith)
-token_step s front (x ∷ xs) zero k total pos b c e some j so_far = absurd (omega arith)
-token_step s front (x ∷ xs) (suc n) k total pos b c e some j so_far =
-    let t : Placed = record { span = s; kind = k } in
-    let le : n ≤ length xs = omega (arith, longest_le (length (x ∷ xs)) (x ∷ xs), e) in
-    let p = pass_token n (after s x) xs le in
-    let q : tokens_at false 0 s (x ∷ xs) ≡ followed s (Ok k) (tokens_at false n (after s x) xs) = rw (b, c, e, j) refl
-    in
-    sym (ap (λ r. with_front (front ++ t ∷ []) r) p) ∙ regroup (tokens_at false n (after s x) xs)
-    ∙ sym (ap (with_front front) q) ∙ so_far
-  where
-    regroup : (r : Result (List Placed) LexFault) → with_front (front ++ record { span = s; kind = k } ∷ []) r
-        ≡ with_front front (followed s (Ok k) r)
-    regroup (Ok ts) = ap (λ l. Ok l) (append_assoc front (record { span = s; kind = k } ∷ []) ts)
-    regroup (Err fault) = refl
+module _ (s : Span) (front : List Placed) (k : Kind) (total : Result (List Placed) LexFault) where
+  token_step : (text : List ℕ) (n : ℕ) → (0 < length text) × (0 < n) → is_blank (get_or text 0 0) ≡ false →
+      is_comment (get_or text 0 0) (drop 1 text) ≡ false → longest (length text) text ≡ n →
+      judged s (kind_of (take n text)) ≡ Ok k → with_front front (tokens_at false 0 s text) ≡ total →
+      with_front (front ++ record { span = s; kind = k } ∷ []) (tokens_at false 0 (through s (take n text))
+      (drop n text)) ≡ total
+  token_step [] n some b c e j so_far = let none = some.0 in absurd (omega (arith, none))
+  token_step (x ∷ xs) zero some b c e j so_far =
+      let none = some.1 in absurd (omega (arith, none))
+  token_step (x ∷ xs) (suc n) some b c e j so_far =
+      let t : Placed = record { span = s; kind = k } in
+      let le : n ≤ length xs = omega (arith, longest_le (length (x ∷ xs)) (x ∷ xs), e) in
+      let p = pass_token n (after s x) xs le in
+      let q : tokens_at false 0 s (x ∷ xs) ≡ followed s (Ok k) (tokens_at false n (after s x) xs) = rw (b, c, e, j)
+      refl
+      in
+      sym (ap (λ r. with_front (front ++ t ∷ []) r) p) ∙ regroup (tokens_at false n (after s x) xs)
+      ∙ sym (ap (with_front front) q) ∙ so_far
+    where
+      regroup : (r : Result (List Placed) LexFault) → with_front (front ++ record { span = s; kind = k } ∷ []) r
+          ≡ with_front front (followed s (Ok k) r)
+      regroup (Ok ts) = ap (λ l. Ok l) (append_assoc front (record { span = s; kind = k } ∷ []) ts)
+      regroup (Err fault) = refl
 
 -- the step of a fault
-pub fault_step : (s : Span) (front : List Placed) (text : List ℕ) (n : ℕ) (fault : LexFault)
-    (total : Result (List Placed) LexFault) → 0 < length text → is_blank (get_or text 0 0) ≡ false →
-    is_comment (get_or text 0 0) (drop 1 text) ≡ false
-    → longest (length text) text ≡ n → judged s (kind_of (take n text)) ≡ Err fault →
-    with_front front (tokens_at false 0 s text) ≡ total → total ≡ Err fault
-fault_step s front [] n fault total pos b c e j so_far = absurd (omega arith)
-fault_step s front (x ∷ xs) n fault total pos b c e j so_far =
-    let q : tokens_at false 0 s (x ∷ xs) ≡ Err fault = rw (b, c, e, j) refl in
-    sym so_far ∙ ap (with_front front) q
+module _ (s : Span) (front : List Placed) (n : ℕ) (fault : LexFault) (total : Result (List Placed) LexFault) where
+  pub fault_step : (text : List ℕ) → 0 < length text → is_blank (get_or text 0 0) ≡ false →
+      is_comment (get_or text 0 0) (drop 1 text) ≡ false → longest (length text) text ≡ n →
+      judged s (kind_of (take n text)) ≡ Err fault → with_front front (tokens_at false 0 s text) ≡ total →
+      total ≡ Err fault
+  fault_step [] pos b c e j so_far = absurd (omega arith)
+  fault_step (x ∷ xs) pos b c e j so_far =
+      let q : tokens_at false 0 s (x ∷ xs) ≡ Err fault = rw (b, c, e, j) refl in
+      sym so_far ∙ ap (with_front front) q
 
 pub no_token : (s : Span) (text : List ℕ) → judged s (kind_of (take 0 text)) ≡ Err (BadByte s)
 no_token s text = ap (judged s) kind_nothing
 
 -- the step of a token that was pushed
-pub push_step : (s : Span) (ts : List tokens.Token) (t : tokens.Token) (text : List ℕ) (n : ℕ)
-    (total : Result (List Placed) LexFault) → t.span ≡ s → 0 < length text → is_blank (get_or text 0 0) ≡ false →
-    is_comment (get_or text 0 0) (drop 1 text) ≡ false
-    → longest (length text) text ≡ n → 0 < n → judged s (kind_of (take n text)) ≡ Ok (plain_kind t.kind) →
-    with_front (plain_tokens ts) (tokens_at false 0 s text) ≡ total
-    → with_front (plain_tokens (ts ++ t ∷ [])) (tokens_at false 0 (through s (take n text)) (drop n text)) ≡ total
-push_step s ts t text n total same pos b c e some j so_far =
-    let pushed : plain_tokens (ts ++ t ∷ []) ≡ plain_tokens ts ++ record { span = s; kind = plain_kind t.kind } ∷ [] =
-    map-append plain_token ts (t ∷ []) ∙ ap (λ x. plain_tokens ts ++ record { span = x; kind = plain_kind t.kind }
-    ∷ []) same in
-    ap (λ l. with_front l (tokens_at false 0 (through s (take n text)) (drop n text))) pushed
-    ∙ token_step s (plain_tokens ts) text n (plain_kind t.kind) total pos b c e some j so_far
+module _ (s : Span) (ts : List tokens.Token) (t : tokens.Token) (text : List ℕ) (n : ℕ)
+    (total : Result (List Placed) LexFault) where
+  pub push_step : t.span ≡ s → 0 < length text → is_blank (get_or text 0 0) ≡ false →
+      is_comment (get_or text 0 0) (drop 1 text) ≡ false → longest (length text) text ≡ n → 0 < n →
+      judged s (kind_of (take n text)) ≡ Ok (plain_kind t.kind) →
+      with_front (plain_tokens ts) (tokens_at false 0 s text) ≡ total →
+      with_front (plain_tokens (ts ++ t ∷ [])) (tokens_at false 0 (through s (take n text)) (drop n text)) ≡
+      total
+  push_step same pos b c e some j so_far =
+      let pushed : plain_tokens (ts ++ t ∷ []) ≡ plain_tokens ts ++ record { span = s; kind = plain_kind t.kind } ∷
+      [] =
+      map-append plain_token ts (t ∷ []) ∙ ap (λ x. plain_tokens ts ++ record { span = x; kind = plain_kind t.kind }
+      ∷ []) same in
+      ap (λ l. with_front l (tokens_at false 0 (through s (take n text)) (drop n text))) pushed
+      ∙ token_step s (plain_tokens ts) (plain_kind t.kind) total text n (pos, some) b c e j so_far
 
 pub text_ends : (s : Span) (front : List Placed) (text : List ℕ) (total : Result (List Placed) LexFault) →
     length text ≡ 0 → with_front front (tokens_at false 0 s text) ≡ total → total ≡ Ok front
@@ -112,23 +116,26 @@ pub gap_blank : (text : List ℕ) → 0 < length text → is_blank (get_or text 
 gap_blank [] pos b s = absurd (omega arith)
 gap_blank (x ∷ xs) pos b s = rw b refl
 
-gap_comment : (text : List ℕ) (n : ℕ) → 0 < length text → is_blank (get_or text 0 0) ≡ false →
-    is_comment (get_or text 0 0) (drop 1 text) ≡ true → n ≤ length text → ((i : ℕ) → i < n → get_or text i 0 ≡ 10 → ⊥)
-    → (n < length text → get_or text n 0 ≡ 10)
-    → 0 < n → (s : Span) → tokens_at false 0 s text ≡ tokens_at false 0 (through s (take n text)) (drop n text)
-gap_comment [] n pos b c le all stops one s = absurd (omega arith)
-gap_comment (x ∷ xs) zero pos b c le all stops one s = absurd (omega arith)
-gap_comment (x ∷ xs) (suc n) pos b c le all stops one s =
-    let q : tokens_at false 0 s (x ∷ xs) ≡ tokens_at true 0 (after s x) xs = rw (b, c) refl in
-    q ∙ pass_comment n (after s x) xs (omega arith) (λ i lt. all (suc i) (omega arith)) (λ lt. stops (omega arith))
+module _ (s : Span) where
+  gap_comment : (text : List ℕ) (n : ℕ) → (0 < length text) × (0 < n) → is_blank (get_or text 0 0) ≡ false →
+      is_comment (get_or text 0 0) (drop 1 text) ≡ true → n ≤ length text →
+      ((i : ℕ) → i < n → get_or text i 0 ≡ 10 → ⊥) → (n < length text → get_or text n 0 ≡ 10) →
+      tokens_at false 0 s text ≡ tokens_at false 0 (through s (take n text)) (drop n text)
+  gap_comment [] n some b c le all stops = let none = some.0 in absurd (omega (arith, none))
+  gap_comment (x ∷ xs) zero some b c le all stops = let none = some.1 in absurd (omega (arith, none))
+  gap_comment (x ∷ xs) (suc n) some b c le all stops =
+      let q : tokens_at false 0 s (x ∷ xs) ≡ tokens_at true 0 (after s x) xs = rw (b, c) refl in
+      q ∙ pass_comment n (after s x) xs (omega arith) (λ i lt. all (suc i) (omega arith)) (λ lt. stops (omega arith))
 
-pub gap_comment_at : (text : List ℕ) (n : ℕ) → 0 < length text → (a : ℕ) (others : List ℕ) (b : ℕ) →
-    a ≡ get_or text 0 0 → b ≡ get_or text 0 0 → others ≡ drop 1 text → is_blank a ≡ false → is_comment b others ≡ true
-    → n ≤ length text → ((i : ℕ) → i < n → get_or text i 0 ≡ 10 → ⊥) → (n < length text → get_or text n 0 ≡ 10)
-    → 0 < n → (s : Span) → tokens_at false 0 s text ≡ tokens_at false 0 (through s (take n text)) (drop n text)
-gap_comment_at text n pos a others b e f o bl co le all stops one s =
-    gap_comment text n pos (ap is_blank (sym e) ∙ bl) (ap (λ x. is_comment x (drop 1 text)) (sym f)
-    ∙ ap (is_comment b) (sym o) ∙ co) le all stops one s
+module _ (text : List ℕ) (n : ℕ) (pos : 0 < length text) (a : ℕ) (others : List ℕ) (b : ℕ)
+    (e : a ≡ get_or text 0 0) (f : b ≡ get_or text 0 0) where
+  pub gap_comment_at : others ≡ drop 1 text → is_blank a ≡ false → is_comment b others ≡ true →
+      n ≤ length text → ((i : ℕ) → i < n → get_or text i 0 ≡ 10 → ⊥) →
+      (n < length text → get_or text n 0 ≡ 10) → 0 < n → (s : Span) →
+      tokens_at false 0 s text ≡ tokens_at false 0 (through s (take n text)) (drop n text)
+  gap_comment_at o bl co le all stops one s =
+      gap_comment s text n (pos, one) (ap is_blank (sym e) ∙ bl) (ap (λ x. is_comment x (drop 1 text)) (sym f)
+      ∙ ap (is_comment b) (sym o) ∙ co) le all stops
 
 -- how places grow
 pub record Grows (s t : Span) (n : ℕ) : Type 0 where

@@ -47,20 +47,20 @@ enter_new names text copy h is =
     rw e (ap (λ t. texts_in names ++ t ∷ []) (sym is) ∙ sym (map-append string_bytes names (copy ∷ [])))
 
 -- the keys of a set behind an insertion
-pub inserted : (names : List (String Global)) (text : List ℕ) (copy : String Global) (eq : String Global →
-    String Global → Bool) (after : List (String Global))
-    → ((k : String Global) → eq copy k ≡ bytes_eq (string_bytes copy) (string_bytes k)) →
-    is_entered names text ≡ false → string_bytes copy ≡ text → after ≡ insert_key eq names copy →
-    texts_in after ≡ enter (texts_in names) text
-inserted names text copy eq after same h is e =
-    let any : (xs : List (String Global)) → list_any (eq copy) xs ≡ is_entered xs text = go in
-    let f : list_any (eq copy) names ≡ false = any names ∙ h in
-    let g : insert_key eq names copy ≡ names ++ copy ∷ [] = rw f refl in
-    ap texts_in (e ∙ g) ∙ sym (enter_new names text copy h is)
-  where
-    go : (xs : List (String Global)) → list_any (eq copy) xs ≡ is_entered xs text
-    go [] = refl
-    go (x ∷ xs) = rw (same x, is, go xs) refl
+module _ (names : List (String Global)) (text : List ℕ) (copy : String Global)
+    (eq : String Global → String Global → Bool) (after : List (String Global)) where
+  pub inserted : ((k : String Global) → eq copy k ≡ bytes_eq (string_bytes copy) (string_bytes k)) →
+      is_entered names text ≡ false → string_bytes copy ≡ text → after ≡ insert_key eq names copy →
+      texts_in after ≡ enter (texts_in names) text
+  inserted same h is e =
+      let any : (xs : List (String Global)) → list_any (eq copy) xs ≡ is_entered xs text = go in
+      let f : list_any (eq copy) names ≡ false = any names ∙ h in
+      let g : insert_key eq names copy ≡ names ++ copy ∷ [] = rw f refl in
+      ap texts_in (e ∙ g) ∙ sym (enter_new names text copy h is)
+    where
+      go : (xs : List (String Global)) → list_any (eq copy) xs ≡ is_entered xs text
+      go [] = refl
+      go (x ∷ xs) = rw (same x, is, go xs) refl
 
 -- ---- what was entered is there
 any_more : (f : List ℕ → Bool) (xs ys : Texts) → list_any f xs ≡ true → list_any f (xs ++ ys) ≡ true

@@ -60,22 +60,23 @@ pub record AreNumbered (tokens : List Token) (n : ℕ) (signs : List Sign) (name
   pub few : length names ≤ n
   pub same : (more : Names) → plain (names ++ more) signs ≡ plain_tokens (take n tokens)
 
-pub numbered_more : (tokens : List Token) (n : ℕ) (d : Token) (signs : List Sign) (names after : Names) (sign : Sign)
-    → n < length tokens → AreNumbered tokens n signs names → IsSignOf (get_or tokens n d) names after sign →
-    AreNumbered tokens (n + 1) (signs ++ sign ∷ []) after
-numbered_more tokens n d signs names after sign lt h is = record {
-  few = (let e : length after ≡ length names + length is.added = ap length is.grown ∙ length-append names is.added in
-      let f = is.few in let g = h.few in omega arith);
-  same = λ more.
-      let before : plain (after ++ more) signs ≡ plain_tokens (take n tokens) =
-      ap (λ l. plain (l ++ more) signs) is.grown ∙ ap (λ l. plain l signs) (append_assoc names is.added more)
-      ∙ h.same (is.added ++ more) in
-      map-append (plain_sign (after ++ more)) signs (sign ∷ [])
-      ∙ ap (λ l. l ++ plain_sign (after ++ more) sign ∷ []) before
-      ∙ ap (λ s. plain_tokens (take n tokens) ++ s ∷ []) (is.same more)
-      ∙ sym (map-append plain_token (take n tokens) (get_or tokens n d ∷ []))
-      ∙ ap plain_tokens (sym (take_more tokens n d lt));
-}
+module _ (tokens : List Token) (n : ℕ) (d : Token) (signs : List Sign) (names after : Names) (sign : Sign) where
+  pub numbered_more : n < length tokens → AreNumbered tokens n signs names →
+      IsSignOf (get_or tokens n d) names after sign → AreNumbered tokens (n + 1) (signs ++ sign ∷ []) after
+  numbered_more lt h is = record {
+    few = (let e : length after ≡ length names + length is.added = ap length is.grown ∙ length-append names
+        is.added in
+        let f = is.few in let g = h.few in omega arith);
+    same = λ more.
+        let before : plain (after ++ more) signs ≡ plain_tokens (take n tokens) =
+        ap (λ l. plain (l ++ more) signs) is.grown ∙ ap (λ l. plain l signs) (append_assoc names is.added more)
+        ∙ h.same (is.added ++ more) in
+        map-append (plain_sign (after ++ more)) signs (sign ∷ [])
+        ∙ ap (λ l. l ++ plain_sign (after ++ more) sign ∷ []) before
+        ∙ ap (λ s. plain_tokens (take n tokens) ++ s ∷ []) (is.same more)
+        ∙ sym (map-append plain_token (take n tokens) (get_or tokens n d ∷ []))
+        ∙ ap plain_tokens (sym (take_more tokens n d lt));
+  }
 
 pub all_numbered : (tokens : List Token) (n : ℕ) (signs : List Sign) (names : Names) →
     AreNumbered tokens n signs names → length tokens ≤ n → plain names signs ≡ plain_tokens tokens

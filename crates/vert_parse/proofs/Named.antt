@@ -27,14 +27,15 @@ pub same_program : (names used : Names) (before after : Program) → after.names
     view_named used after ≡ view_named names before → view_program after ≡ view_named names before
 same_program names used before after at same = ap (λ l. view_named l after) at ∙ same
 
-pub is_named : (names used start : Names) (before after : Program) → start ≡ [] →
-    texts_in used ≡ enter_all (texts_in start) (program_names (view_named names before)) → after.names.items ≡ used →
-    view_named used after ≡ view_named names before
-    → program_all (is_fresh (length used)) after ≡ true → IsNamed after
-unfolding enter_all
-is_named names used start before after none e at same fresh = record {
-  texts =
-      ap texts_in at ∙ e ∙ ap (λ l. insert_all bytes_eq (texts_in l) (program_names (view_named names before))) none
-      ∙ ap (λ t. insert_all bytes_eq [] (program_names t)) (sym (same_program names used before after at same));
-  numbered = ap (λ l. program_all (is_fresh (length l)) after) at ∙ fresh;
-}
+module _ (names used start : Names) (before after : Program) where
+  pub is_named : start ≡ [] →
+      texts_in used ≡ enter_all (texts_in start) (program_names (view_named names before)) →
+      after.names.items ≡ used → view_named used after ≡ view_named names before →
+      program_all (is_fresh (length used)) after ≡ true → IsNamed after
+  unfolding enter_all
+  is_named none e at same fresh = record {
+    texts =
+        ap texts_in at ∙ e ∙ ap (λ l. insert_all bytes_eq (texts_in l) (program_names (view_named names before))) none
+        ∙ ap (λ t. insert_all bytes_eq [] (program_names t)) (sym (same_program names used before after at same));
+    numbered = ap (λ l. program_all (is_fresh (length l)) after) at ∙ fresh;
+  }

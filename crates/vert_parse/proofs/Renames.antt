@@ -62,13 +62,13 @@ module _ {X : Type 0} (p : X → Bool) where
   all_whole xs i le h = ap (list_all p) (sym (take_all i xs le)) ∙ h
 
 module _ {X Y : Type 0} (f g : X → Y) where
-  pub same_with : (xs ys : List X) (i : ℕ) (x d : X) → i < length xs → i < length ys →
-      map f (take i xs) ≡ map g (take i ys) → f x ≡ g (get_or ys i d) →
-      map f (take (i + 1) (set xs i x)) ≡ map g (take (i + 1) ys)
-  same_with xs ys i x d lx ly before here =
-      ap (map f) (take_more_set xs i x lx) ∙ map-append f (take i xs) (x ∷ [])
-      ∙ ap (λ l. l ++ f x ∷ []) before ∙ ap (λ y. map g (take i ys) ++ y ∷ []) here
-      ∙ sym (map-append g (take i ys) (get_or ys i d ∷ [])) ∙ ap (map g) (sym (take_more ys i d ly))
+  module _ (xs ys : List X) (i : ℕ) (x d : X) where
+    pub same_with : i < length xs → i < length ys → map f (take i xs) ≡ map g (take i ys) →
+        f x ≡ g (get_or ys i d) → map f (take (i + 1) (set xs i x)) ≡ map g (take (i + 1) ys)
+    same_with lx ly before here =
+        ap (map f) (take_more_set xs i x lx) ∙ map-append f (take i xs) (x ∷ [])
+        ∙ ap (λ l. l ++ f x ∷ []) before ∙ ap (λ y. map g (take i ys) ++ y ∷ []) here
+        ∙ sym (map-append g (take i ys) (get_or ys i d ∷ [])) ∙ ap (map g) (sym (take_more ys i d ly))
 
   pub same_whole : (xs ys : List X) (i : ℕ) → length xs ≤ i → length ys ≤ i → map f (take i xs) ≡ map g (take i ys) →
       map f xs ≡ map g ys
@@ -125,20 +125,20 @@ module _ (p : Ident → Bool) where
       (list_all-map (λ b. b) (stmt_all p) otherwise.items ∙ others))
 
 -- ---- programs
-last_three : (a b c d e f g h : Bool) → (a && (b && (c && (d && (e && (f && (g && h))))))) ≡ true → (f ≡ true) ×
-    ((g ≡ true) × (h ≡ true))
-last_three true true true true true true g h k = (refl, and_parts g h k)
-last_three true true true true true false g h k = absurd cc
-last_three true true true true false f g h k = absurd cc
-last_three true true true false e f g h k = absurd cc
-last_three true true false d e f g h k = absurd cc
-last_three true false c d e f g h k = absurd cc
-last_three false b c d e f g h k = absurd cc
+module _ (g h : Bool) where
+  last_three : (a b c d e f : Bool) → (a && (b && (c && (d && (e && (f && (g && h))))))) ≡ true →
+      (f ≡ true) × ((g ≡ true) × (h ≡ true))
+  last_three true true true true true true k = (refl, and_parts g h k)
+  last_three true true true true true false k = absurd cc
+  last_three true true true true false f k = absurd cc
+  last_three true true true false e f k = absurd cc
+  last_three true true false d e f k = absurd cc
+  last_three true false c d e f k = absurd cc
+  last_three false b c d e f k = absurd cc
 
 pub all_of : (p : Ident → Bool) (d : Program) → program_all p d ≡ true → (option_all (sparse_all p) d.sparse ≡ true) ×
     ((body_all p d.update.items ≡ true) × (option_all (expr_all p) d.stop ≡ true))
 all_of p d =
-    last_three (list_all (decl_all p) d.fields.items) (list_all (slot_all p) d.slots.items)
-    (list_all (total_all p) d.totals.items) (expr_all p d.start)
-    (option_all (dense_all p) d.dense) (option_all (sparse_all p) d.sparse) (body_all p d.update.items)
-    (option_all (expr_all p) d.stop)
+    last_three (body_all p d.update.items) (option_all (expr_all p) d.stop) (list_all (decl_all p) d.fields.items)
+    (list_all (slot_all p) d.slots.items) (list_all (total_all p) d.totals.items) (expr_all p d.start) (option_all
+    (dense_all p) d.dense) (option_all (sparse_all p) d.sparse)

@@ -22,13 +22,13 @@ block_more names (x ∷ ss) s =
     (printed_statement (view_statement names s)))
 
 -- one more statement is printed
-pub one_more : (names : List (String Global)) (all ss : List Stmt) (s : Stmt) (a b c : List ℕ) → all ≡ ss ++ s ∷ [] →
-    b ≡ a ++ printed_block (view_block names ss) → c ≡ b ++ printed_statement (view_statement names s)
-    → c ≡ a ++ printed_block (view_block names all)
-one_more names all ss s a b c e f g =
-    g ∙ ap (λ l. l ++ printed_statement (view_statement names s)) f
-    ∙ append_assoc a (printed_block (view_block names ss)) (printed_statement (view_statement names s))
-    ∙ ap (λ l. a ++ l) (sym (ap (λ x. printed_block (view_block names x)) e ∙ block_more names ss s))
+module _ (names : List (String Global)) (all ss : List Stmt) (s : Stmt) (a b c : List ℕ) where
+  pub one_more : all ≡ ss ++ s ∷ [] → b ≡ a ++ printed_block (view_block names ss) →
+      c ≡ b ++ printed_statement (view_statement names s) → c ≡ a ++ printed_block (view_block names all)
+  one_more e f g =
+      g ∙ ap (λ l. l ++ printed_statement (view_statement names s)) f
+      ∙ append_assoc a (printed_block (view_block names ss)) (printed_statement (view_statement names s))
+      ∙ ap (λ l. a ++ l) (sym (ap (λ x. printed_block (view_block names x)) e ∙ block_more names ss s))
 
 -- an `if` without `else`
 pub if_text : (names : List (String Global)) (statement : Stmt) (s : Span) (test : Expr) (held : Vec Stmt)
@@ -40,23 +40,23 @@ if_text names statement s test held otherwise e f =
     ∙ ap printed_statement (view-If names s test held)
 
 -- an `if` with `else`
-pub if_else_text : (names : List (String Global)) (statement : Stmt) (s : Span) (test : Expr) (held : Vec Stmt)
-    (otherwise : Option (Vec Stmt)) (others : Vec Stmt) → statement ≡ statements.If s test held otherwise →
-    otherwise ≡ Some others
-    → printed_statement (view_statement names statement)
-    ≡ printed_opening (codes "if ") (view names test)
-    ++ (printed_block (view_block names held.items)
-    ++ (codes "}\nelse {\n" ++ (printed_block (view_block names others.items) ++ codes "}\n")))
-if_else_text names statement s test held otherwise others e f =
-    ap (λ x. printed_statement (view_statement names x)) (e ∙ ap (λ o. statements.If s test held o) f)
-    ∙ ap printed_statement (view-If_else names s test held others)
+module _ (names : List (String Global)) (statement : Stmt) (s : Span) (test : Expr) (held : Vec Stmt)
+    (otherwise : Option (Vec Stmt)) (others : Vec Stmt) where
+  pub if_else_text : statement ≡ statements.If s test held otherwise → otherwise ≡ Some others →
+      printed_statement (view_statement names statement) ≡ printed_opening (codes "if ") (view names test) ++
+      (printed_block (view_block names held.items) ++ (codes "}\nelse {\n" ++ (printed_block (view_block names
+      others.items) ++ codes "}\n")))
+  if_else_text e f =
+      ap (λ x. printed_statement (view_statement names x)) (e ∙ ap (λ o. statements.If s test held o) f)
+      ∙ ap printed_statement (view-If_else names s test held others)
 
 -- one more of a list is printed
-pub more_of : {A B : Type 0} (f : B → List ℕ) (v : A → B) (all xs : List A) (x : A) (a b c : List ℕ) →
-    all ≡ xs ++ x ∷ [] → b ≡ a ++ flat_map f (map v xs) → c ≡ b ++ f (v x) → c ≡ a ++ flat_map f (map v all)
-more_of f v all xs x a b c e g h =
-    h ∙ ap (λ l. l ++ f (v x)) g ∙ flat_map_more f a (map v xs) (v x)
-    ∙ ap (λ l. a ++ flat_map f l) (sym (ap (map v) e ∙ map-append v xs (x ∷ [])))
+module _ {A B : Type 0} (f : B → List ℕ) (v : A → B) (all xs : List A) (x : A) (a b c : List ℕ) where
+  pub more_of : all ≡ xs ++ x ∷ [] → b ≡ a ++ flat_map f (map v xs) → c ≡ b ++ f (v x) →
+      c ≡ a ++ flat_map f (map v all)
+  more_of e g h =
+      h ∙ ap (λ l. l ++ f (v x)) g ∙ flat_map_more f a (map v xs) (v x)
+      ∙ ap (λ l. a ++ flat_map f l) (sym (ap (map v) e ∙ map-append v xs (x ∷ [])))
 
 -- a text with another behind it, and what follows the two
 pub ahead : (a b x rest d : List ℕ) → b ≡ a ++ x → d ≡ b ++ rest → d ≡ a ++ (x ++ rest)

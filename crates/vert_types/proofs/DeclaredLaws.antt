@@ -60,15 +60,15 @@ module _ (names : List (String Global)) where
   sends_are (Some b) = refl
 
   -- a list of five parts, part by part
-  pub five : {X Y : Type 0} (f : X → Y) (a b c d e : List X) (a' b' c' d' e' : List Y) → map f a ≡ a' → map f b ≡ b' →
-      map f c ≡ c' → map f d ≡ d' → map f e ≡ e' → map f (a ++ (b ++ (c ++ (d ++ e)))) ≡ a'
-      ++ (b' ++ (c' ++ (d' ++ e')))
-  five f a b c d e a' b' c' d' e' p q r s t =
-      map-append f a (b ++ (c ++ (d ++ e)))
-      ∙ ap (λ l. l ++ map f (b ++ (c ++ (d ++ e)))) p
-      ∙ ap (λ l. a' ++ l) (map-append f b (c ++ (d ++ e)) ∙ ap (λ l. l ++ map f (c ++ (d ++ e))) q
-      ∙ ap (λ l. b' ++ l) (map-append f c (d ++ e) ∙ ap (λ l. l ++ map f (d ++ e)) r
-      ∙ ap (λ l. c' ++ l) (map-append f d e ∙ ap (λ l. l ++ map f e) s ∙ ap (λ l. d' ++ l) t)))
+  module _ {X Y : Type 0} (f : X → Y) (a b c d e : List X) (a' b' c' d' e' : List Y) where
+    pub five : map f a ≡ a' → map f b ≡ b' → map f c ≡ c' → map f d ≡ d' → map f e ≡ e' →
+        map f (a ++ (b ++ (c ++ (d ++ e)))) ≡ a' ++ (b' ++ (c' ++ (d' ++ e')))
+    five p q r s t =
+        map-append f a (b ++ (c ++ (d ++ e)))
+        ∙ ap (λ l. l ++ map f (b ++ (c ++ (d ++ e)))) p
+        ∙ ap (λ l. a' ++ l) (map-append f b (c ++ (d ++ e)) ∙ ap (λ l. l ++ map f (c ++ (d ++ e))) q
+        ∙ ap (λ l. b' ++ l) (map-append f c (d ++ e) ∙ ap (λ l. l ++ map f (d ++ e)) r
+        ∙ ap (λ l. c' ++ l) (map-append f d e ∙ ap (λ l. l ++ map f e) s ∙ ap (λ l. d' ++ l) t)))
 
 pub definitions_are : (p : Program) → map (define p.names.items) (all_items p) ≡ definitions (view_program p)
 definitions_are p =

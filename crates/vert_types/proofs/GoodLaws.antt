@@ -174,18 +174,19 @@ module _ (d : Dictionary) (names : List (String Global)) where
     abbrev as_own : (t : ValueType) (s : Span) (n : Node) → Good s n → F s n ++ K t s n ≡ [] → GoodAs t n
     as_own t s n g h = good_as t s n (start (view_node names s n)) g (none_right (F s n) (K t s n) h)
 
-    two_good : (s : Span) (whole a b : Node) (t u : ValueType) → GoodAs t a → GoodAs t b →
-        node_placed p.names whole ≡ (node_placed p.names a && node_placed p.names b) →
-        node_read p.words whole ≡ (node_read p.words a && node_read p.words b) →
-        node_kind k whole ≡ kind_where (has_kind t (node_kind k a) && has_kind t (node_kind k b)) u →
-        kind_of d p (view_node names s whole) ≡ Some u → Good s whole
-    two_good s whole a b t u g h placed read kinded told = record {
-      placed = placed ∙ and_from _ _ g.placed h.placed;
-      read = read ∙ and_from _ _ g.read h.read;
-      type = u;
-      told = told;
-      kinded = kinded ∙ two_parts t u a b g h;
-    }
+    module _ (s : Span) (whole a b : Node) (t u : ValueType) where
+      two_good : GoodAs t a → GoodAs t b →
+          node_placed p.names whole ≡ (node_placed p.names a && node_placed p.names b) →
+          node_read p.words whole ≡ (node_read p.words a && node_read p.words b) →
+          node_kind k whole ≡ kind_where (has_kind t (node_kind k a) && has_kind t (node_kind k b)) u →
+          kind_of d p (view_node names s whole) ≡ Some u → Good s whole
+      two_good g h placed read kinded told = record {
+        placed = placed ∙ and_from _ _ g.placed h.placed;
+        read = read ∙ and_from _ _ g.read h.read;
+        type = u;
+        told = told;
+        kinded = kinded ∙ two_parts t u a b g h;
+      }
 
     pub good : Agrees d p k → (s : Span) (n : Node) → node_filled (what_of d names) n ≡ true → F s n ≡ [] → Good s n
     good agrees s (nodes.Int x) filled none = record {

@@ -170,26 +170,27 @@ module _ (d : Dictionary) (names : List (String Global)) (fields lets sends : Li
     has_others = h.has_others;
   }
 
-  pub lets_good : (p : Place) (k : Kinds) → Holds p k → (n : ℕ) (before : List ValueType) (ds : List Decl) →
-      n ≡ length before → lets ≡ before ++ kinds_of ds → decls_filled w ds ≡ true →
-      let_faults d p n (map (view_declaration names) ds) ≡ [] →
-      LetsTyped (with_lets n p).names p.words (with_before before k) ds
-  lets_good p k h n before [] many all filled none = record { placed = refl; read = refl; typed = refl }
-  lets_good p k h n before (e ∷ es) many all filled none =
-      let f = and_parts (decl_filled w e) (decls_filled w es) filled in
-      let A : List Finding = faults_as d (with_lets n p) e.kind (view names e.value) in
-      let B : List Finding = let_faults d p (n + 1) (map (view_declaration names) es) in
-      let g = expr_good (with_lets n p) (with_before before k)
-      (holds_before p k h n before (kinds_of (e ∷ es)) many all) e.kind e.value
-      (and_parts (name_filled w e.name) (expr_filled w e.value) f.0).1 (none_left A B none) in
-      let next : n + 1 ≡ length (before ++ e.kind ∷ []) = omega (arith, many, length-append before (e.kind ∷ [])) in
-      let more = lets_good p k h (n + 1) (before ++ e.kind ∷ []) es next
-      (all ∙ sym (append_assoc before (e.kind ∷ []) (kinds_of es))) f.1 (none_right A B none) in
-      record {
-        placed = and_from _ _ g.placed more.placed;
-        read = and_from _ _ g.read more.read;
-        typed = and_from _ _ g.typed more.typed;
-      }
+  module _ (p : Place) (k : Kinds) where
+    pub lets_good : Holds p k → (n : ℕ) (before : List ValueType) (ds : List Decl) → n ≡ length before →
+        lets ≡ before ++ kinds_of ds → decls_filled w ds ≡ true →
+        let_faults d p n (map (view_declaration names) ds) ≡ [] →
+        LetsTyped (with_lets n p).names p.words (with_before before k) ds
+    lets_good h n before [] many all filled none = record { placed = refl; read = refl; typed = refl }
+    lets_good h n before (e ∷ es) many all filled none =
+        let f = and_parts (decl_filled w e) (decls_filled w es) filled in
+        let A : List Finding = faults_as d (with_lets n p) e.kind (view names e.value) in
+        let B : List Finding = let_faults d p (n + 1) (map (view_declaration names) es) in
+        let g = expr_good (with_lets n p) (with_before before k)
+        (holds_before p k h n before (kinds_of (e ∷ es)) many all) e.kind e.value
+        (and_parts (name_filled w e.name) (expr_filled w e.value) f.0).1 (none_left A B none) in
+        let next : n + 1 ≡ length (before ++ e.kind ∷ []) = omega (arith, many, length-append before (e.kind ∷ [])) in
+        let more = lets_good h (n + 1) (before ++ e.kind ∷ []) es next
+        (all ∙ sym (append_assoc before (e.kind ∷ []) (kinds_of es))) f.1 (none_right A B none) in
+        record {
+          placed = and_from _ _ g.placed more.placed;
+          read = and_from _ _ g.read more.read;
+          typed = and_from _ _ g.typed more.typed;
+        }
 
   -- ---- blocks, at the places of a program
   -- Where no let and no send is named: the names of the program, and so many of each sort.
@@ -242,46 +243,47 @@ module _ (d : Dictionary) (names : List (String Global)) (fields lets sends : Li
     abbrev in_body : Readable → ℕ → Place
     in_body r n = record { words = r; names = record c { locals = n } }
 
-    pub dense_good : Base at k → c ≡ record c { locals = 0 } → k ≡ with_before [] k → (b : Dense) (n : ℕ) →
-        n ≡ length b.lets.items → lets ≡ kinds_of b.lets.items → dense_filled w b ≡ true →
-        faults_as d at kind.Bool (view names b.when_test)
-        ++ (let_faults d at 0 (map (view_declaration names) b.lets.items)
-        ++ (block_faults d loop_rights (in_body in_loop n) (view_block names b.body.items)
-        ++ block_faults d tail_rights (in_body in_tests n) (view_block names b.tail.items))) ≡ [] →
-        DenseTyped c k b
-    dense_good base fresh plain b n many all filled none =
-        let A : List Finding = faults_as d at kind.Bool (view names b.when_test) in
-        let B : List Finding = let_faults d at 0 (map (view_declaration names) b.lets.items) in
-        let C : List Finding = block_faults d loop_rights (in_body in_loop n) (view_block names b.body.items) in
-        let D : List Finding = block_faults d tail_rights (in_body in_tests n) (view_block names b.tail.items) in
-        let f = and_parts (expr_filled w b.when_test)
-        (decls_filled w b.lets.items && (body_filled w b.body.items && body_filled w b.tail.items)) filled in
-        let g = and_parts (decls_filled w b.lets.items) (body_filled w b.body.items && body_filled w b.tail.items) f.1
-        in
-        let e = and_parts (body_filled w b.body.items) (body_filled w b.tail.items) g.1 in
-        let rest = none_right A (B ++ (C ++ D)) none in
-        let last = none_right B (C ++ D) rest in
-        let h = base_holds at k base in
-        let test = expr_good at k h kind.Bool b.when_test f.0 (none_left A (B ++ (C ++ D)) none) in
-        let before = lets_good at k h 0 [] b.lets.items refl all g.0 (none_left B (C ++ D) rest) in
-        let inner : Kinds = with_before (kinds_of b.lets.items) k in
-        let body = fine_block d names loop_rights (in_body in_loop n) inner
-        (agrees (in_body in_loop n) inner (lets_hold at k in_loop b.lets.items n base all many)) b.body.items e.0
-        (none_left C D last) in
-        let tail = fine_block d names tail_rights (in_body in_tests n) inner
-        (agrees (in_body in_tests n) inner (lets_hold at k in_tests b.lets.items n base all many)) b.tail.items
-        e.1 (none_right C D last) in
-        let with_n : ℕ → Counts = λ m. record c { locals = m } in
-        record {
-          placed =
-              and_from _ _ test.placed (and_from _ _ (ap (λ (x : Counts). lets_placed x b.lets.items) fresh
-              ∙ before.placed)
-              (and_from _ _ (ap (λ m. body_placed loop_rights (with_n m) b.body.items) (sym many) ∙ body.placed)
-              (ap (λ m. body_placed tail_rights (with_n m) b.tail.items) (sym many) ∙ tail.placed)));
-          read = and_from _ _ test.read (and_from _ _ before.read (and_from _ _ body.read tail.read));
-          typed = and_from _ _ test.typed (and_from _ _ (ap (λ (x : Kinds). lets_typed x b.lets.items) plain
-              ∙ before.typed) (and_from _ _ body.typed tail.typed));
-        }
+    module _ (base : Base at k) where
+      pub dense_good : c ≡ record c { locals = 0 } → k ≡ with_before [] k → (b : Dense) (n : ℕ) →
+          n ≡ length b.lets.items → lets ≡ kinds_of b.lets.items → dense_filled w b ≡ true →
+          faults_as d at kind.Bool (view names b.when_test) ++ (let_faults d at 0 (map (view_declaration names)
+          b.lets.items) ++ (block_faults d loop_rights (in_body in_loop n) (view_block names b.body.items) ++
+          block_faults d tail_rights (in_body in_tests n) (view_block names b.tail.items))) ≡ [] →
+          DenseTyped c k b
+      dense_good fresh plain b n many all filled none =
+          let A : List Finding = faults_as d at kind.Bool (view names b.when_test) in
+          let B : List Finding = let_faults d at 0 (map (view_declaration names) b.lets.items) in
+          let C : List Finding = block_faults d loop_rights (in_body in_loop n) (view_block names b.body.items) in
+          let D : List Finding = block_faults d tail_rights (in_body in_tests n) (view_block names b.tail.items) in
+          let f = and_parts (expr_filled w b.when_test)
+          (decls_filled w b.lets.items && (body_filled w b.body.items && body_filled w b.tail.items)) filled in
+          let g = and_parts (decls_filled w b.lets.items) (body_filled w b.body.items && body_filled w
+          b.tail.items) f.1
+          in
+          let e = and_parts (body_filled w b.body.items) (body_filled w b.tail.items) g.1 in
+          let rest = none_right A (B ++ (C ++ D)) none in
+          let last = none_right B (C ++ D) rest in
+          let h = base_holds at k base in
+          let test = expr_good at k h kind.Bool b.when_test f.0 (none_left A (B ++ (C ++ D)) none) in
+          let before = lets_good at k h 0 [] b.lets.items refl all g.0 (none_left B (C ++ D) rest) in
+          let inner : Kinds = with_before (kinds_of b.lets.items) k in
+          let body = fine_block d names loop_rights (in_body in_loop n) inner
+          (agrees (in_body in_loop n) inner (lets_hold at k in_loop b.lets.items n base all many)) b.body.items e.0
+          (none_left C D last) in
+          let tail = fine_block d names tail_rights (in_body in_tests n) inner
+          (agrees (in_body in_tests n) inner (lets_hold at k in_tests b.lets.items n base all many)) b.tail.items
+          e.1 (none_right C D last) in
+          let with_n : ℕ → Counts = λ m. record c { locals = m } in
+          record {
+            placed =
+                and_from _ _ test.placed (and_from _ _ (ap (λ (x : Counts). lets_placed x b.lets.items) fresh
+                ∙ before.placed)
+                (and_from _ _ (ap (λ m. body_placed loop_rights (with_n m) b.body.items) (sym many) ∙ body.placed)
+                (ap (λ m. body_placed tail_rights (with_n m) b.tail.items) (sym many) ∙ tail.placed)));
+            read = and_from _ _ test.read (and_from _ _ before.read (and_from _ _ body.read tail.read));
+            typed = and_from _ _ test.typed (and_from _ _ (ap (λ (x : Kinds). lets_typed x b.lets.items) plain
+                ∙ before.typed) (and_from _ _ body.typed tail.typed));
+          }
 
     pub record SparseTyped (b : Sparse) : Type 0 where
       pub placed : sparse_placed c b ≡ true

@@ -113,10 +113,11 @@ mode_right : (mode : Mode) (dense sparse : Bool) (s : Span) → mode_faults mode
     mode_stands mode dense sparse ≡ true
 mode_right mode dense sparse s h = mode_right_where (dense || sparse) (mode_stands mode dense sparse) s h
 
-seven : (a b c d e f g : Bool) → a ≡ true → b ≡ true → c ≡ true → d ≡ true → e ≡ true → f ≡ true → g ≡ true →
-    (a && (b && (c && (d && (e && (f && g)))))) ≡ true
-seven a b c d e f g p q r s t u v = and_from a _ p
-    (and_from b _ q (and_from c _ r (and_from d _ s (and_from e _ t (and_from f g u v)))))
+module _ (a b c d e f g : Bool) where
+  seven : a ≡ true → b ≡ true → c ≡ true → d ≡ true → e ≡ true → f ≡ true → g ≡ true →
+      (a && (b && (c && (d && (e && (f && g)))))) ≡ true
+  seven p q r s t u v = and_from a _ p
+      (and_from b _ q (and_from c _ r (and_from d _ s (and_from e _ t (and_from f g u v)))))
 
 -- a test of a part that may be missing, by another test
 option_by : {X : Type 0} (f : X → Bool) (o : Option X) → ((x : X) → o ≡ Some x → f x ≡ true) → option_all f o ≡ true

@@ -25,23 +25,24 @@ pub record Declares (from : List (Option Meaning)) (before : Option Finding) (it
   pub table : to ≡ table_after from items
   pub faults : after ≡ first_from before (twice_in from items)
 
-pub then_declares : (a b c : List (Option Meaning)) (x y z : Option Finding) (some more : List Item) →
-    Declares a x some b y → Declares b y more c z → Declares a x (some ++ more) c z
-then_declares a b c x y z some more p q = record {
-  table = q.table ∙ ap (λ t. table_after t more) p.table ∙ sym (table_after-append a some more);
-  faults =
-      q.faults
-      ∙ ap (λ o. first_from o (twice_in b more)) p.faults
-      ∙ ap (λ t. first_from (first_from x (twice_in a some)) (twice_in t more)) p.table
-      ∙ sym (first_from-append x (twice_in a some) (twice_in (table_after a some) more))
-      ∙ sym (ap (first_from x) (twice_in-append a some more));
-}
+module _ (a b c : List (Option Meaning)) (x y z : Option Finding) (some more : List Item) where
+  pub then_declares : Declares a x some b y → Declares b y more c z → Declares a x (some ++ more) c z
+  then_declares p q = record {
+    table = q.table ∙ ap (λ t. table_after t more) p.table ∙ sym (table_after-append a some more);
+    faults =
+        q.faults
+        ∙ ap (λ o. first_from o (twice_in b more)) p.faults
+        ∙ ap (λ t. first_from (first_from x (twice_in a some)) (twice_in t more)) p.table
+        ∙ sym (first_from-append x (twice_in a some) (twice_in (table_after a some) more))
+        ∙ sym (ap (first_from x) (twice_in-append a some more));
+  }
 
 -- the same, by what the call says of a list that is this one
-pub declares : {X : Type 0} (make : List X → List Item) (l l' : List X) (a b : List (Option Meaning))
-    (x y : Option Finding) → l ≡ l' → b ≡ table_after a (make l) → y ≡ first_from x (twice_in a (make l)) →
-    Declares a x (make l') b y
-declares make l l' a b x y same table faults = record {
-  table = table ∙ ap (λ s. table_after a (make s)) same;
-  faults = faults ∙ ap (λ s. first_from x (twice_in a (make s))) same;
-}
+module _ {X : Type 0} (make : List X → List Item) (l l' : List X) (a b : List (Option Meaning))
+    (x y : Option Finding) where
+  pub declares : l ≡ l' → b ≡ table_after a (make l) → y ≡ first_from x (twice_in a (make l)) →
+      Declares a x (make l') b y
+  declares same table faults = record {
+    table = table ∙ ap (λ s. table_after a (make s)) same;
+    faults = faults ∙ ap (λ s. first_from x (twice_in a (make s))) same;
+  }

@@ -64,19 +64,19 @@ pub record Feeding (given left now_given now_left : List Member) (rest whole : L
 pub feeding_none : (given left : List Member) (whole : List ℕ) → Feeding given left given left whole whole
 feeding_none given left whole = record { read = []; gave = sym (append-nil given); keeps = refl; ids = refl }
 
-pub feeding_more : (given left g l h k : List Member) (m : Member) (rest others whole : List ℕ) →
-    l ≡ m ∷ k → h ≡ g ++ m ∷ [] → rest ≡ id_of m ∷ others → Feeding given left g l rest whole →
-    Feeding given left h k others whole
-feeding_more given left g l h k m rest others whole first more is f = record {
-  read = f.read ++ m ∷ [];
-  gave = more ∙ ap (λ xs. xs ++ m ∷ []) f.gave ∙ append_assoc given f.read (m ∷ []);
-  keeps = f.keeps ∙ ap (λ xs. f.read ++ xs) first ∙ sym (append_assoc f.read (m ∷ []) k);
-  ids =
-      ap (λ us. us ++ others) (map-append id_of f.read (m ∷ []))
-      ∙ append_assoc (map id_of f.read) (id_of m ∷ []) others
-      ∙ ap (λ us. map id_of f.read ++ us) (sym is)
-      ∙ f.ids;
-}
+module _ (given left g l h k : List Member) (m : Member) (rest others whole : List ℕ) where
+  pub feeding_more : l ≡ m ∷ k → h ≡ g ++ m ∷ [] → rest ≡ id_of m ∷ others → Feeding given left g l rest whole →
+      Feeding given left h k others whole
+  feeding_more first more is f = record {
+    read = f.read ++ m ∷ [];
+    gave = more ∙ ap (λ xs. xs ++ m ∷ []) f.gave ∙ append_assoc given f.read (m ∷ []);
+    keeps = f.keeps ∙ ap (λ xs. f.read ++ xs) first ∙ sym (append_assoc f.read (m ∷ []) k);
+    ids =
+        ap (λ us. us ++ others) (map-append id_of f.read (m ∷ []))
+        ∙ append_assoc (map id_of f.read) (id_of m ∷ []) others
+        ∙ ap (λ us. map id_of f.read ++ us) (sym is)
+        ∙ f.ids;
+  }
 
 pub fed_of : (given left h k : List Member) (whole : List ℕ) → Feeding given left h k [] whole →
     Fed given left h k whole
@@ -145,12 +145,12 @@ beside-refl env = record {
 }
 
 -- the names at a neighbour
-pub names_there : (start env : Env) (m : Member) (list loop : List Instr) → SameFrame (beside start env) env →
-    IsWide start m → list ≡ loop →
-    list_names (counts_at start) loop ≡ true → list_names (counts_of (at_neighbour m env)) list ≡ true
-names_there start env m list loop k wide is h =
-    let widened : Counts → Counts = λ c. record c { other_fields = length m.1.words.items } in
-    ap (λ c. list_names c list) (ap widened k.counts
-    ∙ ap (λ n. let counts : Counts = record (counts_of start) { other_fields = n } in counts) wide)
-    ∙ ap (list_names (counts_at start)) is
-    ∙ h
+module _ (start env : Env) (m : Member) (list loop : List Instr) where
+  pub names_there : SameFrame (beside start env) env → IsWide start m → list ≡ loop →
+      list_names (counts_at start) loop ≡ true → list_names (counts_of (at_neighbour m env)) list ≡ true
+  names_there k wide is h =
+      let widened : Counts → Counts = λ c. record c { other_fields = length m.1.words.items } in
+      ap (λ c. list_names c list) (ap widened k.counts
+      ∙ ap (λ n. let counts : Counts = record (counts_of start) { other_fields = n } in counts) wide)
+      ∙ ap (list_names (counts_at start)) is
+      ∙ h

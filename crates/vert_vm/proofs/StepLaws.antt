@@ -161,19 +161,18 @@ pub record Goes (place : ℕ) (rest : List Instr) (s : Step) : Type 0 where
   pub within : s.over ≤ length rest
   pub entered : IsEntered (place + 1 + s.over) (length s.stack) (drop s.over rest)
 
-onward_goes : (i : Instr) (takes gives place : ℕ) (rest : List Instr) (stack : List ℤ) (env : Env) (s : Step) →
-    way_of i ≡ Onward takes gives →
-    IsEntered place (length stack) (i ∷ rest) → s.over ≡ 0 → length s.stack ≡ length stack - takes + gives →
-    Goes place rest s
-onward_goes i takes gives place rest stack env s way e none size =
-    let a = entered_onward i takes gives place (length stack) rest way e in
-    let same : place + 1 ≡ place + 1 + s.over = omega arith in
-    record {
-      within = omega arith;
-      entered = subst (λ (q : ℕ). IsEntered q (length s.stack) (drop s.over rest)) same
-          (subst (λ (n : ℕ). IsEntered (place + 1) (length s.stack) (drop n rest)) (sym none)
-          (subst (λ (h : ℕ). IsEntered (place + 1) h rest) (sym size) a.1));
-    }
+module _ (i : Instr) (takes gives place : ℕ) (rest : List Instr) (stack : List ℤ) (env : Env) (s : Step) where
+  onward_goes : way_of i ≡ Onward takes gives → IsEntered place (length stack) (i ∷ rest) → s.over ≡ 0 →
+      length s.stack ≡ length stack - takes + gives → Goes place rest s
+  onward_goes way e none size =
+      let a = entered_onward i takes gives place (length stack) rest way e in
+      let same : place + 1 ≡ place + 1 + s.over = omega arith in
+      record {
+        within = omega arith;
+        entered = subst (λ (q : ℕ). IsEntered q (length s.stack) (drop s.over rest)) same
+            (subst (λ (n : ℕ). IsEntered (place + 1) (length s.stack) (drop n rest)) (sym none)
+            (subst (λ (h : ℕ). IsEntered (place + 1) h rest) (sym size) a.1));
+      }
 
 module _ (place : ℕ) (rest : List Instr) (stack : List ℤ) (env : Env) where
   load_goes : (i : Instr) → way_of i ≡ Onward 0 1 → IsEntered place (length stack) (i ∷ rest) → (x : ℤ) → (s : Step) →

@@ -67,26 +67,26 @@ emissions_taken n key (e ∷ es) ps =
     ∙ emissions_taken n key es (with_emission key ps e)
 
 -- the first partials of a vertex after its tail
-pub tail_taken : (split : Split) (d : Dense) (g : Sight) (key v : ℕ) (own lets slots new : List Partial)
-    (st : LoopState) (carried : List ℤ) (env : Env) →
-    env ≡ seen_env g v key (none split) → carried ≡ unwrap_or (told_words st) [] →
-    lets ≡ drop (slot_count split) own → slots ≡ take (slot_count split) own →
-    new ≡ tail_slots d carried lets env slots → new ≡ take (slot_count split) (tail_at split d g key own st v)
-tail_taken split d g key v own lets slots new st carried env ee ec el es h =
-    let n : ℕ = slot_count split in
-    let seen : Env = seen_env g v key (none split) in
-    h
-    ∙ ap (λ e. tail_slots d carried lets e slots) ee
-    ∙ ap (λ ws. tail_slots d ws lets seen slots) ec
-    ∙ ap (λ qs. tail_slots d (unwrap_or (told_words st) []) qs seen slots) el
-    ∙ ap (tail_slots d (unwrap_or (told_words st) []) (drop n own) seen) es
-    ∙ by (is_set (value_of d.when_test seen)) (run d.tail.items (tail_env split d seen own st)).emitted
-  where
-    by : (b : Bool) (emitted : List Emission) →
-        (if b then with_emissions key (take (slot_count split) own) emitted else take (slot_count split) own) ≡
-        take (slot_count split) (if b then with_emissions key own emitted else own)
-    by true emitted = emissions_taken (slot_count split) key emitted own
-    by false emitted = refl
+module _ (split : Split) (d : Dense) (g : Sight) (key v : ℕ) (own lets slots new : List Partial)
+    (st : LoopState) (carried : List ℤ) (env : Env) where
+  pub tail_taken : env ≡ seen_env g v key (none split) → carried ≡ unwrap_or (told_words st) [] →
+      lets ≡ drop (slot_count split) own → slots ≡ take (slot_count split) own →
+      new ≡ tail_slots d carried lets env slots → new ≡ take (slot_count split) (tail_at split d g key own st v)
+  tail_taken ee ec el es h =
+      let n : ℕ = slot_count split in
+      let seen : Env = seen_env g v key (none split) in
+      h
+      ∙ ap (λ e. tail_slots d carried lets e slots) ee
+      ∙ ap (λ ws. tail_slots d ws lets seen slots) ec
+      ∙ ap (λ qs. tail_slots d (unwrap_or (told_words st) []) qs seen slots) el
+      ∙ ap (tail_slots d (unwrap_or (told_words st) []) (drop n own) seen) es
+      ∙ by (is_set (value_of d.when_test seen)) (run d.tail.items (tail_env split d seen own st)).emitted
+    where
+      by : (b : Bool) (emitted : List Emission) →
+          (if b then with_emissions key (take (slot_count split) own) emitted else take (slot_count split) own) ≡
+          take (slot_count split) (if b then with_emissions key own emitted else own)
+      by true emitted = emissions_taken (slot_count split) key emitted own
+      by false emitted = refl
 
 -- ---- the environment at an own vertex
 module _ (rows : List Row) (degrees : List Degree) (start place : ℕ) where
@@ -97,34 +97,35 @@ module _ (rows : List Row) (degrees : List Degree) (start place : ℕ) where
       length ((own_view rows degrees start first).row (start + place)).words.items ≡ width
   view_width first width wide = ap (λ i. length (row_at rows i).words.items) back ∙ wide
 
-  pub seen_there : (first read new : Env) (values : List (Option ℤ)) (key : ℕ) (d : Degree) → place < length degrees →
-      read ≡ with_row (row_at rows place) (record first { slots = record { items = values } }) →
-      new ≡ entered (start + place) (get_or degrees place d) key read →
-      new ≡ seen_env (own_view rows degrees start first) (start + place) key values
-  seen_there first read new values key d within is h =
-      let v : ℕ = start + place in
-      let same : get_or degrees place d ≡ get_or degrees (v - start) no_degree =
-      get_or_default degrees place d no_degree within ∙ ap (λ i. get_or degrees i no_degree) (sym back) in
-      let row : row_at rows place ≡ row_at rows (v - start) = ap (row_at rows) (sym back) in
-      h ∙ ap (entered v (get_or degrees place d) key) is
-      ∙ ap (λ (x : Degree).
-      entered v x key (with_row (row_at rows place) (record first { slots = record { items = values } }))) same
-      ∙ ap (λ (r : Row). entered v (get_or degrees (v - start) no_degree) key
-      (with_row r (record first { slots = record { items = values } }))) row
+  module _ (first read new : Env) (values : List (Option ℤ)) (key : ℕ) (d : Degree) where
+    pub seen_there : place < length degrees →
+        read ≡ with_row (row_at rows place) (record first { slots = record { items = values } }) →
+        new ≡ entered (start + place) (get_or degrees place d) key read →
+        new ≡ seen_env (own_view rows degrees start first) (start + place) key values
+    seen_there within is h =
+        let v : ℕ = start + place in
+        let same : get_or degrees place d ≡ get_or degrees (v - start) no_degree =
+        get_or_default degrees place d no_degree within ∙ ap (λ i. get_or degrees i no_degree) (sym back) in
+        let row : row_at rows place ≡ row_at rows (v - start) = ap (row_at rows) (sym back) in
+        h ∙ ap (entered v (get_or degrees place d) key) is
+        ∙ ap (λ (x : Degree).
+        entered v x key (with_row (row_at rows place) (record first { slots = record { items = values } }))) same
+        ∙ ap (λ (r : Row). entered v (get_or degrees (v - start) no_degree) key
+        (with_row r (record first { slots = record { items = values } }))) row
 
 -- it has as many names of each kind as a round has
-pub seen_counts : (split : Split) (g : Sight) (v key : ℕ) (values : List (Option ℤ)) (env : Env) →
-    env ≡ seen_env g v key values → length (g.row v).words.items ≡ field_count split →
-    length values ≡ slot_count split → length g.totals ≡ total_count split →
-    counts_of env ≡ round_counts (program_of split)
-seen_counts split g v key values env is fields slots totals = ap counts_of is ∙ (λ j. record {
-  fields = fields j;
-  locals = 0;
-  sends = 0;
-  slots = slots j;
-  totals = totals j;
-  other_fields = fields j;
-})
+module _ (split : Split) (g : Sight) (v key : ℕ) (values : List (Option ℤ)) (env : Env) where
+  pub seen_counts : env ≡ seen_env g v key values → length (g.row v).words.items ≡ field_count split →
+      length values ≡ slot_count split → length g.totals ≡ total_count split →
+      counts_of env ≡ round_counts (program_of split)
+  seen_counts is fields slots totals = ap counts_of is ∙ (λ j. record {
+    fields = fields j;
+    locals = 0;
+    sends = 0;
+    slots = slots j;
+    totals = totals j;
+    other_fields = fields j;
+  })
 
 -- ---- the update
 pub update_ran : (p : Program) (code : Code) (entered left seen : Env) → IsCodeOf p code → entered ≡ seen →
@@ -155,25 +156,26 @@ none_there g v ps empty (Send i) = refl
 none_there g v ps empty (Total i) = refl
 
 -- a vertex that isn't active keeps its row
-pub quiet_row : (split : Split) (t : RowTable) (degrees : List Degree) (start place : ℕ) (env : Env)
-    (slots ps : List Partial) → is_quiet (program_of split).update.items ≡ true →
-    (row_at t.rows place).active ≡ false → All (λ p. p.value ≡ None) slots → slots ≡ ps →
-    t ≡ record t {
-      rows = set t.rows place (updated (program_of split).update.items
-          (seen_env (own_view t.rows degrees start env) (start + place) 0 (values_of ps)));
-    }
-quiet_row split t degrees start place env slots ps quiet still empty same =
-    let v : ℕ = start + place in
-    let g : Sight = own_view t.rows degrees start env in
-    let back : v - start ≡ place = omega arith in
-    let row : Row = row_at t.rows place in
-    let flagged : Row → Row = λ r. record r { active = false } in
-    let with_flag : Bool → Row = λ b. record row { active = b } in
-    let update : List Stmt = (program_of split).update.items in
-    let stays : updated update (seen_env g v 0 (values_of ps)) ≡ row =
-    ap (λ qs. updated update (seen_env g v 0 (values_of qs))) (sym same)
-    ∙ quiet_updates update (seen_env g v 0 (values_of slots)) quiet (none_there g v slots empty) refl
-    ∙ ap (λ i. flagged (row_at t.rows i)) back
-    ∙ ap with_flag (sym still) in
-    let put : List Row → RowTable = λ rows. record t { rows = rows } in
-    sym (ap put (ap (set t.rows place) stays ∙ set-get_or t.rows place empty_row))
+module _ (split : Split) (t : RowTable) (degrees : List Degree) (start place : ℕ) (env : Env)
+    (slots ps : List Partial) where
+  pub quiet_row : is_quiet (program_of split).update.items ≡ true → (row_at t.rows place).active ≡ false →
+      All (λ p. p.value ≡ None) slots → slots ≡ ps →
+      t ≡ record t {
+        rows = set t.rows place (updated (program_of split).update.items (seen_env (own_view t.rows
+            degrees start env) (start + place) 0 (values_of ps)));
+      }
+  quiet_row quiet still empty same =
+      let v : ℕ = start + place in
+      let g : Sight = own_view t.rows degrees start env in
+      let back : v - start ≡ place = omega arith in
+      let row : Row = row_at t.rows place in
+      let flagged : Row → Row = λ r. record r { active = false } in
+      let with_flag : Bool → Row = λ b. record row { active = b } in
+      let update : List Stmt = (program_of split).update.items in
+      let stays : updated update (seen_env g v 0 (values_of ps)) ≡ row =
+      ap (λ qs. updated update (seen_env g v 0 (values_of qs))) (sym same)
+      ∙ quiet_updates update (seen_env g v 0 (values_of slots)) quiet (none_there g v slots empty) refl
+      ∙ ap (λ i. flagged (row_at t.rows i)) back
+      ∙ ap with_flag (sym still) in
+      let put : List Row → RowTable = λ rows. record t { rows = rows } in
+      sym (ap put (ap (set t.rows place) stays ∙ set-get_or t.rows place empty_row))

@@ -177,19 +177,21 @@ update_told s x body vs all list is count =
     (slice_index_or s.partials (v - a) [])) (own_vertices s))
 
 -- the same by what a machine holds in its place
-pub merged_told : (s : State) (x : Name) (body : List ℕ) (list : List VertexId) (all : List (List Partial))
-    (start key slots reduced : ℕ) → start ≡ start_of s.part.ends (machine s) → key ≡ x.step →
-    slots ≡ slot_count s.split → reduced ≡ length (reduced_in s.split.dense) →
-    map number list ≡ update_list s x.from x.half → s.partials ≡ all → length all ≡ length (own_vertices s) →
-    with_sents start key (map number list) (sents_read slots reduced (length list) body) all ≡ with_update s x body
-merged_told s x body list all start key slots reduced starts keyed is_slots is_reduced here is count =
-    ap (λ a. with_sents a key (map number list) (sents_read slots reduced (length list) body) all) starts
-    ∙ ap (λ k. with_sents (start_of s.part.ends (machine s)) k (map number list)
-    (sents_read slots reduced (length list) body) all) keyed
-    ∙ ap (λ n. with_sents (start_of s.part.ends (machine s)) x.step (map number list)
-    (sents_read n reduced (length list) body) all) is_slots
-    ∙ ap (λ n. with_sents (start_of s.part.ends (machine s)) x.step (map number list)
-    (sents_read (slot_count s.split) n (length list) body) all) is_reduced
-    ∙ ap (λ n. with_sents (start_of s.part.ends (machine s)) x.step (map number list)
-    (sents_read (slot_count s.split) (length (reduced_in s.split.dense)) n body) all) (sym (length-map list number))
-    ∙ update_told s x body (map number list) all here is count
+module _ (s : State) (x : Name) (body : List ℕ) (list : List VertexId) (all : List (List Partial))
+    (start key slots reduced : ℕ) where
+  pub merged_told : start ≡ start_of s.part.ends (machine s) → key ≡ x.step → slots ≡ slot_count s.split →
+      reduced ≡ length (reduced_in s.split.dense) → map number list ≡ update_list s x.from x.half →
+      s.partials ≡ all → length all ≡ length (own_vertices s) →
+      with_sents start key (map number list) (sents_read slots reduced (length list) body) all ≡ with_update s x
+      body
+  merged_told starts keyed is_slots is_reduced here is count =
+      ap (λ a. with_sents a key (map number list) (sents_read slots reduced (length list) body) all) starts
+      ∙ ap (λ k. with_sents (start_of s.part.ends (machine s)) k (map number list)
+      (sents_read slots reduced (length list) body) all) keyed
+      ∙ ap (λ n. with_sents (start_of s.part.ends (machine s)) x.step (map number list)
+      (sents_read n reduced (length list) body) all) is_slots
+      ∙ ap (λ n. with_sents (start_of s.part.ends (machine s)) x.step (map number list)
+      (sents_read (slot_count s.split) n (length list) body) all) is_reduced
+      ∙ ap (λ n. with_sents (start_of s.part.ends (machine s)) x.step (map number list)
+      (sents_read (slot_count s.split) (length (reduced_in s.split.dense)) n body) all) (sym (length-map list number))
+      ∙ update_told s x body (map number list) all here is count

@@ -87,15 +87,15 @@ module _ (sparse : Sparse) (rows : List Row) (degrees : List Degree) (start v : 
         ∙ ap (λ b. cond b (Some (sent_by sparse at)) None) is
 
 -- the words that were sent are worked over
-pub sent_edges : (r : Receiving) (first read : Env) (o : Option (List ℤ)) (es : List Edge) (table new : Rows Partial) →
-    o ≡ Some read.sends.items → settled read ≡ settled first →
-    new ≡ record table { rows = edges_added r read (λ sender. Some read.sends.items) es table.rows } →
-    new ≡ record table { rows = edges_added r first (λ sender. o) es table.rows }
-sent_edges r first read o es table new sent same added =
-    added
-    ∙ ap (λ (rows : List (List Partial)). record table { rows = rows })
-    (edges_settled r first read (λ sender. Some read.sends.items) es table.rows same
-    ∙ ap (λ p. edges_added r first (λ sender. p) es table.rows) (sym sent))
+module _ (r : Receiving) (first read : Env) (o : Option (List ℤ)) (es : List Edge) (table new : Rows Partial) where
+  pub sent_edges : o ≡ Some read.sends.items → settled read ≡ settled first →
+      new ≡ record table { rows = edges_added r read (λ sender. Some read.sends.items) es table.rows } →
+      new ≡ record table { rows = edges_added r first (λ sender. o) es table.rows }
+  sent_edges sent same added =
+      added
+      ∙ ap (λ (rows : List (List Partial)). record table { rows = rows })
+      (edges_settled r first read (λ sender. Some read.sends.items) es table.rows same
+      ∙ ap (λ p. edges_added r first (λ sender. p) es table.rows) (sym sent))
 
 -- ---- vertex by vertex
 none_met : (p : Edge → Bool) (es : List Edge) → list_any p es ≡ false → filter p es ≡ []
@@ -156,41 +156,38 @@ module _ (sparse : Sparse) (rs : Receivers) (spans : List Span) (first : Env) (o
         let v : ℕ = vertex_of (get_or spans at d) in
         ltb-true v rs.end (and_parts (nat_le rs.start v) (nat_lt v rs.end) (own_sender at d lt)).1
 
-    pub sending_more : (at : ℕ) (d : Span) (env next : Env) (now new : Rows Partial) → at < length spans →
-        IsSending at env now →
-        new
-        ≡ record now {
-          rows =
-              edges_added (receiving rs) env
-              (λ sender. own_sends sparse rs.rows.now.rows rs.degrees.now rs.start env
-              (vertex_of (get_or spans at d) - rs.start))
-              (bucket source (vertex_of (get_or spans at d)) rs.edges.now) now.rows;
-        } →
-        settled next ≡ settled env → CanReceive rs (length sparse.sends.items) next new →
-        IsSending (at + 1) next new
-    sending_more at d env next now new lt so_far added same can =
-        let v : ℕ = vertex_of (get_or spans at d) in
-        let r : Receiving = receiving rs in
-        let own : Env → Option (List ℤ) = λ e. own_sends sparse rs.rows.now.rows rs.degrees.now rs.start e
-        (vertex_of (get_or spans at d) - rs.start) in
-        let edges : List Edge = bucket source (vertex_of (get_or spans at d)) rs.edges.now in
-        let sent = ap (λ b. if b then own first else None) (own_sender at d lt) in
-        let here = ap (λ (t : Rows Partial). t.rows) added
-        ∙ edges_settled r first env (λ sender. own env) edges now.rows so_far.kept
-        ∙ ap (λ e. edges_added r first (λ sender. own e) edges now.rows) so_far.kept
-        ∙ sym (sender_is r first sends rs.edges.now (own first) v now.rows sent) in
-        record {
-          kept = same ∙ so_far.kept;
-          names = subst (λ (e : Env). AreSendsPlaced (own_counts rs.rows.now.width e) sparse) (sym same) so_far.names;
-          can = can;
-          width = ap (λ (t : Rows Partial). t.width) added ∙ so_far.width;
-          rows =
-              ap (add (drop (at + 1) (map vertex_of spans))) here
-              ∙ sym (ap (λ vs. add vs now.rows)
-              (drop_more (map vertex_of spans) at 0 (omega (arith, length-map spans vertex_of))
-              ∙ ap (λ u. u ∷ drop (at + 1) (map vertex_of spans)) (get_or-map vertex_of spans at d 0 lt)))
-              ∙ so_far.rows;
-        }
+    module _ (at : ℕ) (d : Span) (env next : Env) (now new : Rows Partial) where
+      pub sending_more : at < length spans → IsSending at env now →
+          new ≡ record now {
+            rows = edges_added (receiving rs) env (λ sender. own_sends sparse rs.rows.now.rows
+                rs.degrees.now rs.start env (vertex_of (get_or spans at d) - rs.start)) (bucket source (vertex_of
+                (get_or spans at d)) rs.edges.now) now.rows;
+          } → settled next ≡ settled env →
+          CanReceive rs (length sparse.sends.items) next new → IsSending (at + 1) next new
+      sending_more lt so_far added same can =
+          let v : ℕ = vertex_of (get_or spans at d) in
+          let r : Receiving = receiving rs in
+          let own : Env → Option (List ℤ) = λ e. own_sends sparse rs.rows.now.rows rs.degrees.now rs.start e
+          (vertex_of (get_or spans at d) - rs.start) in
+          let edges : List Edge = bucket source (vertex_of (get_or spans at d)) rs.edges.now in
+          let sent = ap (λ b. if b then own first else None) (own_sender at d lt) in
+          let here = ap (λ (t : Rows Partial). t.rows) added
+          ∙ edges_settled r first env (λ sender. own env) edges now.rows so_far.kept
+          ∙ ap (λ e. edges_added r first (λ sender. own e) edges now.rows) so_far.kept
+          ∙ sym (sender_is r first sends rs.edges.now (own first) v now.rows sent) in
+          record {
+            kept = same ∙ so_far.kept;
+            names = subst (λ (e : Env). AreSendsPlaced (own_counts rs.rows.now.width e) sparse) (sym same)
+                so_far.names;
+            can = can;
+            width = ap (λ (t : Rows Partial). t.width) added ∙ so_far.width;
+            rows =
+                ap (add (drop (at + 1) (map vertex_of spans))) here
+                ∙ sym (ap (λ vs. add vs now.rows)
+                (drop_more (map vertex_of spans) at 0 (omega (arith, length-map spans vertex_of))
+                ∙ ap (λ u. u ∷ drop (at + 1) (map vertex_of spans)) (get_or-map vertex_of spans at d 0 lt)))
+                ∙ so_far.rows;
+          }
 
     -- a vertex that is no source, or not an own one, changes nothing
     others : (v : ℕ) (all : List (List Partial)) →

@@ -35,42 +35,45 @@ received_names rs e first at here wide names =
     ∙ names
 
 -- what was emitted at the receiver of an edge is written to its partials
-pub edge_worked : (rs : Receivers) (e : Edge) (first at : Env) (loaded emitted : List Partial)
-    (old new : Rows Partial) (slots : ℕ) →
-    IsReceived rs.start (length rs.degrees.now) (length rs.rows.now.rows) rs.vertices e →
-    CanReceive rs (length first.sends.items) first old →
-    at ≡ received_at (receiving rs) first first.sends.items e →
-    length at.row.words.items ≡ rs.rows.now.width →
-    slots ≡ length at.slots.items →
-    loaded ≡ take slots (get_or old.rows (target e - rs.start) []) →
-    emitted ≡ with_emissions at.key loaded (run_code (receiving rs).list at).emitted →
-    new
-    ≡ record old {
-      rows =
-          set old.rows (target e - rs.start)
-          (emitted ++ drop (length emitted) (get_or old.rows (target e - rs.start) []));
-    } →
-    new ≡ record old { rows = edge_added (receiving rs) first e (Some first.sends.items) old.rows }
-edge_worked rs e first at loaded emitted old new slots lies can here wide count load run store =
-    let list : List Instr = (receiving rs).list in
-    let row : List Partial = get_or old.rows (target e - rs.start) [] in
-    let es : List Emission = (run_code (receiving rs).list at).emitted in
-    let within : target e - rs.start < length old.rows = omega (arith, lies.2, can.count) in
-    let size : length (get_or old.rows (target e - rs.start) []) ≡ old.width =
-    can.each (target e - rs.start) [] within in
-    let same : length at.slots.items ≡ length first.slots.items = ap (λ (env : Env). length env.slots.items) here in
-    let le : slots ≤ length (get_or old.rows (target e - rs.start) []) = omega (arith, can.slots, count, same, size) in
-    let names = received_names rs e first at here wide can.names in
-    let low = subst (λ n. AreBelow n (run_code (receiving rs).list at).emitted) (sym count)
-    (emitted_below (counts_of at) list at names) in
-    let ran = run ∙ ap (λ ps. with_emissions at.key ps (run_code (receiving rs).list at).emitted) load in
-    store
-    ∙ ap (λ (ps : List Partial). record old { rows = set old.rows (target e - rs.start) ps })
-    (row_emitted at.key slots row emitted es le low ran
-    ∙ ap
-    (λ (env : Env).
-    with_emissions env.key (get_or old.rows (target e - rs.start) []) (run_code (receiving rs).list env).emitted)
-    here)
+module _ (rs : Receivers) (e : Edge) (first at : Env) (loaded emitted : List Partial) (old new : Rows Partial)
+    (slots : ℕ) where
+  pub edge_worked : IsReceived rs.start (length rs.degrees.now) (length rs.rows.now.rows) rs.vertices e →
+      CanReceive rs (length first.sends.items) first old →
+      at ≡ received_at (receiving rs) first first.sends.items e →
+      length at.row.words.items ≡ rs.rows.now.width → slots ≡ length at.slots.items →
+      loaded ≡ take slots (get_or old.rows (target e - rs.start) []) →
+      emitted ≡ with_emissions at.key loaded (run_code (receiving rs).list at).emitted →
+      new ≡ record old {
+        rows = set old.rows (target e - rs.start) (emitted ++ drop (length emitted) (get_or
+            old.rows (target e - rs.start) []));
+      } →
+      new ≡ record old { rows = edge_added (receiving rs) first e (Some first.sends.items) old.rows }
+  edge_worked lies can here wide count load run store =
+      let list : List Instr = (receiving rs).list in
+      let row : List Partial = get_or old.rows (target e - rs.start) [] in
+      let es : List Emission = (run_code (receiving rs).list at).emitted in
+      let within : target e - rs.start < length old.rows = omega (arith, lies.2, can.count) in
+      let size : length (get_or old.rows (target e - rs.start) []) ≡ old.width =
+      can.each (target e - rs.start) [] within in
+      let same : length at.slots.items ≡ length first.slots.items = ap (λ (env : Env). length env.slots.items) here in
+      let le : slots ≤ length (get_or old.rows (target e - rs.start) []) = omega (
+        arith,
+        can.slots,
+        count,
+        same,
+        size,
+      ) in
+      let names = received_names rs e first at here wide can.names in
+      let low = subst (λ n. AreBelow n (run_code (receiving rs).list at).emitted) (sym count)
+      (emitted_below (counts_of at) list at names) in
+      let ran = run ∙ ap (λ ps. with_emissions at.key ps (run_code (receiving rs).list at).emitted) load in
+      store
+      ∙ ap (λ (ps : List Partial). record old { rows = set old.rows (target e - rs.start) ps })
+      (row_emitted at.key slots row emitted es le low ran
+      ∙ ap
+      (λ (env : Env).
+      with_emissions env.key (get_or old.rows (target e - rs.start) []) (run_code (receiving rs).list env).emitted)
+      here)
 
 -- ---- the edges of a vertex
 -- what is added goes by what of an environment stays
@@ -96,45 +99,47 @@ pub adding_none : (rs : Receivers) (first : Env) (old : Rows Partial) (all : Lis
     CanReceive rs (length first.sends.items) first old → IsAdding rs first old all (drop 0 all) first old
 adding_none rs first old all can = record { kept = refl; same = refl; can = can; width = refl; rows = refl }
 
-pub adding_more : (rs : Receivers) (first : Env) (old : Rows Partial) (all : List Edge) (i : ℕ) (d : Edge)
-    (env next : Env) (now new : Rows Partial) → i < length all →
-    new ≡ record now { rows = edge_added (receiving rs) env (get_or all i d) (Some env.sends.items) now.rows } →
-    settled next ≡ settled env → next.sends.items ≡ env.sends.items →
-    CanReceive rs (length env.sends.items) next new →
-    IsAdding rs first old all (drop i all) env now → IsAdding rs first old all (drop (i + 1) all) next new
-adding_more rs first old all i d env next now new lt added kept same can so_far =
-    let r : Receiving = receiving rs in
-    let e : Edge = get_or all i d in
-    let f : ℕ → Option (List ℤ) = λ sender. Some first.sends.items in
-    let one : new.rows ≡ edge_added (receiving rs) first (get_or all i d) (Some first.sends.items) now.rows =
-    ap (λ (t : Rows Partial). t.rows) added
-    ∙ added_settled r env first e env.sends.items now.rows so_far.kept
-    ∙ ap (λ sends. edge_added (receiving rs) first (get_or all i d) (Some sends) now.rows) so_far.same in
-    record {
-      kept = kept ∙ so_far.kept;
-      same = same ∙ so_far.same;
-      can = subst (λ (sends : List ℤ). CanReceive rs (length sends) next new) so_far.same can;
-      width = ap (λ (t : Rows Partial). t.width) added ∙ so_far.width;
-      rows =
-          ap (edges_added r first f (drop (i + 1) all)) one
-          ∙ sym (ap (λ es. edges_added r first f es now.rows) (drop_more all i d lt))
-          ∙ so_far.rows;
-    }
+module _ (rs : Receivers) (first : Env) (old : Rows Partial) (all : List Edge) (i : ℕ) (d : Edge)
+    (env next : Env) (now new : Rows Partial) where
+  pub adding_more : i < length all →
+      new ≡ record now { rows = edge_added (receiving rs) env (get_or all i d) (Some env.sends.items) now.rows }
+      → settled next ≡ settled env → next.sends.items ≡ env.sends.items →
+      CanReceive rs (length env.sends.items) next new → IsAdding rs first old all (drop i all) env now →
+      IsAdding rs first old all (drop (i + 1) all) next new
+  adding_more lt added kept same can so_far =
+      let r : Receiving = receiving rs in
+      let e : Edge = get_or all i d in
+      let f : ℕ → Option (List ℤ) = λ sender. Some first.sends.items in
+      let one : new.rows ≡ edge_added (receiving rs) first (get_or all i d) (Some first.sends.items) now.rows =
+      ap (λ (t : Rows Partial). t.rows) added
+      ∙ added_settled r env first e env.sends.items now.rows so_far.kept
+      ∙ ap (λ sends. edge_added (receiving rs) first (get_or all i d) (Some sends) now.rows) so_far.same in
+      record {
+        kept = kept ∙ so_far.kept;
+        same = same ∙ so_far.same;
+        can = subst (λ (sends : List ℤ). CanReceive rs (length sends) next new) so_far.same can;
+        width = ap (λ (t : Rows Partial). t.width) added ∙ so_far.width;
+        rows =
+            ap (edges_added r first f (drop (i + 1) all)) one
+            ∙ sym (ap (λ es. edges_added r first f es now.rows) (drop_more all i d lt))
+            ∙ so_far.rows;
+      }
 
-pub adding_all : (rs : Receivers) (first : Env) (old : Rows Partial) (all edges : List Edge) (i : ℕ) (env : Env)
-    (now : Rows Partial) → length all ≤ i → all ≡ edges → IsAdding rs first old all (drop i all) env now →
-    now
-    ≡ record old {
-      rows = edges_added (receiving rs) first (λ sender. Some first.sends.items) edges old.rows;
-    }
-adding_all rs first old all edges i env now past same so_far =
-    let f : ℕ → Option (List ℤ) = λ sender. Some first.sends.items in
-    let rows = sym (ap (λ es. edges_added (receiving rs) first f es now.rows) (drop_all i all past))
-    ∙ so_far.rows ∙ ap (λ es. edges_added (receiving rs) first f es old.rows) same in
-    λ j. record { width = so_far.width j; rows = rows j }
+module _ (rs : Receivers) (first : Env) (old : Rows Partial) (all edges : List Edge) (i : ℕ) (env : Env)
+    (now : Rows Partial) where
+  pub adding_all : length all ≤ i → all ≡ edges → IsAdding rs first old all (drop i all) env now →
+      now ≡ record old {
+        rows = edges_added (receiving rs) first (λ sender. Some first.sends.items) edges
+            old.rows;
+      }
+  adding_all past same so_far =
+      let f : ℕ → Option (List ℤ) = λ sender. Some first.sends.items in
+      let rows = sym (ap (λ es. edges_added (receiving rs) first f es now.rows) (drop_all i all past))
+      ∙ so_far.rows ∙ ap (λ es. edges_added (receiving rs) first f es old.rows) same in
+      λ j. record { width = so_far.width j; rows = rows j }
 
 -- each edge of a vertex leads to an own one
-pub span_received : (P : Edge → Type 0) (v : ℕ) (edges all : List Edge) (i : ℕ) (d : Edge) → All P edges →
-    all ≡ bucket source v edges → i < length all → P (get_or all i d)
-span_received P v edges all i d each is lt =
-    (subst (All P) (sym is) (All-filter (λ e. source e == v) P edges each)) i d lt
+module _ (P : Edge → Type 0) (v : ℕ) (edges all : List Edge) (i : ℕ) (d : Edge) where
+  pub span_received : All P edges → all ≡ bucket source v edges → i < length all → P (get_or all i d)
+  span_received each is lt =
+      (subst (All P) (sym is) (All-filter (λ e. source e == v) P edges each)) i d lt

@@ -42,20 +42,21 @@ module _ (c : Counts) (d : Dense) (h : dense_placed c d ≡ true) where
       (and_parts (expr_placed c d.when_test) (lets_placed c d.lets.items && bodies) h).1).0
 
 -- own lets, over which the words for the tail were written
-pub lets_closed : (d : Dense) (decls : List Decl) (carried : List ℤ) (qs : List Partial) (cs : List Class)
-    (env cleared added : Env) (words : List ℤ) →
-    cleared ≡ record env { locals = record { items = [] } } → decls ≡ d.lets.items → added ≡ with_lets decls cleared →
-    cs ≡ (loop_split d).classes.locals.items → words ≡ closing cs added.locals.items carried (values_of qs) →
-    record added { locals = record { items = words } } ≡ closing_env d carried qs env
-lets_closed d decls carried qs cs env cleared added words e el ea ec ew =
-    let bare : Env = record env { locals = record { items = [] } } in
-    let own : added ≡ with_lets d.lets.items bare =
-    ea ∙ ap (λ ds. with_lets ds cleared) el ∙ ap (with_lets d.lets.items) e in
-    let put : List ℤ → Env → Env = λ ws x. record x { locals = record { items = ws } } in
-    ap (put words) (own ∙ only_locals d.lets.items bare)
-    ∙ ap (λ ws. put ws env)
-    (ew ∙ ap (λ c. closing c added.locals.items carried (values_of qs)) ec
-    ∙ ap (λ (x : Env). closing (loop_split d).classes.locals.items x.locals.items carried (values_of qs)) own)
+module _ (d : Dense) (decls : List Decl) (carried : List ℤ) (qs : List Partial) (cs : List Class)
+    (env cleared added : Env) (words : List ℤ) where
+  pub lets_closed : cleared ≡ record env { locals = record { items = [] } } → decls ≡ d.lets.items →
+      added ≡ with_lets decls cleared → cs ≡ (loop_split d).classes.locals.items →
+      words ≡ closing cs added.locals.items carried (values_of qs) →
+      record added { locals = record { items = words } } ≡ closing_env d carried qs env
+  lets_closed e el ea ec ew =
+      let bare : Env = record env { locals = record { items = [] } } in
+      let own : added ≡ with_lets d.lets.items bare =
+      ea ∙ ap (λ ds. with_lets ds cleared) el ∙ ap (with_lets d.lets.items) e in
+      let put : List ℤ → Env → Env = λ ws x. record x { locals = record { items = ws } } in
+      ap (put words) (own ∙ only_locals d.lets.items bare)
+      ∙ ap (λ ws. put ws env)
+      (ew ∙ ap (λ c. closing c added.locals.items carried (values_of qs)) ec
+      ∙ ap (λ (x : Env). closing (loop_split d).classes.locals.items x.locals.items carried (values_of qs)) own)
 
 module _ (p : Program) (code : Code) (d : Dense) (block : p.dense ≡ Some d) (is : IsCodeOf p code) where
   -- the list of the tail finds its names
@@ -69,14 +70,14 @@ module _ (p : Program) (code : Code) (d : Dense) (block : p.dense ≡ Some d) (i
       ∙ is.names Tail
 
   -- and emits what the tail does
-  pub tail_ran : (carried : List ℤ) (qs : List Partial) (env closed : Env) (slots new : List Partial) →
-      closed ≡ closing_env d carried qs env → is_set (value_of d.when_test env) ≡ true →
-      new ≡ with_emissions closed.key slots (run_code (list_of code Tail) closed).emitted →
-      new ≡ tail_slots d carried qs env slots
-  tail_ran carried qs env closed slots new e test h =
-      h
-      ∙ ap (λ r. with_emissions closed.key slots r.emitted)
-      (is.runs Tail closed ∙ ap (λ o. run (tail_body o) closed) block)
-      ∙ ap (λ (x : Env). with_emissions x.key slots (run d.tail.items x).emitted) e
-      ∙ ap (λ b. if b then with_emissions env.key slots (run d.tail.items (closing_env d carried qs env)).emitted
-      else slots) (sym test)
+  module _ (carried : List ℤ) (qs : List Partial) (env closed : Env) (slots new : List Partial) where
+    pub tail_ran : closed ≡ closing_env d carried qs env → is_set (value_of d.when_test env) ≡ true →
+        new ≡ with_emissions closed.key slots (run_code (list_of code Tail) closed).emitted →
+        new ≡ tail_slots d carried qs env slots
+    tail_ran e test h =
+        h
+        ∙ ap (λ r. with_emissions closed.key slots r.emitted)
+        (is.runs Tail closed ∙ ap (λ o. run (tail_body o) closed) block)
+        ∙ ap (λ (x : Env). with_emissions x.key slots (run d.tail.items x).emitted) e
+        ∙ ap (λ b. if b then with_emissions env.key slots (run d.tail.items (closing_env d carried qs env)).emitted
+        else slots) (sym test)

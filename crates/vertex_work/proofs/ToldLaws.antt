@@ -45,12 +45,13 @@ module _ (rs : Receivers) (spans : List Span) (body : List ℕ) (words : ℕ) (f
         ≡ senders_added (receiving rs) first told rs.edges.now vertices old.rows
 
   -- the same of equal values
-  pub telling_here : (at earlier other : ℕ) (env same_env : Env) (now same : Rows Partial) → other ≡ earlier →
-      same_env ≡ env → same ≡ now → IsTelling at earlier env now → IsTelling at other same_env same
-  telling_here at earlier other env same_env now same e f g so_far =
-      subst (λ (n : ℕ). IsTelling at n same_env same) (sym e)
-      (subst (λ (x : Env). IsTelling at earlier x same) (sym f)
-      (subst (λ (t : Rows Partial). IsTelling at earlier env t) (sym g) so_far))
+  module _ (at earlier other : ℕ) (env same_env : Env) (now same : Rows Partial) where
+    pub telling_here : other ≡ earlier → same_env ≡ env → same ≡ now → IsTelling at earlier env now →
+        IsTelling at other same_env same
+    telling_here e f g so_far =
+        subst (λ (n : ℕ). IsTelling at n same_env same) (sym e)
+        (subst (λ (x : Env). IsTelling at earlier x same) (sym f)
+        (subst (λ (t : Rows Partial). IsTelling at earlier env t) (sym g) so_far))
 
   pub telling_none : CanReceive rs words first old → IsTelling 0 0 first old
   telling_none can = record { kept = refl; can = can; width = refl; low = omega arith; count = refl; rows = refl }
@@ -138,38 +139,36 @@ module _ (rs : Receivers) (spans : List Span) (body : List ℕ) (words : ℕ) (f
           }
 
       -- one that sends
-      pub telling_more : (read next : Env) (new : Rows Partial) (count : ℕ) →
-          get_or (senders (length spans) body) at false ≡ true → settled read ≡ settled env →
-          read.sends.items ≡ send_at words (length spans) earlier body →
-          new
-          ≡ record now {
-            rows =
-                edges_added (receiving rs) read (λ sender. Some read.sends.items)
-                (bucket source (vertex_of (get_or spans at d)) rs.edges.now) now.rows;
-          } →
-          settled next ≡ settled read → CanReceive rs (length read.sends.items) next new → count ≡ earlier + 1 →
-          IsTelling (at + 1) count next new
-      telling_more read next new count sends kept words_are added same can one =
-          let sent = told_next
-          ∙ ap (λ b. cond b (Some (send_at words (length spans) earlier body)) None) sends
-          ∙ ap Some (sym words_are) in
-          let size = ap length words_are
-          ∙ length-words_in words (drop (8 * words * earlier) (drop (bit_len (length spans)) body)) in
-          let edges : List Edge = bucket source (vertex_of (get_or spans at d)) rs.edges.now in
-          let here = ap (λ (t : Rows Partial). t.rows) added
-          ∙ edges_settled (receiving rs) first read (λ sender. Some read.sends.items) edges now.rows
-          (kept ∙ so_far.kept)
-          ∙ sym (sender_is (receiving rs) first told rs.edges.now (Some read.sends.items)
-          (vertex_of (get_or spans at d)) now.rows sent) in
-          record {
-            kept = same ∙ kept ∙ so_far.kept;
-            can = subst (λ (n : ℕ). CanReceive rs n next new) size can;
-            width = ap (λ (t : Rows Partial). t.width) added ∙ so_far.width;
-            low = omega (arith, so_far.low, one);
-            count = one ∙ sym (ap (λ b. earlier + cond b 1 0) sends) ∙ count_next;
-            rows =
-                ap (add (drop (at + 1) (map vertex_of spans))) here ∙ sym (from_next now.rows) ∙ so_far.rows;
-          }
+      module _ (read next : Env) (new : Rows Partial) (count : ℕ) where
+        pub telling_more : get_or (senders (length spans) body) at false ≡ true → settled read ≡ settled env →
+            read.sends.items ≡ send_at words (length spans) earlier body →
+            new ≡ record now {
+              rows = edges_added (receiving rs) read (λ sender. Some read.sends.items) (bucket
+                  source (vertex_of (get_or spans at d)) rs.edges.now) now.rows;
+            } → settled next ≡ settled read →
+            CanReceive rs (length read.sends.items) next new → count ≡ earlier + 1 →
+            IsTelling (at + 1) count next new
+        telling_more sends kept words_are added same can one =
+            let sent = told_next
+            ∙ ap (λ b. cond b (Some (send_at words (length spans) earlier body)) None) sends
+            ∙ ap Some (sym words_are) in
+            let size = ap length words_are
+            ∙ length-words_in words (drop (8 * words * earlier) (drop (bit_len (length spans)) body)) in
+            let edges : List Edge = bucket source (vertex_of (get_or spans at d)) rs.edges.now in
+            let here = ap (λ (t : Rows Partial). t.rows) added
+            ∙ edges_settled (receiving rs) first read (λ sender. Some read.sends.items) edges now.rows
+            (kept ∙ so_far.kept)
+            ∙ sym (sender_is (receiving rs) first told rs.edges.now (Some read.sends.items)
+            (vertex_of (get_or spans at d)) now.rows sent) in
+            record {
+              kept = same ∙ kept ∙ so_far.kept;
+              can = subst (λ (n : ℕ). CanReceive rs n next new) size can;
+              width = ap (λ (t : Rows Partial). t.width) added ∙ so_far.width;
+              low = omega (arith, so_far.low, one);
+              count = one ∙ sym (ap (λ b. earlier + cond b 1 0) sends) ∙ count_next;
+              rows =
+                  ap (add (drop (at + 1) (map vertex_of spans))) here ∙ sym (from_next now.rows) ∙ so_far.rows;
+            }
 
     -- when all is told
     pub telling_all : (at earlier : ℕ) (env : Env) (now : Rows Partial) → length spans ≤ at →
@@ -201,9 +200,9 @@ can_settled rs sends now first table same can = record {
 }
 
 -- a receiver of the sends that were read
-pub can_read : (rs : Receivers) (body : List ℕ) (words count earlier : ℕ) (read env : Env) (table : Rows Partial) →
-    settled read ≡ settled env → read.sends.items ≡ send_at words count earlier body →
-    CanReceive rs words env table → CanReceive rs (length read.sends.items) read table
-can_read rs body words count earlier read env table same is can =
-    let size = ap length is ∙ length-words_in words (drop (8 * words * earlier) (drop (bit_len count) body)) in
-    subst (λ (n : ℕ). CanReceive rs n read table) (sym size) (can_settled rs words read env table same can)
+module _ (rs : Receivers) (body : List ℕ) (words count earlier : ℕ) (read env : Env) (table : Rows Partial) where
+  pub can_read : settled read ≡ settled env → read.sends.items ≡ send_at words count earlier body →
+      CanReceive rs words env table → CanReceive rs (length read.sends.items) read table
+  can_read same is can =
+      let size = ap length is ∙ length-words_in words (drop (8 * words * earlier) (drop (bit_len count) body)) in
+      subst (λ (n : ℕ). CanReceive rs n read table) (sym size) (can_settled rs words read env table same can)

@@ -162,46 +162,46 @@ module _ (code : Code) (split : Split) (d : Dense) (parts : SplitLoop) (is : IsL
       (sym (parts_are code split d parts is))
       ∙ ap (λ e. seen_loop g d.body.items members (begun (loop_split d) d.lets.items (told_words st) e)) shows.here
 
-  pub runs_on : (place count : ℕ) (given rest : List Member) (half new : StateTable) (before emits : List Partial)
-      (left : Env) →
-      passes d (state_at half.states place).mark env ≡ false →
-      before ≡ map empty_partial (slot_ops (program_of split)) →
-      left ≡ (segment_fed code d parts (map (member_in start degrees rows) members) (state_at half.states place)
-      env).env →
-      new ≡ record half {
-        states = set half.states place (state_left parts (segment_fed code d parts
-            (map (member_in start degrees rows) members) (state_at half.states place) env));
-      } →
-      emits ≡ with_emissions env.key before (segment_fed code d parts (map (member_in start degrees rows) members)
-      (state_at half.states place) env).emitted →
-      Fed [] (map (member_in start degrees rows) members) given rest
-      (segment_fed code d parts (map (member_in start degrees rows) members) (state_at half.states place) env).reads →
-      count ≡ length given →
-      IsScanned (scanned split d g env.key members env.id.0 (state_at half.states place)) parts members place half new
-      emits left count
-  runs_on place count given rest half new before emits left test empty left_is new_is emits_are read counted =
-      let st : LoopState = state_at half.states place in
-      let ran : Ran = segment_seen d g members st here in
-      let scan = by_test false members st shows.some (ap (passes d st.mark) (sym shows.here) ∙ test) in
-      let same = ran_is st in
-      let loops = parts_are code split d parts is in
-      subst (λ s. IsScanned s parts members place half new emits left count) (sym scan) (record {
-        state =
-            new_is
-            ∙ ap (λ r. let t : StateTable = record half { states = set half.states place (state_left parts r) } in t)
-            same
-            ∙ ap (λ l. let t : StateTable = record half { states = set half.states place (state_left l ran) } in t)
-            (sym loops);
-        values =
-            ap (map (λ p. p.value))
-            (emits_are
-            ∙ ap (λ ps. with_emissions env.key ps (fed st).emitted) empty
-            ∙ ap (λ r. with_emissions env.key (map empty_partial (slot_ops (program_of split))) r.emitted) same)
-            ∙ slot_values_are env.key (slot_ops (program_of split)) ran.emitted;
-        operands =
-            ap (operands parts.reduced.items) (left_is ∙ ap (λ r. r.env) same)
-            ∙ ap (λ l. operands l.reduced.items ran.env) (sym loops);
-        reads =
-            given_read start degrees rows members given rest (fed st).reads read count counted
-            ∙ ap (λ r. r.reads) same;
-      })
+  module _ (place count : ℕ) (given rest : List Member) (half new : StateTable) (before emits : List Partial)
+      (left : Env) where
+    pub runs_on : passes d (state_at half.states place).mark env ≡ false →
+        before ≡ map empty_partial (slot_ops (program_of split)) →
+        left ≡ (segment_fed code d parts (map (member_in start degrees rows) members) (state_at half.states
+        place) env).env →
+        new ≡ record half {
+          states = set half.states place (state_left parts (segment_fed code d parts (map
+              (member_in start degrees rows) members) (state_at half.states place) env));
+        } →
+        emits ≡ with_emissions env.key before (segment_fed code d parts (map (member_in start degrees rows)
+        members) (state_at half.states place) env).emitted →
+        Fed [] (map (member_in start degrees rows) members) given rest (segment_fed code d parts (map (member_in
+        start degrees rows) members) (state_at half.states place) env).reads → count ≡ length given →
+        IsScanned (scanned split d g env.key members env.id.0 (state_at half.states place)) parts members place
+        half new emits left count
+    runs_on test empty left_is new_is emits_are read counted =
+        let st : LoopState = state_at half.states place in
+        let ran : Ran = segment_seen d g members st here in
+        let scan = by_test false members st shows.some (ap (passes d st.mark) (sym shows.here) ∙ test) in
+        let same = ran_is st in
+        let loops = parts_are code split d parts is in
+        subst (λ s. IsScanned s parts members place half new emits left count) (sym scan) (record {
+          state =
+              new_is
+              ∙ ap (λ r. let t : StateTable = record half { states = set half.states place (state_left parts r) }
+              in t)
+              same
+              ∙ ap (λ l. let t : StateTable = record half { states = set half.states place (state_left l ran) } in t)
+              (sym loops);
+          values =
+              ap (map (λ p. p.value))
+              (emits_are
+              ∙ ap (λ ps. with_emissions env.key ps (fed st).emitted) empty
+              ∙ ap (λ r. with_emissions env.key (map empty_partial (slot_ops (program_of split))) r.emitted) same)
+              ∙ slot_values_are env.key (slot_ops (program_of split)) ran.emitted;
+          operands =
+              ap (operands parts.reduced.items) (left_is ∙ ap (λ r. r.env) same)
+              ∙ ap (λ l. operands l.reduced.items ran.env) (sym loops);
+          reads =
+              given_read start degrees rows members given rest (fed st).reads read count counted
+              ∙ ap (λ r. r.reads) same;
+        })

@@ -24,23 +24,23 @@ one_fits_more p xs i x lt is before here =
 held_fits : (held : Vec Stmt) → body_fits held.items ≡ true → list_all (λ b. b) (map stmt_fits held.items) ≡ true
 held_fits held h = list_all-map (λ b. b) stmt_fits held.items ∙ h
 
-pub if_fits : (s : Span) (test : Expr) (held : Vec Stmt) (otherwise : Option (Vec Stmt)) (stmt : Stmt)
-    (body : List Stmt) →
-    stmt ≡ statements.If s test held otherwise → otherwise ≡ None → body ≡ held.items → expr_fits test ≡ true →
-    body_fits body ≡ true →
-    stmt_fits stmt ≡ true
-if_fits s test held otherwise stmt body is none same first second =
-    ap stmt_fits (is ∙ ap (statements.If s test held) none ∙ sym (rolls-If s test held None))
-    ∙ fold-roll-Stmt Bool level_fits (level.If s test held None)
-    ∙ and_from (expr_fits test) _ first (and_from _ true (held_fits held (ap body_fits (sym same) ∙ second)) refl)
+module _ (s : Span) (test : Expr) (held : Vec Stmt) (otherwise : Option (Vec Stmt)) (stmt : Stmt)
+    (body : List Stmt) where
+  pub if_fits : stmt ≡ statements.If s test held otherwise → otherwise ≡ None → body ≡ held.items →
+      expr_fits test ≡ true → body_fits body ≡ true → stmt_fits stmt ≡ true
+  if_fits is none same first second =
+      ap stmt_fits (is ∙ ap (statements.If s test held) none ∙ sym (rolls-If s test held None))
+      ∙ fold-roll-Stmt Bool level_fits (level.If s test held None)
+      ∙ and_from (expr_fits test) _ first (and_from _ true (held_fits held (ap body_fits (sym same) ∙ second)) refl)
 
-pub if_else_fits : (s : Span) (test : Expr) (held : Vec Stmt) (otherwise : Option (Vec Stmt)) (others : Vec Stmt)
-    (stmt : Stmt) (body rest : List Stmt) →
-    stmt ≡ statements.If s test held otherwise → otherwise ≡ Some others → body ≡ held.items → rest ≡ others.items →
-    expr_fits test ≡ true → body_fits body ≡ true → body_fits rest ≡ true → stmt_fits stmt ≡ true
-if_else_fits s test held otherwise others stmt body rest is some same same_rest first second third =
-    ap stmt_fits (is ∙ ap (statements.If s test held) some ∙ sym (rolls-If s test held (Some others)))
-    ∙ fold-roll-Stmt Bool level_fits (level.If s test held (Some others))
-    ∙ and_from (expr_fits test) _ first
-    (and_from _ _ (held_fits held (ap body_fits (sym same) ∙ second))
-    (held_fits others (ap body_fits (sym same_rest) ∙ third)))
+module _ (s : Span) (test : Expr) (held : Vec Stmt) (otherwise : Option (Vec Stmt)) (others : Vec Stmt)
+    (stmt : Stmt) (body rest : List Stmt) where
+  pub if_else_fits : stmt ≡ statements.If s test held otherwise → otherwise ≡ Some others → body ≡ held.items →
+      rest ≡ others.items → expr_fits test ≡ true → body_fits body ≡ true → body_fits rest ≡ true →
+      stmt_fits stmt ≡ true
+  if_else_fits is some same same_rest first second third =
+      ap stmt_fits (is ∙ ap (statements.If s test held) some ∙ sym (rolls-If s test held (Some others)))
+      ∙ fold-roll-Stmt Bool level_fits (level.If s test held (Some others))
+      ∙ and_from (expr_fits test) _ first
+      (and_from _ _ (held_fits held (ap body_fits (sym same) ∙ second))
+      (held_fits others (ap body_fits (sym same_rest) ∙ third)))

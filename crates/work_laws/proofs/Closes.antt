@@ -57,31 +57,31 @@ module _ (split : Split) (d : Dense) (is : (program_of split).dense ≡ Some d) 
       let own : List ℤ = own_words d.lets.items env in
       let lets : List Partial = drop (slot_count split) ps in
       with_locals (field_kinds (program_of split)) kinds (closing_words (block_classes d) own st lets) env
-      (closing_are (block_classes d) kinds own (unwrap_or (told_words st) []) (values_of lets) (ints split d is fit)
-      (lets_have split d is fit env has).locals
+      (closing_are (block_classes d) kinds own (unwrap_or (told_words st) []) (values_of lets)
+      (ints split d is fit, (lets_have split d is fit env has).locals)
       (handed st.mark st.words (state_words d st (state_of_loop split d st is state)))
       (values_fit lets (All-drop HasWord (slot_count split) ps are.words)))
       has
 
-  pub tail_are : (g : Sight) (key : ℕ) (ps : List Partial) (st : LoopState) (v : ℕ) →
-      SightFits (field_kinds (program_of split)).fields g →
-      v < 2 ^ 32 → ArePartials split ps → IsLoopState split st → ArePartials split (tail_at split d g key ps st v)
-  tail_are g key ps st v sees small are state = by (is_set (value_of d.when_test (seen_env g v key (none split))))
-    where
-      by : (b : Bool) →
-          ArePartials split
-          (if b then with_emissions key ps (run d.tail.items
-          (tail_env split d (seen_env g v key (none split)) ps st)).emitted else ps)
-      by true =
-          let env : Env = seen_env g v key (none split) in
-          let has = seen_has (field_kinds (program_of split)) g v key (none split) sees small
-          (no_values_fit (slot_ops (program_of split))) in
-          let block = dense_of (program_of split) d fit is in
-          emissions_more split key ps (run d.tail.items (tail_env split d env ps st)).emitted
-          (run_keeps (inner_kinds (program_of split) d) d.tail.items block.tail.0 block.tail.1
-          (tail_env split d env ps st)
-          (tail_has env ps st are state has)).emitted are
-      by false = are
+  module _ (g : Sight) (key : ℕ) (ps : List Partial) (st : LoopState) (v : ℕ) where
+    pub tail_are : SightFits (field_kinds (program_of split)).fields g → v < 2 ^ 32 → ArePartials split ps →
+        IsLoopState split st → ArePartials split (tail_at split d g key ps st v)
+    tail_are sees small are state = by (is_set (value_of d.when_test (seen_env g v key (none split))))
+      where
+        by : (b : Bool) →
+            ArePartials split
+            (if b then with_emissions key ps (run d.tail.items
+            (tail_env split d (seen_env g v key (none split)) ps st)).emitted else ps)
+        by true =
+            let env : Env = seen_env g v key (none split) in
+            let has = seen_has (field_kinds (program_of split)) g v key (none split) sees small
+            (no_values_fit (slot_ops (program_of split))) in
+            let block = dense_of (program_of split) d fit is in
+            emissions_more split key ps (run d.tail.items (tail_env split d env ps st)).emitted
+            (run_keeps (inner_kinds (program_of split) d) d.tail.items block.tail.0 block.tail.1
+            (tail_env split d env ps st)
+            (tail_has env ps st are state has)).emitted are
+        by false = are
 
 module _ (s : State) (can : CanRun s.part s.split) (fits : HoldsFit s.part s.split s) where
   abbrev IsOwn : ℕ → Type 0

@@ -40,17 +40,17 @@ use Rattle.work_laws.proofs.Sees.{scan_kept_fits, scan_read_fits}
 use Rattle.work_laws.proofs.Sparse.{begin_go_fits}
 
 -- ---- a judge rules as the program may
-may_by : (m : Mode) (active edges r limit : ℕ) (dense sparse : Bool) → mode_stands m dense sparse ≡ true →
-    nat_le r limit ≡ true →
-    may_rule (record { limit = limit; dense = dense; sparse = sparse }) r (mode_of active edges m) ≡ true
-may_by mode.Dense active edges r limit dense sparse stands low = and_from dense (nat_le r limit) stands low
-may_by mode.Sparse active edges r limit dense sparse stands low = and_from sparse (nat_le r limit) stands low
-may_by mode.Auto active edges r limit dense sparse stands low = by (nat_lt edges (20 * active))
-  where
-    by : (b : Bool) → may_rule (record { limit = limit; dense = dense; sparse = sparse }) r
-        (if b then Dense else Sparse) ≡ true
-    by true = and_from dense (nat_le r limit) (and_parts dense sparse stands).0 low
-    by false = and_from sparse (nat_le r limit) (and_parts dense sparse stands).1 low
+module _ (active edges r limit : ℕ) (dense sparse : Bool) where
+  may_by : (m : Mode) → mode_stands m dense sparse ≡ true → nat_le r limit ≡ true →
+      may_rule (record { limit = limit; dense = dense; sparse = sparse }) r (mode_of active edges m) ≡ true
+  may_by mode.Dense stands low = and_from dense (nat_le r limit) stands low
+  may_by mode.Sparse stands low = and_from sparse (nat_le r limit) stands low
+  may_by mode.Auto stands low = by (nat_lt edges (20 * active))
+    where
+      by : (b : Bool) → may_rule (record { limit = limit; dense = dense; sparse = sparse }) r
+          (if b then Dense else Sparse) ≡ true
+      by true = and_from dense (nat_le r limit) (and_parts dense sparse stands).0 low
+      by false = and_from sparse (nat_le r limit) (and_parts dense sparse stands).1 low
 
 may_if : (blocks : Blocks) (r : ℕ) (b : Bool) (ruling : Ruling) → (b ≡ false → may_rule blocks r ruling ≡ true) →
     may_rule blocks r (if b then Stop else ruling) ≡ true
@@ -70,9 +70,8 @@ judged_may s r sums =
     (λ going.
     may_if (blocks_of s.split) (r + 1) _ _
     (λ early.
-    may_by (program_of s.split).mode sums.edges s.part.edges (r + 1) (program_of s.split).limit
-    (is_some (program_of s.split).dense)
-    (is_some (program_of s.split).sparse) (mode_block s.split)
+    may_by sums.edges s.part.edges (r + 1) (program_of s.split).limit (is_some (program_of s.split).dense) (is_some
+    (program_of s.split).sparse) (program_of s.split).mode (mode_block s.split)
     (not_late sums.active (r + 1) (program_of s.split).limit early)))
 
 pub judge_may : (s : State) (r : ℕ) → Judges s r → may_rule (blocks_of s.split) (r + 1) (core_judge s) ≡ true

@@ -60,11 +60,12 @@ FitsAs split part x body = (shape : BodyShape) × (shape_of split part x ≡ Som
 abbrev pub MayRead : Split → PlainPart → Name → List ℕ → Type 0
 MayRead split part x body = (body ≡ []) ⊎ FitsAs split part x body
 
-held_if : (split : Split) (part : PlainPart) (b : Bool) (x : Name) (l : Letter) (o : Option Letter) →
-    (b ≡ true → l.name ≡ x) →
-    IsHeld split part l → MayRead split part x (body_of o) → MayRead split part x (body_of (if b then Some l else o))
-held_if split part true x l o same here more = subst (λ (y : Name). MayRead split part y l.body) (same refl) here
-held_if split part false x l o same here more = more
+module _ (split : Split) (part : PlainPart) where
+  held_if : (b : Bool) (x : Name) (l : Letter) (o : Option Letter) → (b ≡ true → l.name ≡ x) →
+      IsHeld split part l → MayRead split part x (body_of o) →
+      MayRead split part x (body_of (if b then Some l else o))
+  held_if true x l o same here more = subst (λ (y : Name). MayRead split part y l.body) (same refl) here
+  held_if false x l o same here more = more
 
 pub may_read : (split : Split) (part : PlainPart) (x : Name) (held : List Letter) →
     AllByRecursion (IsHeld split part) held →
@@ -275,29 +276,28 @@ same_chunk m step p within later low =
     chunk_low : (m s p : ℕ) → 1 ≤ p → chunk_of m s p < p
     chunk_low m s p some = omega arith
 
-pub states_told : (split : Split) (part : PlainPart) (r step h : ℕ) (body : List ℕ) →
-    part.at.machine < part.at.machines → 0 < step →
-    step < part.at.machines →
-    MayRead split part (dep_name r (step - 1) h (before_machine part.at.machine part.at.machines) part.at.machine) body
-    →
-    AllByRecursion (IsLoopState split)
-    (read_of (shapes.words_in (loop_carry split.dense))
-    (size_of (half_in part.ends (chunk_of part.at.machine step part.at.machines) h)) body)
-states_told split part r step h body within later low may =
-    let width : ℕ = shapes.words_in (loop_carry split.dense) in
-    let bools : ℕ = bool_bits (types_at (types_of (lets_in (program_of split).dense)) (carried_in split.dense)) in
-    let m : ℕ = part.at.machine in
-    let p : ℕ = part.at.machines in
-    let x : Name = dep_name r (step - 1) h (before_machine m p) m in
-    let fit : FitsAs split part x body → is_fit (Dep (size_of (half_in part.ends (chunk_of m step p) h)) width bools)
-    body ≡ true =
-    λ fits.
-    ap (λ shape. is_fit shape body)
-    (ap (λ c. Dep (size_of (half_in part.ends c h)) width bools) (sym (same_chunk m step p within later low))
-    ∙ (shape_parts split part x fits.0 fits.1).1)
-    ∙ fits.2 in
-    states_read width bools (size_of (half_in part.ends (chunk_of m step p) h)) body
-    (⊎_elim (λ (none : body ≡ []). inl none) (λ (fits : FitsAs split part x body). inr (fit fits)) may)
+module _ (split : Split) (part : PlainPart) (r step h : ℕ) (body : List ℕ) where
+  pub states_told : part.at.machine < part.at.machines → 0 < step → step < part.at.machines →
+      MayRead split part (dep_name r (step - 1) h (before_machine part.at.machine part.at.machines)
+      part.at.machine) body →
+      AllByRecursion (IsLoopState split) (read_of (shapes.words_in (loop_carry split.dense)) (size_of (half_in
+      part.ends (chunk_of part.at.machine step part.at.machines) h)) body)
+  states_told within later low may =
+      let width : ℕ = shapes.words_in (loop_carry split.dense) in
+      let bools : ℕ = bool_bits (types_at (types_of (lets_in (program_of split).dense)) (carried_in split.dense)) in
+      let m : ℕ = part.at.machine in
+      let p : ℕ = part.at.machines in
+      let x : Name = dep_name r (step - 1) h (before_machine m p) m in
+      let fit : FitsAs split part x body → is_fit (Dep (size_of (half_in part.ends (chunk_of m step p) h)) width
+      bools)
+      body ≡ true =
+      λ fits.
+      ap (λ shape. is_fit shape body)
+      (ap (λ c. Dep (size_of (half_in part.ends c h)) width bools) (sym (same_chunk m step p within later low))
+      ∙ (shape_parts split part x fits.0 fits.1).1)
+      ∙ fits.2 in
+      states_read width bools (size_of (half_in part.ends (chunk_of m step p) h)) body
+      (⊎_elim (λ (none : body ≡ []). inl none) (λ (fits : FitsAs split part x body). inr (fit fits)) may)
 
 -- ---- totals that were told
 read_fit : (n : ℕ) (bytes : List ℕ) (i : ℕ) → FitsSigned w64 (word_at (words_in n bytes) i)

@@ -203,21 +203,24 @@ calm_raise false true c h e = true≢false (sym h)
 calm_raise false false true h e = true≢false (sym h)
 calm_raise false false false h e = true≢false (sym e)
 
-no_class : {U : Type 0} (read add low raise : U → Bool) (uses : List U) (op : Combine) →
-    list_all (λ u. not (add u || (low u || raise u))) uses ≡ true → (a b c d : Bool) → list_all read uses ≡ a →
-    list_all add uses ≡ b →
-    list_all low uses ≡ c → list_all raise uses ≡ d →
-    (if a then Constant else if b then Reduced combine.Sum else if c then Reduced combine.Min
-    else if d then Reduced combine.Max else Carried) ≡ Reduced op → ⊥
-no_class read add low raise uses op calm true b c d ea eb ec ed is = cc
-no_class read add low raise uses op calm false true c d ea eb ec ed is =
-    no_use read add (λ u. not (add u || (low u || raise u))) uses (λ u. calm_add (add u) (low u) (raise u)) calm ea eb
-no_class read add low raise uses op calm false false true d ea eb ec ed is =
-    no_use read low (λ u. not (add u || (low u || raise u))) uses (λ u. calm_low (add u) (low u) (raise u)) calm ea ec
-no_class read add low raise uses op calm false false false true ea eb ec ed is =
-    no_use read raise (λ u. not (add u || (low u || raise u))) uses (λ u. calm_raise (add u) (low u) (raise u)) calm ea
-    ed
-no_class read add low raise uses op calm false false false false ea eb ec ed is = cc
+module _ {U : Type 0} (read add low raise : U → Bool) (uses : List U) (op : Combine)
+    (calm : list_all (λ u. not (add u || (low u || raise u))) uses ≡ true) where
+  no_class : (a b c d : Bool) → list_all read uses ≡ a → list_all add uses ≡ b →
+      (list_all low uses ≡ c) × (list_all raise uses ≡ d) →
+      (if a then Constant else if b then Reduced combine.Sum else if c then Reduced combine.Min else if d then
+      Reduced combine.Max else Carried) ≡ Reduced op → ⊥
+  no_class true b c d ea eb others is = cc
+  no_class false true c d ea eb others is =
+      no_use read add (λ u. not (add u || (low u || raise u))) uses (λ u. calm_add (add u) (low u) (raise u)) calm
+      ea eb
+  no_class false false true d ea eb others is =
+      no_use read low (λ u. not (add u || (low u || raise u))) uses (λ u. calm_low (add u) (low u) (raise u)) calm
+      ea others.0
+  no_class false false false true ea eb others is =
+      no_use read raise (λ u. not (add u || (low u || raise u))) uses (λ u. calm_raise (add u) (low u) (raise u))
+      calm ea
+      others.1
+  no_class false false false false ea eb others is = cc
 
 class_at : (j : ℕ) (ds : List Decl) (ms : List Mark) (i : ℕ) (c : Class) → slice_get (let_classes j ds ms) i ≡ Some c →
     class_of (uses_of (j + i) ms) ≡ c
@@ -244,4 +247,4 @@ reduced_are_ints k ds body typed i op e = by (has_kind kind.Int (slice_get k.loc
     by false other =
         absurd (no_class is_read is_added is_lowered is_raised (uses_of i (body_marks body)) op
         (body_fit k body typed i other)
-        _ _ _ _ refl refl refl refl is)
+        _ _ _ _ refl refl (refl, refl) is)

@@ -306,15 +306,15 @@ module _ (split : Split) (d : Dense) (is : (program_of split).dense ≡ Some d) 
   either_fits most true x y p q = p
   either_fits most false x y p q = q
 
-  pub scanned_fits : (g : Sight) (key : ℕ) (members : List Edge) (v : ℕ) (st : LoopState) →
-      SightFits (field_kinds (program_of split)).fields g →
-      v < 2 ^ 32 → All IsEdge members → IsLoopState split st →
-      ScanFits split (length members) (scanned split d g key members v st)
-  scanned_fits g key [] v st sees small edges state = passed_fits split 0 st state
-  scanned_fits g key (e ∷ es) v st sees small edges state =
-      let env : Env = seen_env g v key (none split) in
-      let has = seen_has (field_kinds (program_of split)) g v key (none split) sees small
-      (no_values_fit (slot_ops (program_of split))) in
-      either_fits (length (e ∷ es)) (is_broken st.mark || not (is_set (value_of d.when_test env))) (passed split st)
-      (scanned_by split d (segment_seen d g (e ∷ es) st env)) (passed_fits split (length (e ∷ es)) st state)
-      (segment_fits g (e ∷ es) st env sees edges state has)
+  module _ (g : Sight) (key : ℕ) where
+    pub scanned_fits : (members : List Edge) (v : ℕ) (st : LoopState) →
+        SightFits (field_kinds (program_of split)).fields g → v < 2 ^ 32 → All IsEdge members →
+        IsLoopState split st → ScanFits split (length members) (scanned split d g key members v st)
+    scanned_fits [] v st sees small edges state = passed_fits split 0 st state
+    scanned_fits (e ∷ es) v st sees small edges state =
+        let env : Env = seen_env g v key (none split) in
+        let has = seen_has (field_kinds (program_of split)) g v key (none split) sees small
+        (no_values_fit (slot_ops (program_of split))) in
+        either_fits (length (e ∷ es)) (is_broken st.mark || not (is_set (value_of d.when_test env))) (passed split st)
+        (scanned_by split d (segment_seen d g (e ∷ es) st env)) (passed_fits split (length (e ∷ es)) st state)
+        (segment_fits g (e ∷ es) st env sees edges state has)

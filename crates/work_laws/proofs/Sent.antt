@@ -183,20 +183,20 @@ module _ (s : State) (sound : core_sound s) where
       omega (arith, whole, few)
 
   -- a message of the table at a spot of its list, with a body that fits its kind's form, has its form
-  formed : (spot : Spot) (ruling : Ruling) (x : Name) (body : List ℕ) → has_block (blocks_of s.split) ruling ≡ true →
-      HasSpot (ring_of s.split (p_of s)) (machine s) ruling spot →
-      Has (gives_of (ring_of s.split (p_of s)) (machine s) spot ruling) x →
-      is_in_range (program_of s.split).limit x.kind x.round ≡ true →
-      is_fit (form_of s.split s.part x.kind x) body ≡ true →
-      HasForm s (record { name = x; body = body })
-  formed spot ruling x body block has gives range fit =
-      let all : List Name = gives_of (ring_of s.split (p_of s)) (machine s) spot ruling in
-      let message : HasMessage (ring_of s.split (p_of s)) (machine s) ruling x =
-      (spot, has, inl (contains_from_has all x gives)) in
-      let planned = (plans_by_table s.split (p_of s) (machine s) x few_machines sound.can.place).1
-      ((ruling, block, message), range) in
-      let form : BodyShape = form_of s.split s.part x.kind x in
-      (form, ap (λ b. if b then Some form else None) planned, fit)
+  module _ (spot : Spot) (ruling : Ruling) (x : Name) (body : List ℕ) where
+    formed : has_block (blocks_of s.split) ruling ≡ true →
+        HasSpot (ring_of s.split (p_of s)) (machine s) ruling spot →
+        Has (gives_of (ring_of s.split (p_of s)) (machine s) spot ruling) x →
+        is_in_range (program_of s.split).limit x.kind x.round ≡ true →
+        is_fit (form_of s.split s.part x.kind x) body ≡ true → HasForm s (record { name = x; body = body })
+    formed block has gives range fit =
+        let all : List Name = gives_of (ring_of s.split (p_of s)) (machine s) spot ruling in
+        let message : HasMessage (ring_of s.split (p_of s)) (machine s) ruling x =
+        (spot, has, inl (contains_from_has all x gives)) in
+        let planned = (plans_by_table s.split (p_of s) (machine s) x few_machines sound.can.place).1
+        ((ruling, block, message), range) in
+        let form : BodyShape = form_of s.split s.part x.kind x in
+        (form, ap (λ b. if b then Some form else None) planned, fit)
 
   letters : (f : Name → List ℕ) (g : ℕ → Name) (ks : List ℕ) →
       ((k : ℕ) → Has ks k → HasForm s (record { name = g k; body = f (g k) })) →
@@ -205,28 +205,28 @@ module _ (s : State) (sound : core_sound s) where
   letters f g (k ∷ ks) h = (h k (inl refl), letters f g ks (λ j has. h j (inr has)))
 
   -- ---- tallies
-  tally_sent : (spot : Spot) (ruling : Ruling) (r : ℕ) (body : List ℕ) → has_block (blocks_of s.split) ruling ≡ true →
-      HasSpot (ring_of s.split (p_of s)) (machine s) ruling spot →
-      gives_of (ring_of s.split (p_of s)) (machine s) spot ruling ≡ tally_gives (machine s) r →
-      r ≤ (program_of s.split).limit →
-      is_fit (Tally (total_count s.split)) body ≡ true →
-      AllByRecursion (HasForm s) (map (λ x. let l : Letter = record { name = x; body = body } in l)
-      (tally_gives (machine s) r))
-  tally_sent spot ruling r body block has gives low fit = by (machine s == 0) refl
-    where
-      by : (b : Bool) → (machine s == 0) ≡ b →
-          AllByRecursion (HasForm s)
-          (map (λ x. let l : Letter = record { name = x; body = body } in l)
-          (if b then [] else tally_name r (machine s) ∷ []))
-      by true e = tt
-      by false e = (
-        formed spot ruling (tally_name r (machine s)) body block has
-            (subst (λ (xs : List Name). Has xs (tally_name r (machine s))) (sym gives)
-            (subst (λ b. Has (if b then [] else tally_name r (machine s) ∷ []) (tally_name r (machine s))) (sym e)
-            (inl refl)))
-            (grind (arith, nat_tests, low)) fit,
-        tt,
-      )
+  module _ (spot : Spot) (ruling : Ruling) (r : ℕ) (body : List ℕ) where
+    tally_sent : has_block (blocks_of s.split) ruling ≡ true →
+        HasSpot (ring_of s.split (p_of s)) (machine s) ruling spot →
+        gives_of (ring_of s.split (p_of s)) (machine s) spot ruling ≡ tally_gives (machine s) r →
+        r ≤ (program_of s.split).limit → is_fit (Tally (total_count s.split)) body ≡ true →
+        AllByRecursion (HasForm s) (map (λ x. let l : Letter = record { name = x; body = body } in l)
+        (tally_gives (machine s) r))
+    tally_sent block has gives low fit = by (machine s == 0) refl
+      where
+        by : (b : Bool) → (machine s == 0) ≡ b →
+            AllByRecursion (HasForm s)
+            (map (λ x. let l : Letter = record { name = x; body = body } in l)
+            (if b then [] else tally_name r (machine s) ∷ []))
+        by true e = tt
+        by false e = (
+          formed spot ruling (tally_name r (machine s)) body block has
+              (subst (λ (xs : List Name). Has xs (tally_name r (machine s))) (sym gives)
+              (subst (λ b. Has (if b then [] else tally_name r (machine s) ∷ []) (tally_name r (machine s))) (sym e)
+              (inl refl)))
+              (grind (arith, nat_tests, low)) fit,
+          tt,
+        )
 
   tell_sent : AllByRecursion (HasForm s)
       (map (λ x. let l : Letter = record { name = x; body = sent_at s Tell x } in l) (tally_gives (machine s) 0))

@@ -135,20 +135,19 @@ degree_fits [] v h = record { ins = omega arith; outs = omega arith }
 degree_fits (d ∷ ds) v h = either_fits (d.id.0 == v) d (degree_among ds v) (All-head AreCounts d ds h)
     (degree_fits ds v (All-tail AreCounts d ds h))
 
-pub part_sees : (part : PlainPart) (split : Split) (kinds : List ValueType) (r : ℕ) (totals : List ℤ) (row : ℕ → Row) →
-    CanRun part split →
-    r < 2 ^ 32 → ((i : ℕ) → FitsSigned w64 (word_at totals i)) → ((v : ℕ) → AreWords kinds (row v).words.items) →
-    SightFits kinds (part_sight part r totals row)
-part_sees part split kinds r totals row can small fit are =
-    let within : vertices_of part.ends ≤ VERTICES = can.whole.within in
-    record {
-      n = omega (arith, within);
-      round = small;
-      totals = fit;
-      rows = are;
-      ins = λ v. (degree_fits part.degrees v can.degrees).ins;
-      outs = λ v. (degree_fits part.degrees v can.degrees).outs;
-    }
+module _ (part : PlainPart) (split : Split) (kinds : List ValueType) (r : ℕ) (totals : List ℤ) (row : ℕ → Row) where
+  pub part_sees : CanRun part split → r < 2 ^ 32 → ((i : ℕ) → FitsSigned w64 (word_at totals i)) →
+      ((v : ℕ) → AreWords kinds (row v).words.items) → SightFits kinds (part_sight part r totals row)
+  part_sees can small fit are =
+      let within : vertices_of part.ends ≤ VERTICES = can.whole.within in
+      record {
+        n = omega (arith, within);
+        round = small;
+        totals = fit;
+        rows = are;
+        ins = λ v. (degree_fits part.degrees v can.degrees).ins;
+        outs = λ v. (degree_fits part.degrees v can.degrees).outs;
+      }
 
 -- ---- the dense block
 pub dense_of : (p : Program) (d : Dense) → IsFitting p → p.dense ≡ Some d → DenseParts (field_kinds p) d

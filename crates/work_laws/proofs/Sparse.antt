@@ -46,26 +46,26 @@ use Rattle.work_laws.proofs.Partials.{IsAmong, emissions_more, own_at, set_own}
 use Rattle.work_laws.proofs.Sees.{all_two, emptied_all, own_sees, own_small, push_edges}
 use Rattle.work_laws.proofs.Sights.{SightFits, seen_has}
 
-received_has : (k : Kinds) (kinds : List ValueType) (g : Sight) (e : Edge) (ws : List ℤ) (env : Env) → IsEdge e →
-    AreWords kinds ws →
-    HasKinds k env → HasKinds (record k { sends = kinds }) (at_receiver g e ws env)
-received_has k kinds g e ws env edge are has = record {
-  fields = has.fields;
-  other_fields = has.other_fields;
-  locals = has.locals;
-  sends = are;
-  slots = has.slots;
-  totals = has.totals;
-  id = has.id;
-  n = has.n;
-  round = has.round;
-  indeg = has.indeg;
-  outdeg = has.outdeg;
-  other_id = edge.source;
-  other_indeg = omega arith;
-  other_outdeg = omega arith;
-  weight = fits_wider e.weight edge.weight;
-}
+module _ (k : Kinds) (kinds : List ValueType) (g : Sight) (e : Edge) (ws : List ℤ) (env : Env) where
+  received_has : IsEdge e → AreWords kinds ws → HasKinds k env →
+      HasKinds (record k { sends = kinds }) (at_receiver g e ws env)
+  received_has edge are has = record {
+    fields = has.fields;
+    other_fields = has.other_fields;
+    locals = has.locals;
+    sends = are;
+    slots = has.slots;
+    totals = has.totals;
+    id = has.id;
+    n = has.n;
+    round = has.round;
+    indeg = has.indeg;
+    outdeg = has.outdeg;
+    other_id = edge.source;
+    other_indeg = omega arith;
+    other_outdeg = omega arith;
+    weight = fits_wider e.weight edge.weight;
+  }
 
 -- ---- the sparse block
 block_of : (p : Program) (b : SparseBlock) → IsFitting p → p.sparse ≡ Some b → SparseParts (field_kinds p) b
@@ -74,23 +74,23 @@ block_of p b fit is =
     sparse_parts (field_kinds p) b (subst (λ o. option_all (sparse_typed (field_kinds p)) o ≡ true) is own.sparse.0)
     (subst (λ o. option_all sparse_fits o ≡ true) is own.sparse.1)
 
-pushed_fit : (split : Split) → IsFitting (program_of split) → (g : Sight) (key : ℕ) (ws : List ℤ) (e : Edge) →
-    SightFits (field_kinds (program_of split)).fields g → target e < 2 ^ 32 → IsEdge e →
-    AreWords (send_kinds split) ws →
-    All WordFits (pushed_to (program_of split).sparse split g key ws e)
-pushed_fit split fit g key ws e sees small edge are = by (program_of split).sparse refl
-  where
-    by : (o : Option SparseBlock) → (program_of split).sparse ≡ o → All WordFits (pushed_to o split g key ws e)
-    by None is = All-nil WordFits
-    by (Some b) is =
-        let k : Kinds = field_kinds (program_of split) in
-        let own = block_of (program_of split) b fit is in
-        let env : Env = seen_env g (target e) key (none split) in
-        let has = seen_has k g (target e) key (none split) sees small (no_values_fit (slot_ops (program_of split))) in
-        (run_keeps (record k { sends = kinds_of b.sends.items }) b.body.items own.body.0 own.body.1
-        (at_receiver g e ws env)
-        (received_has k (kinds_of b.sends.items) g e ws env edge
-        (subst (λ o. AreWords (kinds_of (sends_in o)) ws) is are) has)).emitted
+module _ (split : Split) (fit : IsFitting (program_of split)) (g : Sight) (key : ℕ) (ws : List ℤ) (e : Edge) where
+  pushed_fit : SightFits (field_kinds (program_of split)).fields g → target e < 2 ^ 32 → IsEdge e →
+      AreWords (send_kinds split) ws → All WordFits (pushed_to (program_of split).sparse split g key ws e)
+  pushed_fit sees small edge are = by (program_of split).sparse refl
+    where
+      by : (o : Option SparseBlock) → (program_of split).sparse ≡ o → All WordFits (pushed_to o split g key ws e)
+      by None is = All-nil WordFits
+      by (Some b) is =
+          let k : Kinds = field_kinds (program_of split) in
+          let own = block_of (program_of split) b fit is in
+          let env : Env = seen_env g (target e) key (none split) in
+          let has = seen_has k g (target e) key (none split) sees small (no_values_fit (slot_ops (program_of
+          split))) in
+          (run_keeps (record k { sends = kinds_of b.sends.items }) b.body.items own.body.0 own.body.1
+          (at_receiver g e ws env)
+          (received_has k (kinds_of b.sends.items) g e ws env edge
+          (subst (λ o. AreWords (kinds_of (sends_in o)) ws) is are) has)).emitted
 
 sent_if : (kinds : List ValueType) (b : Bool) (ws : List ℤ) → AreWords kinds ws →
     SendFits kinds (if b then Some ws else None)

@@ -194,29 +194,28 @@ operand_fits op x (Some z) f h = combined_fits op x z f (h z refl)
 
 -- the words of the lets for the tail
 pub closing_are : (cs : List Class) (kinds : List ValueType) (own carried : List ℤ) (came : List (Option ℤ)) →
-    AreInts cs kinds →
-    AreWords kinds own → AreWords (carried_kinds cs kinds) carried → AllByRecursion MayFit came →
+    AreInts cs kinds × AreWords kinds own → AreWords (carried_kinds cs kinds) carried → AllByRecursion MayFit came →
     AreWords kinds (closing cs own carried came)
-closing_are [] kinds own carried came ints are over all = no_words kinds
-closing_are (c ∷ cs) kinds [] carried came ints are over all = no_words kinds
-closing_are (c ∷ cs) [] (x ∷ xs) carried came ints are over all = any_words (closing (c ∷ cs) (x ∷ xs) carried came)
-closing_are (Constant ∷ cs) (k ∷ ks) (x ∷ xs) carried came ints are over all =
-    cons_words k ks x (closing cs xs carried came) (are zero k refl)
-    (closing_are cs ks xs carried came (λ i. ints (suc i)) (λ i. are (suc i)) over all)
-closing_are (Carried ∷ cs) (k ∷ ks) (x ∷ xs) [] came ints are over all =
-    cons_words k ks x (closing cs xs [] came) (are zero k refl)
-    (closing_are cs ks xs [] came (λ i. ints (suc i)) (λ i. are (suc i)) (no_words (carried_kinds cs ks)) all)
-closing_are (Carried ∷ cs) (k ∷ ks) (x ∷ xs) (w ∷ ws) came ints are over all =
+closing_are [] kinds own carried came given over all = no_words kinds
+closing_are (c ∷ cs) kinds [] carried came given over all = no_words kinds
+closing_are (c ∷ cs) [] (x ∷ xs) carried came given over all = any_words (closing (c ∷ cs) (x ∷ xs) carried came)
+closing_are (Constant ∷ cs) (k ∷ ks) (x ∷ xs) carried came given over all =
+    cons_words k ks x (closing cs xs carried came) (given.1 zero k refl)
+    (closing_are cs ks xs carried came (λ i. given.0 (suc i), λ i. given.1 (suc i)) over all)
+closing_are (Carried ∷ cs) (k ∷ ks) (x ∷ xs) [] came given over all =
+    cons_words k ks x (closing cs xs [] came) (given.1 zero k refl)
+    (closing_are cs ks xs [] came (λ i. given.0 (suc i), λ i. given.1 (suc i)) (no_words (carried_kinds cs ks)) all)
+closing_are (Carried ∷ cs) (k ∷ ks) (x ∷ xs) (w ∷ ws) came given over all =
     cons_words k ks w (closing cs xs ws came) (over zero k refl)
-    (closing_are cs ks xs ws came (λ i. ints (suc i)) (λ i. are (suc i)) (λ i. over (suc i)) all)
-closing_are (Reduced op ∷ cs) (k ∷ ks) (x ∷ xs) carried [] ints are over all =
-    cons_words k ks x (closing cs xs carried []) (are zero k refl)
-    (closing_are cs ks xs carried [] (λ i. ints (suc i)) (λ i. are (suc i)) over tt)
-closing_are (Reduced op ∷ cs) (k ∷ ks) (x ∷ xs) carried (t ∷ came) ints are over all =
+    (closing_are cs ks xs ws came (λ i. given.0 (suc i), λ i. given.1 (suc i)) (λ i. over (suc i)) all)
+closing_are (Reduced op ∷ cs) (k ∷ ks) (x ∷ xs) carried [] given over all =
+    cons_words k ks x (closing cs xs carried []) (given.1 zero k refl)
+    (closing_are cs ks xs carried [] (λ i. given.0 (suc i), λ i. given.1 (suc i)) over tt)
+closing_are (Reduced op ∷ cs) (k ∷ ks) (x ∷ xs) carried (t ∷ came) given over all =
     cons_words k ks (with_operand op x t) (closing cs xs carried came)
-    (subst (λ u. IsWord u (with_operand op x t)) (sym (first_int op cs k ks ints))
-    (int_word (with_operand op x t) (operand_fits op x t (are zero k refl).fits all.0)))
-    (closing_are cs ks xs carried came (λ i. ints (suc i)) (λ i. are (suc i)) over all.1)
+    (subst (λ u. IsWord u (with_operand op x t)) (sym (first_int op cs k ks given.0))
+    (int_word (with_operand op x t) (operand_fits op x t (given.1 zero k refl).fits all.0)))
+    (closing_are cs ks xs carried came (λ i. given.0 (suc i), λ i. given.1 (suc i)) over all.1)
 
 -- ---- how many words a segment begins with
 neutral_length : (cs : List Class) (xs : List ℤ) → length (with_neutral cs xs) ≡ length xs

@@ -63,12 +63,13 @@ round_still Verdict Ruling.Dense s = refl
 round_still Verdict Ruling.Sparse s = refl
 
 -- a name taken here counts
-pub for_it : (m round : ℕ) (x y : Name) (b taken : Bool) → same_name y x ≡ b → x.to ≡ m → x.round ≡ round →
-    (b || (taken && is_for m round y)) ≡ ((b || taken) && is_for m round y)
-for_it m round x y true taken e to at =
-    let named : y ≡ x = names_law y x e in
-    sym (is_for_it m round y (ap (λ (z : Name). z.to) named ∙ to) (ap (λ (z : Name). z.round) named ∙ at))
-for_it m round x y false taken e to at = refl
+module _ (m round : ℕ) (x y : Name) where
+  pub for_it : (b taken : Bool) → same_name y x ≡ b → x.to ≡ m → x.round ≡ round →
+      (b || (taken && is_for m round y)) ≡ ((b || taken) && is_for m round y)
+  for_it true taken e to at =
+      let named : y ≡ x = names_law y x e in
+      sym (is_for_it m round y (ap (λ (z : Name). z.to) named ∙ to) (ap (λ (z : Name). z.round) named ∙ at))
+  for_it false taken e to at = refl
 
 -- one taken elsewhere doesn't
 for_other : (m round : ℕ) (x y : Name) (b taken : Bool) → same_name y x ≡ b → x.to ≢ m →

@@ -185,15 +185,17 @@ module _ (src : Source) (parts : List PlainPart) (one : IsOneRun parts) (run : I
           (over_rows t.at.round t.at.spot (over m t there) ∙ round)
           ∙ ap (λ (q : source.Standing). map (row_at q.rows) (chunk_vertices src.job.graph.ends m)) (last_here s at)
 
-  pub rows_at_end : (es : List Event) (w : World) (k : Skeleton) → Follows src parts w k → (s : State) →
-      slice_get w.sites 0 ≡ Some s → all_possible core_work w es ≡ true → finished (after core_work w es) ≡ true →
-      (m : ℕ) (t u : State) → slice_get (after core_work w es).sites m ≡ Some t → IsTrue src m u → u.at ≡ t.at →
-      u.rows ≡ map (row_at (last_at src (to_come src s.at.round)).rows) (chunk_vertices src.job.graph.ends m)
-  rows_at_end [] w k f s at can ends m t u there truth same = rows_here w k f ends s at m t u there truth same
-  rows_at_end (e ∷ es) w k f s at can ends m t u there truth same =
-      let c = and_parts (possible w e) (all_possible core_work (step core_work w e) es) can in
-      let next = next_follows src parts one run same_ends w k f e c.0 in
-      let z = zero_site no_lines src parts one run same_ends (step core_work w e) (next_by src k e) next in
-      rows_at_end es (step core_work w e) (next_by src k e) next z.0 z.1 c.1 ends m t u there truth same
-      ∙ ap (λ (q : source.Standing). map (row_at q.rows) (chunk_vertices src.job.graph.ends m))
-      (event_keeps w k f e s z.0 at z.1 c.0)
+  module _ (m : ℕ) (t u : State) (truth : IsTrue src m u) (same : u.at ≡ t.at) where
+    pub rows_at_end : (es : List Event) (w : World) (k : Skeleton) → Follows src parts w k → (s : State) →
+        slice_get w.sites 0 ≡ Some s →
+        (all_possible core_work w es ≡ true) × (finished (after core_work w es) ≡ true) →
+        slice_get (after core_work w es).sites m ≡ Some t →
+        u.rows ≡ map (row_at (last_at src (to_come src s.at.round)).rows) (chunk_vertices src.job.graph.ends m)
+    rows_at_end [] w k f s at done there = rows_here w k f done.1 s at m t u there truth same
+    rows_at_end (e ∷ es) w k f s at done there =
+        let c = and_parts (possible w e) (all_possible core_work (step core_work w e) es) done.0 in
+        let next = next_follows src parts one run same_ends w k f e c.0 in
+        let z = zero_site no_lines src parts one run same_ends (step core_work w e) (next_by src k e) next in
+        rows_at_end es (step core_work w e) (next_by src k e) next z.0 z.1 (c.1, done.1) there
+        ∙ ap (λ (q : source.Standing). map (row_at q.rows) (chunk_vertices src.job.graph.ends m))
+        (event_keeps w k f e s z.0 at z.1 c.0)

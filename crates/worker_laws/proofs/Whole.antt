@@ -102,8 +102,8 @@ module _ (split : Split) (parts : List PlainPart) (one : IsOneRun parts) (es : L
   rows_are : serves.last.rows ≡ map (row_at rows) (chunk_vertices one.ends m)
   rows_are =
       let zero_site = first_site split parts one fits in
-      rows_at_end src parts one run refl es w k follows zero_site.0 zero_site.1 done.0 done.1 m serves.there serves.last
-      serves.stands serves.truth serves.ends
+      rows_at_end src parts one run refl m serves.there serves.last serves.truth serves.ends es w k follows zero_site.0
+      zero_site.1 (done.0, done.1) serves.stands
       ∙ ap (λ (r : ℕ). map (row_at (run_at src r).last.rows) (chunk_vertices one.ends m))
       (ap (λ (n : ℕ). if nat_le 1 n then n else 1) zero_site.2)
       ∙ ap (λ (r : Run). map (row_at r.last.rows) (chunk_vertices one.ends m)) (first_run src)

@@ -19,11 +19,11 @@ taken_more a m xs ys post within few =
     ∙ (take-append-add (take a xs) (ys ++ post) m ∙ ap (λ q. take a xs ++ q) (take-append-le m ys post few))
 
 -- the bytes before and those that were taken stand in front
-pub filled_more : (a k m : ℕ) (xs ys : List ℕ) (before mid now : Option (List ℕ)) → a ≤ length xs → m ≤ length ys →
-    before ≡ led_by (take a xs) mid → mid ≡ led_by (take m ys) now →
-    before ≡ led_by (take (a + m) (put_mid a k xs ys)) now
-filled_more a k m xs ys before mid now within few first second =
-    first
-    ∙ (ap (led_by (take a xs)) second
-    ∙ (led_twice (take a xs) (take m ys) now
-    ∙ ap (λ q. led_by q now) (sym (taken_more a m xs ys (post_of a k xs) within few))))
+module _ (a k m : ℕ) (xs ys : List ℕ) (before mid now : Option (List ℕ)) where
+  pub filled_more : a ≤ length xs → m ≤ length ys → before ≡ led_by (take a xs) mid →
+      mid ≡ led_by (take m ys) now → before ≡ led_by (take (a + m) (put_mid a k xs ys)) now
+  filled_more within few first second =
+      first
+      ∙ (ap (led_by (take a xs)) second
+      ∙ (led_twice (take a xs) (take m ys) now
+      ∙ ap (λ q. led_by q now) (sym (taken_more a m xs ys (post_of a k xs) within few))))

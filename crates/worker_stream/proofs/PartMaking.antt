@@ -18,39 +18,40 @@ use Rattle.worker_stream.proofs.EdgeOrderLaws.{IsInPlace, in_place}
 use Rattle.worker_stream.proofs.SoundLaws.{degrees_form, machine_here, of_file, of_frame, push_below, push_form, push_itself, push_of_is, push_to_is, refresh_of_is, refresh_to_is, scan_below, scan_form, scan_itself, scan_place, sound_from_forms}
 
 -- parts that are alike in each field
-pub same_part : (p q : PlainPart) → p.at ≡ q.at → p.ends ≡ q.ends → p.edges ≡ q.edges → p.draws ≡ q.draws →
-    p.scan ≡ q.scan → p.push ≡ q.push → p.degrees ≡ q.degrees → p.refresh_to ≡ q.refresh_to →
-    p.refresh_of ≡ q.refresh_of → p.push_to ≡ q.push_to → p.push_of ≡ q.push_of → p ≡ q
-same_part p q a b c d e f g h i j k =
-    ap (λ (x : Position). record p { at = x }) a
-    ∙ (ap (λ (x : List ℕ). record p { at = q.at; ends = x }) b
-    ∙ (ap (λ (x : ℕ). record p { at = q.at; ends = q.ends; edges = x }) c
-    ∙ (ap (λ (x : ℕ). record p { at = q.at; ends = q.ends; edges = q.edges; draws = x }) d
-    ∙ (ap (λ (x : List Edge). record p { at = q.at; ends = q.ends; edges = q.edges; draws = q.draws; scan = x }) e
-    ∙ (ap (λ (x : List Edge). record q {
-      push = x;
-      degrees = p.degrees;
-      refresh_to = p.refresh_to;
-      refresh_of = p.refresh_of;
-      push_to = p.push_to;
-      push_of = p.push_of;
-    }) f
-    ∙ (ap (λ (x : List Degree). record q {
-      degrees = x;
-      refresh_to = p.refresh_to;
-      refresh_of = p.refresh_of;
-      push_to = p.push_to;
-      push_of = p.push_of;
-    }) g
-    ∙ (ap (λ (x : List (List ℕ)). record q {
-      refresh_to = x;
-      refresh_of = p.refresh_of;
-      push_to = p.push_to;
-      push_of = p.push_of;
-    }) h
-    ∙ (ap (λ (x : List (List ℕ)). record q { refresh_of = x; push_to = p.push_to; push_of = p.push_of }) i
-    ∙ (ap (λ (x : List (List ℕ)). record q { push_to = x; push_of = p.push_of }) j
-    ∙ ap (λ (x : List (List ℕ)). record q { push_of = x }) k)))))))))
+module _ (p q : PlainPart) (a : p.at ≡ q.at) (b : p.ends ≡ q.ends) (c : p.edges ≡ q.edges) where
+  pub same_part : p.draws ≡ q.draws → p.scan ≡ q.scan → p.push ≡ q.push → p.degrees ≡ q.degrees →
+      p.refresh_to ≡ q.refresh_to → p.refresh_of ≡ q.refresh_of → p.push_to ≡ q.push_to →
+      p.push_of ≡ q.push_of → p ≡ q
+  same_part d e f g h i j k =
+      ap (λ (x : Position). record p { at = x }) a
+      ∙ (ap (λ (x : List ℕ). record p { at = q.at; ends = x }) b
+      ∙ (ap (λ (x : ℕ). record p { at = q.at; ends = q.ends; edges = x }) c
+      ∙ (ap (λ (x : ℕ). record p { at = q.at; ends = q.ends; edges = q.edges; draws = x }) d
+      ∙ (ap (λ (x : List Edge). record p { at = q.at; ends = q.ends; edges = q.edges; draws = q.draws; scan = x }) e
+      ∙ (ap (λ (x : List Edge). record q {
+        push = x;
+        degrees = p.degrees;
+        refresh_to = p.refresh_to;
+        refresh_of = p.refresh_of;
+        push_to = p.push_to;
+        push_of = p.push_of;
+      }) f
+      ∙ (ap (λ (x : List Degree). record q {
+        degrees = x;
+        refresh_to = p.refresh_to;
+        refresh_of = p.refresh_of;
+        push_to = p.push_to;
+        push_of = p.push_of;
+      }) g
+      ∙ (ap (λ (x : List (List ℕ)). record q {
+        refresh_to = x;
+        refresh_of = p.refresh_of;
+        push_to = p.push_to;
+        push_of = p.push_of;
+      }) h
+      ∙ (ap (λ (x : List (List ℕ)). record q { refresh_of = x; push_to = p.push_to; push_of = p.push_of }) i
+      ∙ (ap (λ (x : List (List ℕ)). record q { push_to = x; push_of = p.push_of }) j
+      ∙ ap (λ (x : List (List ℕ)). record q { push_of = x }) k)))))))))
 
 -- the lists by the edges of a scan, at each end, and those by the edges of a push
 abbrev pub FromScan : (Edge → ℕ) → List (List ℕ) → List Edge → List ℕ → ℕ → ℕ → Type 0
@@ -162,36 +163,37 @@ module _ (f : PartFile) (frame : Frame) (m : ℕ) (form : IsFrame f) (is : IsFra
         (given.0 ∙ refresh_of_is f.ends form.cuts.rise f.machine here f.scan place) given.1
 
   -- the part
-  pub part_is : (p : PlainPart) → IsSound f → p.at ≡ frame.at → p.ends ≡ frame.cuts → p.edges ≡ frame.edges →
-      p.draws ≡ frame.draws → p.scan ≡ f.scan → p.push ≡ f.push → p.degrees ≡ f.degrees →
-      FromPush target p.refresh_to p.push frame.cuts m 0 → FromScan target p.refresh_of p.scan frame.cuts m 0 →
-      FromScan source p.push_to p.scan frame.cuts m 0 → FromPush source p.push_of p.push frame.cuts m 0 → p ≡ part_in f
-  part_is p sound at_is ends_are edges_are draws_are scan_is push_is degrees_are to_are of_are push_to_are
-      push_of_are =
-      let here = machine_here f sound in
-      let into : IsInPlace source target f.ends f.machine f.push =
-      record { order = sound.part.push_order; chunk = sound.part.push_chunk } in
-      let shorter : (g : ℕ → List ℕ) → for_others (length f.ends) f.machine g ≡ for_others f.machines f.machine g =
-      λ g. ap (λ (q : ℕ). for_others q f.machine g) (sym counted) in
-      let to_here : FromPush target p.refresh_to f.push frame.cuts m 0 =
-      subst (λ (es : List Edge). FromPush target p.refresh_to es frame.cuts m 0) push_is to_are in
-      let of_here : FromScan target p.refresh_of f.scan frame.cuts m 0 =
-      subst (λ (es : List Edge). FromScan target p.refresh_of es frame.cuts m 0) scan_is of_are in
-      let push_to_here : FromScan source p.push_to f.scan frame.cuts m 0 =
-      subst (λ (es : List Edge). FromScan source p.push_to es frame.cuts m 0) scan_is push_to_are in
-      let push_of_here : FromPush source p.push_of f.push frame.cuts m 0 =
-      subst (λ (es : List Edge). FromPush source p.push_of es frame.cuts m 0) push_is push_of_are in
-      same_part p (part_in f) (at_is ∙ is.at) (ends_are ∙ is.cuts) (edges_are ∙ is.edges) (draws_are ∙ is.draws)
-      scan_is push_is degrees_are
-      (of_file (FromPush target p.refresh_to f.push) f frame m is me to_here
-      ∙ (refresh_to_is f.ends sound.ends f.machine here f.push into
-      ∙ shorter (λ k. refresh_list f.ends f.machine k f.push)))
-      (of_file (FromScan target p.refresh_of f.scan) f frame m is me of_here
-      ∙ (refresh_of_is f.ends sound.ends f.machine here f.scan (scan_place f sound)
-      ∙ shorter (λ k. refresh_list f.ends k f.machine f.scan)))
-      (of_file (FromScan source p.push_to f.scan) f frame m is me push_to_here
-      ∙ (push_to_is f.ends sound.ends f.machine here f.scan (scan_place f sound)
-      ∙ shorter (λ k. push_list f.ends f.machine k f.scan)))
-      (of_file (FromPush source p.push_of f.push) f frame m is me push_of_here
-      ∙ (push_of_is f.ends sound.ends f.machine here f.push into
-      ∙ shorter (λ k. push_list f.ends k f.machine f.push)))
+  module _ (p : PlainPart) (sound : IsSound f) (at_is : p.at ≡ frame.at) (ends_are : p.ends ≡ frame.cuts)
+      (edges_are : p.edges ≡ frame.edges) where
+    pub part_is : p.draws ≡ frame.draws → p.scan ≡ f.scan → p.push ≡ f.push → p.degrees ≡ f.degrees →
+        FromPush target p.refresh_to p.push frame.cuts m 0 →
+        FromScan target p.refresh_of p.scan frame.cuts m 0 → FromScan source p.push_to p.scan frame.cuts m 0 →
+        FromPush source p.push_of p.push frame.cuts m 0 → p ≡ part_in f
+    part_is draws_are scan_is push_is degrees_are to_are of_are push_to_are push_of_are =
+        let here = machine_here f sound in
+        let into : IsInPlace source target f.ends f.machine f.push =
+        record { order = sound.part.push_order; chunk = sound.part.push_chunk } in
+        let shorter : (g : ℕ → List ℕ) → for_others (length f.ends) f.machine g ≡ for_others f.machines f.machine g =
+        λ g. ap (λ (q : ℕ). for_others q f.machine g) (sym counted) in
+        let to_here : FromPush target p.refresh_to f.push frame.cuts m 0 =
+        subst (λ (es : List Edge). FromPush target p.refresh_to es frame.cuts m 0) push_is to_are in
+        let of_here : FromScan target p.refresh_of f.scan frame.cuts m 0 =
+        subst (λ (es : List Edge). FromScan target p.refresh_of es frame.cuts m 0) scan_is of_are in
+        let push_to_here : FromScan source p.push_to f.scan frame.cuts m 0 =
+        subst (λ (es : List Edge). FromScan source p.push_to es frame.cuts m 0) scan_is push_to_are in
+        let push_of_here : FromPush source p.push_of f.push frame.cuts m 0 =
+        subst (λ (es : List Edge). FromPush source p.push_of es frame.cuts m 0) push_is push_of_are in
+        same_part p (part_in f) (at_is ∙ is.at) (ends_are ∙ is.cuts) (edges_are ∙ is.edges) (draws_are ∙ is.draws)
+        scan_is push_is degrees_are
+        (of_file (FromPush target p.refresh_to f.push) f frame m is me to_here
+        ∙ (refresh_to_is f.ends sound.ends f.machine here f.push into
+        ∙ shorter (λ k. refresh_list f.ends f.machine k f.push)))
+        (of_file (FromScan target p.refresh_of f.scan) f frame m is me of_here
+        ∙ (refresh_of_is f.ends sound.ends f.machine here f.scan (scan_place f sound)
+        ∙ shorter (λ k. refresh_list f.ends k f.machine f.scan)))
+        (of_file (FromScan source p.push_to f.scan) f frame m is me push_to_here
+        ∙ (push_to_is f.ends sound.ends f.machine here f.scan (scan_place f sound)
+        ∙ shorter (λ k. push_list f.ends f.machine k f.scan)))
+        (of_file (FromPush source p.push_of f.push) f frame m is me push_of_here
+        ∙ (push_of_is f.ends sound.ends f.machine here f.push into
+        ∙ shorter (λ k. push_list f.ends k f.machine f.push)))

@@ -177,60 +177,63 @@ module _ (work : Work) (sound : State → Type 0) (lawful : IsLawful work sound)
             ∙ ap (λ n. ends_at n (Finishes s)) (let e : at ≡ at + 0 = omega arith in e);
       }
 
-  acts_alone : (at : ℕ) (s : State) (w v : World) (e : Event) (es : List Event) (taken sent : List Letter) → Walks s →
-      action_of s ≡ Ready → step work w e ≡ v → GoesAlone work m at (work.go s) v es taken sent rest →
-      GoesAlone work m at s w (e ∷ es) taken (work.sent s ++ sent) rest
-  acts_alone at s w v e es taken sent walks ready is alone = record {
-    last = alone.last;
-    stands = ap (λ (u : World). slice_get (after work u es).sites m) is ∙ alone.stands;
-    served = at_action work sound lawful at s (spelled_letters taken ++ rest) walks ready
-        ∙ (ap (behind_text (spelled_letters (work.sent s))) alone.served
-        ∙ ap (λ (q : List ℕ). (let r : Served = record {
-          used = at + length (spelled_letters taken);
-          text = q;
-          end = Finishes alone.last;
-        } in r)) (sym (spelled_more (work.sent s) sent)));
-  }
+  module _ (at : ℕ) (s : State) (w v : World) (e : Event) (es : List Event) (taken sent : List Letter) where
+    acts_alone : Walks s → action_of s ≡ Ready → step work w e ≡ v →
+        GoesAlone work m at (work.go s) v es taken sent rest →
+        GoesAlone work m at s w (e ∷ es) taken (work.sent s ++ sent) rest
+    acts_alone walks ready is alone = record {
+      last = alone.last;
+      stands = ap (λ (u : World). slice_get (after work u es).sites m) is ∙ alone.stands;
+      served = at_action work sound lawful at s (spelled_letters taken ++ rest) walks ready
+          ∙ (ap (behind_text (spelled_letters (work.sent s))) alone.served
+          ∙ ap (λ (q : List ℕ). (let r : Served = record {
+            used = at + length (spelled_letters taken);
+            text = q;
+            end = Finishes alone.last;
+          } in r)) (sym (spelled_more (work.sent s) sent)));
+    }
 
-  takes_alone : (at : ℕ) (s : State) (w v : World) (e : Event) (es : List Event) (l : Letter)
-      (taken sent : List Letter) → Walks s → CanRun s.part s.split → can_act (Some s) ≡ false → IsTakeable s l →
-      AreBytes l.body → step work w e ≡ v →
-      GoesAlone work m (at + length (spelled_letter l)) (work.take s l) v es taken sent rest →
-      GoesAlone work m at s w (e ∷ es) (l ∷ taken) sent rest
-  takes_alone at s w v e es l taken sent walks run busy can bytes is alone =
-      let more = spelled_letters taken ++ rest in
-      let waits = waits_by (is_over s.at.spot) (first_missing (needs s) s.held) can.going busy in
-      let read = letter_read s l can run bytes more in
-      let grouped : spelled_letters (l ∷ taken) ++ rest ≡ spelled_letter l ++ more =
-      append_assoc (spelled_letter l) (spelled_letters taken) rest in
-      let count : at + length (spelled_letter l) + length (spelled_letters taken)
-      ≡ at + length (spelled_letters (l ∷ taken)) =
-      omega (arith, length-append (spelled_letter l) (spelled_letters taken)) in
-      record {
-        last = alone.last;
-        stands = ap (λ (u : World). slice_get (after work u es).sites m) is ∙ alone.stands;
-        served = ap (served_from work at s) grouped
-            ∙ (at_message work sound lawful at s waits.0 (spelled_letter l ++ more) walks waits.1
-            ∙ (ap (λ n. takes_front work (served_from work) at s waits.0 n (front_of (shape_at s)
-            (spelled_letter l ++ more))) read.size
-            ∙ (ap (λ f. takes_front work (served_from work) at s waits.0 (length (spelled_letter l)) f) read.there
-            ∙ (ap (λ b. if b then served_from work (at + length (spelled_letter l)) (work.take s l) more
-            else ends_at (at + length (spelled_letter l)) (Refuses 5 at)) (letter_due s l can run bytes)
-            ∙ (alone.served
-            ∙ ap (λ n. (let r : Served = record {
-              used = n;
-              text = spelled_letters sent;
-              end = Finishes alone.last;
-            } in r)) count)))));
-      }
+  module _ (at : ℕ) (s : State) (w v : World) (e : Event) (es : List Event) (l : Letter)
+      (taken sent : List Letter) where
+    takes_alone : Walks s → CanRun s.part s.split → can_act (Some s) ≡ false → IsTakeable s l →
+        AreBytes l.body → step work w e ≡ v →
+        GoesAlone work m (at + length (spelled_letter l)) (work.take s l) v es taken sent rest →
+        GoesAlone work m at s w (e ∷ es) (l ∷ taken) sent rest
+    takes_alone walks run busy can bytes is alone =
+        let more = spelled_letters taken ++ rest in
+        let waits = waits_by (is_over s.at.spot) (first_missing (needs s) s.held) can.going busy in
+        let read = letter_read s l can run bytes more in
+        let grouped : spelled_letters (l ∷ taken) ++ rest ≡ spelled_letter l ++ more =
+        append_assoc (spelled_letter l) (spelled_letters taken) rest in
+        let count : at + length (spelled_letter l) + length (spelled_letters taken)
+        ≡ at + length (spelled_letters (l ∷ taken)) =
+        omega (arith, length-append (spelled_letter l) (spelled_letters taken)) in
+        record {
+          last = alone.last;
+          stands = ap (λ (u : World). slice_get (after work u es).sites m) is ∙ alone.stands;
+          served = ap (served_from work at s) grouped
+              ∙ (at_message work sound lawful at s waits.0 (spelled_letter l ++ more) walks waits.1
+              ∙ (ap (λ n. takes_front work (served_from work) at s waits.0 n (front_of (shape_at s)
+              (spelled_letter l ++ more))) read.size
+              ∙ (ap (λ f. takes_front work (served_from work) at s waits.0 (length (spelled_letter l)) f) read.there
+              ∙ (ap (λ b. if b then served_from work (at + length (spelled_letter l)) (work.take s l) more
+              else ends_at (at + length (spelled_letter l)) (Refuses 5 at)) (letter_due s l can run bytes)
+              ∙ (alone.served
+              ∙ ap (λ n. (let r : Served = record {
+                used = n;
+                text = spelled_letters sent;
+                end = Finishes alone.last;
+              } in r)) count)))));
+        }
 
-  others_alone : (at : ℕ) (s : State) (w v : World) (e : Event) (es : List Event) (taken sent : List Letter) →
-      step work w e ≡ v → GoesAlone work m at s v es taken sent rest → GoesAlone work m at s w (e ∷ es) taken sent rest
-  others_alone at s w v e es taken sent is alone = record {
-    last = alone.last;
-    stands = ap (λ (u : World). slice_get (after work u es).sites m) is ∙ alone.stands;
-    served = alone.served;
-  }
+  module _ (at : ℕ) (s : State) (w v : World) (e : Event) (es : List Event) (taken sent : List Letter) where
+    others_alone : step work w e ≡ v → GoesAlone work m at s v es taken sent rest →
+        GoesAlone work m at s w (e ∷ es) taken sent rest
+    others_alone is alone = record {
+      last = alone.last;
+      stands = ap (λ (u : World). slice_get (after work u es).sites m) is ∙ alone.stands;
+      served = alone.served;
+    }
 
   abbrev Alone : ℕ → State → World → List Event → Type 0
   Alone at s w es = GoesAlone work m at s w es (taken_by work m w es) (sent_by work m w es) rest

@@ -62,12 +62,13 @@ sends_then {held = held} {old = old} {mid = mid} {new = new} {first = first} {se
     }
 
 -- the messages before one, and that one, of which a part may have been written
-pub sends_here : {S : Type 0} {held : S → Option (List ℕ)} {faults spare : S → ℕ} {old mid new : S}
-    (ms : List Message) (i : ℕ) (msg d : Message) (fault : SendFault) → i < length ms → msg ≡ get_or ms i d →
-    Sends held faults spare old mid (spelled_letters (map letter_of (take i ms))) (Ok tt) →
-    Sends held faults spare mid new (spelled_letter (letter_of msg)) (Err fault) →
-    Sends held faults spare old new (spelled_letters (map letter_of ms)) (Err fault)
-sends_here ms i msg d fault lt is before here =
-    let rest = flat_map bytes_of (drop (i + 1) ms) in
-    sends_same (texts_split bytes_of ms i d (bytes_of msg) lt (ap bytes_of is) ∙ sym (spelled_map ms))
-    (sends_failed rest (sends_then (Err fault) (sends_same (spelled_map (take i ms)) before) here))
+module _ {S : Type 0} {held : S → Option (List ℕ)} {faults spare : S → ℕ} {old mid new : S} (ms : List Message)
+    (i : ℕ) (msg d : Message) (fault : SendFault) where
+  pub sends_here : i < length ms → msg ≡ get_or ms i d →
+      Sends held faults spare old mid (spelled_letters (map letter_of (take i ms))) (Ok tt) →
+      Sends held faults spare mid new (spelled_letter (letter_of msg)) (Err fault) →
+      Sends held faults spare old new (spelled_letters (map letter_of ms)) (Err fault)
+  sends_here lt is before here =
+      let rest = flat_map bytes_of (drop (i + 1) ms) in
+      sends_same (texts_split bytes_of ms i d (bytes_of msg) lt (ap bytes_of is) ∙ sym (spelled_map ms))
+      (sends_failed rest (sends_then (Err fault) (sends_same (spelled_map (take i ms)) before) here))

@@ -211,13 +211,13 @@ over_by false (Some x) e = absurd (cc)
 pub over_end : (s : State) → action_of s ≡ Over → is_over s.at.spot ≡ true
 over_end s e = over_by (is_over s.at.spot) (first_missing (needs s) s.held) e
 
-pub next_fails : (work : Work) (s : State) (names : Held) (front rest : List ℕ) (t : State) (after : Held)
-    (fault : ReadFault) → ReadsMessage (shape_at s) front rest (Err fault) →
-    TakesNext work s names front rest t after (Err fault)
-next_fails work s names front rest t after Ended given = given
-next_fails work s names front rest t after (Faulty code) given = inl given
-next_fails work s names front rest t after Source given = given
-next_fails work s names front rest t after Want given = given
+module _ (work : Work) (s : State) (names : Held) (front rest : List ℕ) (t : State) (after : Held) where
+  pub next_fails : (fault : ReadFault) → ReadsMessage (shape_at s) front rest (Err fault) →
+      TakesNext work s names front rest t after (Err fault)
+  next_fails Ended given = given
+  next_fails (Faulty code) given = inl given
+  next_fails Source given = given
+  next_fails Want given = given
 
 pub due_is : (x : Name) (s : State) (n : ℕ) (b : Bool) (r : ℕ) → n ≡ machine s → b ≡ has_taken s x →
     r ≡ s.at.round → (x.to == n && (not b && x.round == r)) ≡ is_due s x
@@ -335,35 +335,35 @@ module _ (work : Work) (sound : State → Type 0) (lawful : IsLawful work sound)
         ∙ (ap (λ n. takes_front work (served_from work) at s x n (front_of (shape_at s) bytes)) size_is
         ∙ ap (λ f. takes_front work (served_from work) at s x size f) front_is)
 
-    pub took : (front : List ℕ) (t : State) (after : Held) (size : ℕ) → old.left ≡ led_by front new.left →
-        new.takes ≡ old.takes → size ≡ length front → size < 8589934592 → Takes work s names front t after →
-        Goes work sound at s names old new t after size
-    took front t after size left takes size_is small taken =
-        let l = taken.letter in
-        let can = taken.takeable in
-        subst (λ (q : State). Goes work sound at s names old new q after size) (sym taken.state)
-        (subst (λ (q : Held). Goes work sound at s names old new (work.take s l) q size) (sym taken.names_are)
-        (record {
-          front = front;
-          text = [];
-          size_is = size_is;
-          left = left;
-          held = same ∙ sym (gained-nothing old.held);
-          takes = takes;
-          puts = kept;
-          spared = omega (arith, spare);
-          serves = λ behind.
-              let read = taken.read behind in
-              read_as (front ++ behind) size (There l behind) (read.size ∙ sym size_is) read.there
-              ∙ ap (λ b. if b then served_from work (at + size) (work.take s l) behind
-              else ends_at (at + size) (Refuses 5 at)) taken.due;
-          stands = take_stands work sound lawful s names stands l can;
-          same_part = lawful.take_part s l;
-          same_split = lawful.take_split s l;
-          less = take_less work sound lawful s names stands l can;
-          small = small;
-          low = take_low work sound lawful s names stands l can at size small;
-        }))
+    module _ (front : List ℕ) (t : State) (after : Held) (size : ℕ) where
+      pub took : old.left ≡ led_by front new.left → new.takes ≡ old.takes → size ≡ length front →
+          size < 8589934592 → Takes work s names front t after → Goes work sound at s names old new t after size
+      took left takes size_is small taken =
+          let l = taken.letter in
+          let can = taken.takeable in
+          subst (λ (q : State). Goes work sound at s names old new q after size) (sym taken.state)
+          (subst (λ (q : Held). Goes work sound at s names old new (work.take s l) q size) (sym taken.names_are)
+          (record {
+            front = front;
+            text = [];
+            size_is = size_is;
+            left = left;
+            held = same ∙ sym (gained-nothing old.held);
+            takes = takes;
+            puts = kept;
+            spared = omega (arith, spare);
+            serves = λ behind.
+                let read = taken.read behind in
+                read_as (front ++ behind) size (There l behind) (read.size ∙ sym size_is) read.there
+                ∙ ap (λ b. if b then served_from work (at + size) (work.take s l) behind
+                else ends_at (at + size) (Refuses 5 at)) taken.due;
+            stands = take_stands work sound lawful s names stands l can;
+            same_part = lawful.take_part s l;
+            same_split = lawful.take_split s l;
+            less = take_less work sound lawful s names stands l can;
+            small = small;
+            low = take_low work sound lawful s names stands l can at size small;
+          }))
 
     halts : (front : List ℕ) (end : End) → old.left ≡ led_by front new.left → new.takes ≡ old.takes →
         served_from work at s (front ++ told new.left) ≡ ends_at (at + length front) end →
@@ -589,21 +589,22 @@ wants_at_once state work part split old = (
 )
 
 -- the first state
-pub begins_along : (work : Work) (sound : State → Type 0) (part : PlainPart) (split : Split) (old : Streams)
-    (s : State) (names : Held) → s ≡ work.first part split → Stands sound (work.first part split) names →
-    IsAlong work sound part split old old 0 s names
-begins_along work sound part split old s names is stands =
-    subst (λ (q : State). IsAlong work sound part split old old 0 q names) (sym is)
-    (record {
-      read = [];
-      text = [];
-      at_is = refl;
-      left = led_nothing old.left;
-      held = sym (gained-nothing old.held);
-      takes = refl;
-      puts = refl;
-      spared = omega arith;
-      serves = λ behind. refl;
-      stands = stands;
-      low = λ going. omega arith;
-    })
+module _ (work : Work) (sound : State → Type 0) (part : PlainPart) (split : Split) (old : Streams) (s : State)
+    (names : Held) where
+  pub begins_along : s ≡ work.first part split → Stands sound (work.first part split) names →
+      IsAlong work sound part split old old 0 s names
+  begins_along is stands =
+      subst (λ (q : State). IsAlong work sound part split old old 0 q names) (sym is)
+      (record {
+        read = [];
+        text = [];
+        at_is = refl;
+        left = led_nothing old.left;
+        held = sym (gained-nothing old.held);
+        takes = refl;
+        puts = refl;
+        spared = omega arith;
+        serves = λ behind. refl;
+        stands = stands;
+        low = λ going. omega arith;
+      })

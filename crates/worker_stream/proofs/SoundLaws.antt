@@ -32,11 +32,12 @@ failed A B is is' Number f given = λ b. given (f b)
 failed A B is is' Text f given = given
 failed A B is is' Want f given = tt
 
-pub fails : {X Y : Type 0} (A B : Type 0) (is : X → Type 0) (is' : Y → Type 0) (fault : PartFault)
-    (r : Result Y PartFault) → (B → A) → Finds A is (Err fault) → IsErrAnd r (λ e. e ≡ fault) → Finds B is' r
-fails A B is is' fault (Ok y) f given h = absurd h
-fails {Y = Y} A B is is' fault (Err e) f given h =
-    subst (λ (q : PartFault). Finds {X = Y} B is' (Err q)) (sym h) (failed A B is is' fault f given)
+module _ {X Y : Type 0} (A B : Type 0) (is : X → Type 0) (is' : Y → Type 0) (fault : PartFault) where
+  pub fails : (r : Result Y PartFault) → (B → A) → Finds A is (Err fault) → IsErrAnd r (λ e. e ≡ fault) →
+      Finds B is' r
+  fails (Ok y) f given h = absurd h
+  fails (Err e) f given h =
+      subst (λ (q : PartFault). Finds {X = Y} B is' (Err q)) (sym h) (failed A B is is' fault f given)
 
 -- what is said of the frame's numbers is said of the file's
 pub of_file : (P : List ℕ → ℕ → ℕ → Type 0) (f : PartFile) (frame : Frame) (m : ℕ) → IsFrameOf f frame →

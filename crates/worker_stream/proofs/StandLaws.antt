@@ -56,13 +56,14 @@ abbrev AreHere : ℕ → ℕ → ℕ → List Letter → Type 0
 AreHere p round to ms =
     AllByRecursion (λ y. ((y.name.round ≡ round) × (y.name.to ≡ to)) × CanTake p y.name) ms
 
-all_later : (p round to : ℕ) (x : Name) (ms : List Letter) → x.round ≡ round → x.to ≡ to → CanTake p x →
-    AllByRecursion (λ z. is_before x z.name ≡ true) ms → AreHere p round to ms →
-    AllByRecursion (λ z. place_of p x + 1 ≤ place_of p z.name) ms
-all_later p round to x [] r t can behind here = tt
-all_later p round to x (y ∷ ys) r t can behind here =
-    let less = place_less p x y.name (r ∙ sym here.0.0.0) (t ∙ sym here.0.0.1) can here.0.1 behind.0 in
-    (omega arith, all_later p round to x ys r t can behind.1 here.1)
+module _ (p round to : ℕ) (x : Name) where
+  all_later : (ms : List Letter) → x.round ≡ round → x.to ≡ to → CanTake p x →
+      AllByRecursion (λ z. is_before x z.name ≡ true) ms → AreHere p round to ms →
+      AllByRecursion (λ z. place_of p x + 1 ≤ place_of p z.name) ms
+  all_later [] r t can behind here = tt
+  all_later (y ∷ ys) r t can behind here =
+      let less = place_less p x y.name (r ∙ sym here.0.0.0) (t ∙ sym here.0.0.1) can here.0.1 behind.0 in
+      (omega arith, all_later ys r t can behind.1 here.1)
 
 few_from : (p round to low : ℕ) (ms : List Letter) → Ascends ms → AreHere p round to ms →
     AllByRecursion (λ z. low ≤ place_of p z.name) ms → length ms ≤ 12 * p - low

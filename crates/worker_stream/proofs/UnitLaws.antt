@@ -5,17 +5,18 @@ use Rattle.edge_reader.proofs.UnitLaws.{units_next, units_none}
 use Rattle.worker_stream.specs.Sections.{cut_at}
 use Rattle.worker_stream.proofs.CutLaws.{cut_is, cut_none}
 
-pub units_more : {X : Type 0} (f : List ℕ → X) (size : ℕ) (rest front back : List ℕ) (all list new : List X) (x : X) →
-    0 < size → cut_at size rest ≡ Some (front, back) → list ++ map f (units_of size rest) ≡ all → x ≡ f front →
-    new ≡ list ++ x ∷ [] → new ++ map f (units_of size back) ≡ all
-units_more {X = X} f size rest front back all list new x some cut before read pushed =
-    let is = cut_is size rest front back cut in
-    let next : units_of size rest ≡ front ∷ units_of size back =
-    units_next size rest some is.within
-    ∙ (ap (λ q. q ∷ units_of size (drop size rest)) (sym is.front) ∙ ap (λ q. front ∷ units_of size q) (sym is.back)) in
-    ap (λ q. q ++ map f (units_of size back)) (pushed ∙ ap (λ y. list ++ y ∷ []) read)
-    ∙ (append_assoc list (f front ∷ []) (map f (units_of size back))
-    ∙ (ap (λ q. list ++ map f q) (sym next) ∙ before))
+module _ {X : Type 0} (f : List ℕ → X) (size : ℕ) (rest front back : List ℕ) (all list new : List X) (x : X) where
+  pub units_more : 0 < size → cut_at size rest ≡ Some (front, back) → list ++ map f (units_of size rest) ≡ all →
+      x ≡ f front → new ≡ list ++ x ∷ [] → new ++ map f (units_of size back) ≡ all
+  units_more some cut before read pushed =
+      let is = cut_is size rest front back cut in
+      let next : units_of size rest ≡ front ∷ units_of size back =
+      units_next size rest some is.within
+      ∙ (ap (λ q. q ∷ units_of size (drop size rest)) (sym is.front) ∙ ap (λ q. front ∷ units_of size q) (sym
+      is.back)) in
+      ap (λ q. q ++ map f (units_of size back)) (pushed ∙ ap (λ y. list ++ y ∷ []) read)
+      ∙ (append_assoc list (f front ∷ []) (map f (units_of size back))
+      ∙ (ap (λ q. list ++ map f q) (sym next) ∙ before))
 
 pub units_done : {X : Type 0} (f : List ℕ → X) (size : ℕ) (rest : List ℕ) (all list : List X) →
     cut_at size rest ≡ None → list ++ map f (units_of size rest) ≡ all → list ≡ all

@@ -63,10 +63,11 @@ module _ (blocks : Blocks) (m : ℕ) (knows later : ℕ → Bool) where
       let low = within_limit blocks r ruling on may in
       record { low = λ e. omega arith; known = λ either. (on, may) }
 
-  scan_next : (ruling : Ruling) (r s h : ℕ) → r ≤ blocks.limit → s < 64 → h ≤ 1 → (m ≢ 0 → knows r ≡ true) →
-      Stays (Scan r s h) → IsNext blocks m ruling later (record { spot = Scan r s h; round = r })
-  scan_next ruling r s h low few half known stays =
-      record { low = λ e. omega arith; known = λ other. stays r ∙ known other }
+  module _ (ruling : Ruling) (r s h : ℕ) where
+    scan_next : r ≤ blocks.limit → s < 64 → h ≤ 1 → (m ≢ 0 → knows r ≡ true) → Stays (Scan r s h) →
+        IsNext blocks m ruling later (record { spot = Scan r s h; round = r })
+    scan_next low few half known stays =
+        record { low = λ e. omega arith; known = λ other. stays r ∙ known other }
 
   close_next : (ruling : Ruling) (r : ℕ) (dense : Bool) → r ≤ blocks.limit → (m ≢ 0 → knows r ≡ true) →
       Stays (Close r dense) → IsNext blocks m ruling later (record { spot = Close r dense; round = r })
@@ -150,40 +151,41 @@ module _ (ring : Ring) (blocks : Blocks) (m : ℕ) (judged : Ruling) (knows late
       Stays blocks m knows later (scan_on r s h b c) →
       IsNext blocks m ruling later (record { spot = scan_on r s h b c; round = round_of r (scan_on r s h b c) })
 
-  scan_by : (ruling : Ruling) (r s h : ℕ) (b c : Bool) → r ≤ blocks.limit → s < 64 → (c ≡ true → s + 1 < 64) →
-      (m ≢ 0 → knows r ≡ true) → ScanNext ruling r s h b c
-  scan_by ruling r s h true c low few more known stays =
-      scan_next blocks m knows later ruling r s 1 low few (omega arith) known stays
-  scan_by ruling r s h false true low few more known stays =
-      scan_next blocks m knows later ruling r (s + 1) 0 low (more refl) (omega arith) known stays
-  scan_by ruling r s h false false low few more known stays =
-      close_next blocks m knows later ruling r true low known stays
+  module _ (ruling : Ruling) (r s h : ℕ) where
+    scan_by : (b c : Bool) → r ≤ blocks.limit → s < 64 → (c ≡ true → s + 1 < 64) → (m ≢ 0 → knows r ≡ true) →
+        ScanNext ruling r s h b c
+    scan_by true c low few more known stays =
+        scan_next blocks m knows later ruling r s 1 low few (omega arith) known stays
+    scan_by false true low few more known stays =
+        scan_next blocks m knows later ruling r (s + 1) 0 low (more refl) (omega arith) known stays
+    scan_by false false low few more known stays =
+        close_next blocks m knows later ruling r true low known stays
 
-  next_is : (ruling : Ruling) (spot : Spot) (round : ℕ) → ring.machines ≤ 64 → round ≡ round_of round spot →
-      HasSpot ring m ruling spot → is_over spot ≡ false → Lies spot round →
-      IsKnown blocks m ruling knows spot →
-      ((r : ℕ) → spot ≡ Judge r → may_rule blocks (r + 1) judged ≡ true) →
-      ((r : ℕ) → spot ≡ Begin r → m ≢ 0 → knows r ≡ true) → Remains ruling spot → Next ruling spot round
-  next_is ruling Tell round few e has on low known may ready stays =
-      subst (λ q. Next ruling Tell q) (sym e) (tell_next ruling stays)
-  next_is ruling (Judge r) round few e has on low known may ready stays =
-      subst (λ q. Next ruling (Judge r) q) (sym e) (judged_next judged r (may r refl))
-  next_is ruling (Begin r) round few e has on low known may ready stays =
-      let mode = ⊎_elim (λ (zero : m ≡ 0). known (inl zero))
-      (λ (other : m ≢ 0). known (inr (ready r refl other))) (cases_eq m 0) in
-      subst (λ q. Next ruling (Begin r) q) (sym e) (begun_next ruling r mode.0 mode.1 (ready r refl) stays)
-  next_is ruling (Scan r s h) round few e has on low known may ready stays =
-      let within = has.1 in
-      let c = nat_lt s (ring.machines - 1) in
-      subst (λ q. Next ruling (Scan r s h) q) (sym e)
-      (scan_by ruling r s h (h == 0) c (omega arith) (omega arith)
-      (λ is. ⊎_elim (λ (less : s < ring.machines - 1). let few_more : s + 1 < 64 = omega arith in few_more)
-      (λ (last : ring.machines - 1 ≤ s). absurd (false≢true (sym (below_false s (ring.machines - 1) last) ∙ is)))
-      (cases_lt s (ring.machines - 1)))
-      known stays)
-  next_is ruling (Close r dense) round few e has on low known may ready stays =
-      subst (λ q. Next ruling (Close r dense) q) (sym e) (close_end ruling r (omega arith) stays)
-  next_is ruling Over round few e has on low known may ready stays = absurd (going_on on)
+  module _ (ruling : Ruling) (round : ℕ) (few : ring.machines ≤ 64) where
+    next_is : (spot : Spot) → round ≡ round_of round spot → HasSpot ring m ruling spot → is_over spot ≡ false →
+        Lies spot round → IsKnown blocks m ruling knows spot →
+        ((r : ℕ) → spot ≡ Judge r → may_rule blocks (r + 1) judged ≡ true) × ((r : ℕ) → spot ≡ Begin r → m ≢ 0 →
+        knows r ≡ true) → Remains ruling spot → Next ruling spot round
+    next_is Tell e has on low known can stays =
+        subst (λ q. Next ruling Tell q) (sym e) (tell_next ruling stays)
+    next_is (Judge r) e has on low known can stays =
+        subst (λ q. Next ruling (Judge r) q) (sym e) (judged_next judged r (can.0 r refl))
+    next_is (Begin r) e has on low known can stays =
+        let mode = ⊎_elim (λ (zero : m ≡ 0). known (inl zero))
+        (λ (other : m ≢ 0). known (inr (can.1 r refl other))) (cases_eq m 0) in
+        subst (λ q. Next ruling (Begin r) q) (sym e) (begun_next ruling r mode.0 mode.1 (can.1 r refl) stays)
+    next_is (Scan r s h) e has on low known can stays =
+        let within = has.1 in
+        let c = nat_lt s (ring.machines - 1) in
+        subst (λ q. Next ruling (Scan r s h) q) (sym e)
+        (scan_by ruling r s h (h == 0) c (omega arith) (omega arith)
+        (λ is. ⊎_elim (λ (less : s < ring.machines - 1). let few_more : s + 1 < 64 = omega arith in few_more)
+        (λ (last : ring.machines - 1 ≤ s). absurd (false≢true (sym (below_false s (ring.machines - 1) last) ∙ is)))
+        (cases_lt s (ring.machines - 1)))
+        known stays)
+    next_is (Close r dense) e has on low known can stays =
+        subst (λ q. Next ruling (Close r dense) q) (sym e) (close_end ruling r (omega arith) stays)
+    next_is Over e has on low known can stays = absurd (going_on on)
 
 way_less : (blocks : Blocks) (s n : Standing) → is_over s.spot ≡ false → place_of s < place_of n →
     (is_over n.spot ≡ false → place_of n ≤ 256 * (blocks.limit + 1)) → place_of s ≤ 256 * (blocks.limit + 1) →
@@ -204,42 +206,42 @@ pub record IsFurther (ring : Ring) (blocks : Blocks) (m : ℕ) (ruling : Ruling)
   pub walk : IsWalk ring blocks m ruling n later
   pub less : way_left blocks n < way_left blocks s
 
-pub walks_on : (ring : Ring) (blocks : Blocks) (m : ℕ) (judged ruling : Ruling) (s : Standing)
-    (knows later : ℕ → Bool) → IsWalk ring blocks m ruling s knows → is_over s.spot ≡ false →
-    ((r : ℕ) → s.spot ≡ Judge r → may_rule blocks (r + 1) judged ≡ true) →
-    ((r : ℕ) → s.spot ≡ Begin r → m ≢ 0 → knows r ≡ true) →
-    let acting = acting_ruling judged ruling s.spot in
-    ((r : ℕ) → later r ≡ (not (is_begin (next_standing ring m acting s).spot) && knows r)) →
-    IsFurther ring blocks m acting s (next_standing ring m acting s) later
-walks_on ring blocks m judged ruling s knows later walk going may ready stays =
-    let acting = acting_ruling judged ruling s.spot in
-    let next = next_is ring blocks m judged knows later ruling s.spot s.round walk.few walk.round walk.has going
-    (walk.low going) walk.known may ready stays in
-    let on : IsOneOn ring m acting s =
-    actions_lead_on ring m acting s walk.place walk.few (acting_has ring m judged ruling s.spot walk.has)
-    walk.round (λ e. false≢true (sym going ∙ ap is_over e))
-    (λ r e. mode r e) in
-    record {
-      walk = record {
-        place = walk.place;
-        few = walk.few;
-        round = on.round;
-        has = on.has;
-        low = next.low;
-        known = next.known;
-      };
-      less = way_less blocks s (next_standing ring m acting s) going on.later next.low (walk.low going);
-    }
-  where
-    mode_by : (spot : Spot) (r : ℕ) → spot ≡ Begin r → IsKnown blocks m ruling knows spot →
-        (m ≢ 0 → knows r ≡ true) → acting_ruling judged ruling spot ≢ Stop
-    mode_by spot r e known ready =
-        subst (λ q. acting_ruling judged ruling q ≢ Stop) (sym e)
-        (⊎_elim (λ (zero : m ≡ 0). (subst (IsKnown blocks m ruling knows) e known (inl zero)).0)
-        (λ (other : m ≢ 0). (subst (IsKnown blocks m ruling knows) e known (inr (ready other))).0) (cases_eq m 0))
+module _ (ring : Ring) (blocks : Blocks) (m : ℕ) (judged ruling : Ruling) (s : Standing)
+    (knows later : ℕ → Bool) where
+  pub walks_on : IsWalk ring blocks m ruling s knows → is_over s.spot ≡ false →
+      ((r : ℕ) → s.spot ≡ Judge r → may_rule blocks (r + 1) judged ≡ true) →
+      ((r : ℕ) → s.spot ≡ Begin r → m ≢ 0 → knows r ≡ true) →
+      let acting = acting_ruling judged ruling s.spot in ((r : ℕ) → later r ≡ (not (is_begin (next_standing ring
+      m acting s).spot) && knows r)) → IsFurther ring blocks m acting s (next_standing ring m acting s) later
+  walks_on walk going may ready stays =
+      let acting = acting_ruling judged ruling s.spot in
+      let next = next_is ring blocks m judged knows later ruling s.round walk.few s.spot walk.round walk.has going
+      (walk.low going) walk.known (may, ready) stays in
+      let on : IsOneOn ring m acting s =
+      actions_lead_on ring m acting s walk.place walk.few (acting_has ring m judged ruling s.spot walk.has)
+      walk.round (λ e. false≢true (sym going ∙ ap is_over e))
+      (λ r e. mode r e) in
+      record {
+        walk = record {
+          place = walk.place;
+          few = walk.few;
+          round = on.round;
+          has = on.has;
+          low = next.low;
+          known = next.known;
+        };
+        less = way_less blocks s (next_standing ring m acting s) going on.later next.low (walk.low going);
+      }
+    where
+      mode_by : (spot : Spot) (r : ℕ) → spot ≡ Begin r → IsKnown blocks m ruling knows spot →
+          (m ≢ 0 → knows r ≡ true) → acting_ruling judged ruling spot ≢ Stop
+      mode_by spot r e known ready =
+          subst (λ q. acting_ruling judged ruling q ≢ Stop) (sym e)
+          (⊎_elim (λ (zero : m ≡ 0). (subst (IsKnown blocks m ruling knows) e known (inl zero)).0)
+          (λ (other : m ≢ 0). (subst (IsKnown blocks m ruling knows) e known (inr (ready other))).0) (cases_eq m 0))
 
-    mode : (r : ℕ) → s.spot ≡ Begin r → acting_ruling judged ruling s.spot ≢ Stop
-    mode r e = mode_by s.spot r e walk.known (ready r e)
+      mode : (r : ℕ) → s.spot ≡ Begin r → acting_ruling judged ruling s.spot ≢ Stop
+      mode r e = mode_by s.spot r e walk.known (ready r e)
 
 -- ---- a message
 known_alike : (blocks : Blocks) (m : ℕ) (ruling : Ruling) (knows later : ℕ → Bool) (spot : Spot) →
@@ -252,70 +254,74 @@ known_alike blocks m ruling knows later (Scan r s h) same known = λ other. same
 known_alike blocks m ruling knows later (Close r dense) same known = λ other. same r ∙ known other
 known_alike blocks m ruling knows later Over same known = known
 
-pub walks_alike : (ring : Ring) (blocks : Blocks) (m : ℕ) (ruling : Ruling) (s : Standing) (knows later : ℕ → Bool) →
-    IsWalk ring blocks m ruling s knows → ((r : ℕ) → later r ≡ knows r) → IsWalk ring blocks m ruling s later
-walks_alike ring blocks m ruling s knows later walk same = record {
-  place = walk.place;
-  few = walk.few;
-  round = walk.round;
-  has = walk.has;
-  low = walk.low;
-  known = known_alike blocks m ruling knows later s.spot same walk.known;
-}
+module _ (ring : Ring) (blocks : Blocks) (m : ℕ) (ruling : Ruling) (s : Standing) (knows later : ℕ → Bool) where
+  pub walks_alike : IsWalk ring blocks m ruling s knows → ((r : ℕ) → later r ≡ knows r) →
+      IsWalk ring blocks m ruling s later
+  walks_alike walk same = record {
+    place = walk.place;
+    few = walk.few;
+    round = walk.round;
+    has = walk.has;
+    low = walk.low;
+    known = known_alike blocks m ruling knows later s.spot same walk.known;
+  }
 
 -- a verdict is taken at the begin of its round
-begins_there : (blocks : Blocks) (ring : Ring) (m : ℕ) (ruling : Ruling) (knows : ℕ → Bool) (spot : Spot) (round : ℕ) →
+begins_there :
+    (blocks : Blocks) (ring : Ring) (m : ℕ) (ruling : Ruling) (knows : ℕ → Bool) (round : ℕ) (spot : Spot) →
     HasSpot ring m ruling spot → IsKnown blocks m ruling knows spot → round ≡ round_of round spot → m ≢ 0 →
     1 ≤ round → is_over spot ≡ false → knows round ≡ false → spot ≡ Begin round
-begins_there blocks ring m ruling knows Tell round has known e other some going new = absurd (omega arith)
-begins_there blocks ring m ruling knows (Judge r) round has known e other some going new = absurd (other has)
-begins_there blocks ring m ruling knows (Begin r) round has known e other some going new = ap Begin (sym e)
-begins_there blocks ring m ruling knows (Scan r s h) round has known e other some going new =
+begins_there blocks ring m ruling knows round Tell has known e other some going new = absurd (omega arith)
+begins_there blocks ring m ruling knows round (Judge r) has known e other some going new = absurd (other has)
+begins_there blocks ring m ruling knows round (Begin r) has known e other some going new = ap Begin (sym e)
+begins_there blocks ring m ruling knows round (Scan r s h) has known e other some going new =
     absurd (false≢true (sym new ∙ (ap knows e ∙ known other)))
-begins_there blocks ring m ruling knows (Close r dense) round has known e other some going new =
+begins_there blocks ring m ruling knows round (Close r dense) has known e other some going new =
     absurd (false≢true (sym new ∙ (ap knows e ∙ known other)))
-begins_there blocks ring m ruling knows Over round has known e other some going new = absurd (going_on going)
+begins_there blocks ring m ruling knows round Over has known e other some going new = absurd (going_on going)
 
-ruled_by : (ring : Ring) (blocks : Blocks) (m : ℕ) (old read : Ruling) (round : ℕ) (knows later : ℕ → Bool) →
-    IsWalk ring blocks m old (record { spot = Begin round; round = round }) knows →
-    may_rule blocks round read ≡ true →
-    IsWalk ring blocks m read (ruled_standing read (record { spot = Begin round; round = round })) later
-ruled_by ring blocks m old Stop round knows later walk may = record {
-  place = walk.place;
-  few = walk.few;
-  round = refl;
-  has = tt;
-  low = λ e. absurd (going_on e);
-  known = tt;
-}
-ruled_by ring blocks m old Dense round knows later walk may = record {
-  place = walk.place;
-  few = walk.few;
-  round = refl;
-  has = walk.has;
-  low = walk.low;
-  known = λ either. ((λ e. absurd (cc)), may);
-}
-ruled_by ring blocks m old Sparse round knows later walk may = record {
-  place = walk.place;
-  few = walk.few;
-  round = refl;
-  has = walk.has;
-  low = walk.low;
-  known = λ either. ((λ e. absurd (cc)), may);
-}
+module _ (ring : Ring) (blocks : Blocks) (m : ℕ) (old : Ruling) where
+  ruled_by : (read : Ruling) (round : ℕ) (knows later : ℕ → Bool) →
+      IsWalk ring blocks m old (record { spot = Begin round; round = round }) knows →
+      may_rule blocks round read ≡ true →
+      IsWalk ring blocks m read (ruled_standing read (record { spot = Begin round; round = round })) later
+  ruled_by Stop round knows later walk may = record {
+    place = walk.place;
+    few = walk.few;
+    round = refl;
+    has = tt;
+    low = λ e. absurd (going_on e);
+    known = tt;
+  }
+  ruled_by Dense round knows later walk may = record {
+    place = walk.place;
+    few = walk.few;
+    round = refl;
+    has = walk.has;
+    low = walk.low;
+    known = λ either. ((λ e. absurd (cc)), may);
+  }
+  ruled_by Sparse round knows later walk may = record {
+    place = walk.place;
+    few = walk.few;
+    round = refl;
+    has = walk.has;
+    low = walk.low;
+    known = λ either. ((λ e. absurd (cc)), may);
+  }
 
-pub walks_ruled : (ring : Ring) (blocks : Blocks) (m : ℕ) (old read : Ruling) (s : Standing)
-    (knows later : ℕ → Bool) → IsWalk ring blocks m old s knows → m ≢ 0 → 1 ≤ s.round → is_over s.spot ≡ false →
-    knows s.round ≡ false → may_rule blocks s.round read ≡ true →
-    IsWalk ring blocks m read (ruled_standing read s) later
-walks_ruled ring blocks m old read s knows later walk other some going new may =
-    let at = begins_there blocks ring m old knows s.spot s.round walk.has walk.known walk.round other some going new in
-    let same : record { spot = Begin s.round; round = s.round } ≡ s =
-    ap (λ q. (let t : Standing = record { spot = q; round = s.round } in t)) (sym at) in
-    subst (λ t. IsWalk ring blocks m read (ruled_standing read t) later) same
-    (ruled_by ring blocks m old read s.round knows later
-    (subst (λ t. IsWalk ring blocks m old t knows) (sym same) walk) may)
+module _ (ring : Ring) (blocks : Blocks) (m : ℕ) (old read : Ruling) (s : Standing) (knows later : ℕ → Bool) where
+  pub walks_ruled : IsWalk ring blocks m old s knows → m ≢ 0 → 1 ≤ s.round → is_over s.spot ≡ false →
+      knows s.round ≡ false → may_rule blocks s.round read ≡ true →
+      IsWalk ring blocks m read (ruled_standing read s) later
+  walks_ruled walk other some going new may =
+      let at = begins_there blocks ring m old knows s.round s.spot walk.has walk.known walk.round other some going
+      new in
+      let same : record { spot = Begin s.round; round = s.round } ≡ s =
+      ap (λ q. (let t : Standing = record { spot = q; round = s.round } in t)) (sym at) in
+      subst (λ t. IsWalk ring blocks m read (ruled_standing read t) later) same
+      (ruled_by ring blocks m old read s.round knows later
+      (subst (λ t. IsWalk ring blocks m old t knows) (sym same) walk) may)
 
 -- no message lengthens the way
 pub way_ruled : (blocks : Blocks) (read : Ruling) (s : Standing) →

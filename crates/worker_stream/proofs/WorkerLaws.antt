@@ -31,22 +31,22 @@ pub record IsFront (forms : Name → Option BodyShape) (bytes : List ℕ) (l : L
   pub fewer : length rest < length bytes
 
 module _ (forms : Name → Option BodyShape) (all : List ℕ) (l : Letter) (rest : List ℕ) where
-  by_body : (x : Name) (shape : BodyShape) (size : ℕ) (bytes : List ℕ) (b c : Bool) → forms x ≡ Some shape →
-      is_fit shape (take size bytes) ≡ c → length bytes < length all →
-      (if b then Wrong 1
-      else if c then There (record { name = x; body = take size bytes }) (drop size bytes) else Wrong 4)
-      ≡ There l rest → IsFront forms all l rest
-  by_body x shape size bytes true c has fits few e = absurd (cc)
-  by_body x shape size bytes false false has fits few e = absurd (cc)
-  by_body x shape size bytes false true has fits few e =
-      let letter : record { name = x; body = take size bytes } ≡ l = cc in
-      let behind : drop size bytes ≡ rest = cc in
-      record {
-        shape = shape;
-        has = ap (λ (q : Letter). forms q.name) (sym letter) ∙ has;
-        fits = ap (λ (q : Letter). is_fit shape q.body) (sym letter) ∙ fits;
-        fewer = omega (arith, length-drop size bytes, ap length behind, few);
-      }
+  module _ (x : Name) (shape : BodyShape) (size : ℕ) (bytes : List ℕ) where
+    by_body : (b c : Bool) → forms x ≡ Some shape → is_fit shape (take size bytes) ≡ c →
+        length bytes < length all →
+        (if b then Wrong 1 else if c then There (record { name = x; body = take size bytes }) (drop size bytes)
+        else Wrong 4) ≡ There l rest → IsFront forms all l rest
+    by_body true c has fits few e = absurd (cc)
+    by_body false false has fits few e = absurd (cc)
+    by_body false true has fits few e =
+        let letter : record { name = x; body = take size bytes } ≡ l = cc in
+        let behind : drop size bytes ≡ rest = cc in
+        record {
+          shape = shape;
+          has = ap (λ (q : Letter). forms q.name) (sym letter) ∙ has;
+          fits = ap (λ (q : Letter). is_fit shape q.body) (sym letter) ∙ fits;
+          fewer = omega (arith, length-drop size bytes, ap length behind, few);
+        }
 
   by_long : (x : Name) (shape : BodyShape) (size : ℕ) (bytes : List ℕ) (b : Bool) → forms x ≡ Some shape →
       length bytes < length all →
@@ -143,36 +143,37 @@ module _ (work : Work) (sound : State → Type 0) (lawful : IsLawful work sound)
   abbrev Alike : ℕ → Onwards → Onwards → Type 0
   Alike n f g = (at : ℕ) (t : State) (bs : List ℕ) → Walks t → steps_left t bs ≤ n → f at t bs ≡ g at t bs
 
-  alike_front : (n : ℕ) (f g : Onwards) → Alike n f g → (at : ℕ) (s : State) (x : Name) (size : ℕ)
-      (bytes : List ℕ) → Walks s → is_over s.at.spot ≡ false → steps_left s bytes ≤ suc n →
-      (front : AtFront) → front_of (shape_at s) bytes ≡ front →
-      takes_front work f at s x size front ≡ takes_front work g at s x size front
-  alike_front n f g alike at s x size bytes walk going few NoByte is = refl
-  alike_front n f g alike at s x size bytes walk going few (Wrong code) is = refl
-  alike_front n f g alike at s x size bytes walk going few (There l rest) is = by_due (is_due s l.name) refl
-    where
-      by_due : (b : Bool) → is_due s l.name ≡ b →
-          (if b then f (at + size) (work.take s l) rest else ends_at (at + size) (Refuses 5 at))
-          ≡ (if b then g (at + size) (work.take s l) rest else ends_at (at + size) (Refuses 5 at))
-      by_due true due =
-          let front = front_is (shape_at s) bytes l rest is in
-          let on = take_walks work sound lawful s l walk (takeable s bytes l rest front going due) in
-          let fewer = front.fewer in
-          let less = on.no_more in
-          alike (at + size) (work.take s l) rest on.walks (omega arith)
-      by_due false due = refl
+  module _ (n : ℕ) (f g : Onwards) (alike : Alike n f g) (at : ℕ) (s : State) (x : Name) (size : ℕ)
+      (bytes : List ℕ) where
+    alike_front : Walks s → is_over s.at.spot ≡ false → steps_left s bytes ≤ suc n → (front : AtFront) →
+        front_of (shape_at s) bytes ≡ front →
+        takes_front work f at s x size front ≡ takes_front work g at s x size front
+    alike_front walk going few NoByte is = refl
+    alike_front walk going few (Wrong code) is = refl
+    alike_front walk going few (There l rest) is = by_due (is_due s l.name) refl
+      where
+        by_due : (b : Bool) → is_due s l.name ≡ b →
+            (if b then f (at + size) (work.take s l) rest else ends_at (at + size) (Refuses 5 at))
+            ≡ (if b then g (at + size) (work.take s l) rest else ends_at (at + size) (Refuses 5 at))
+        by_due true due =
+            let front = front_is (shape_at s) bytes l rest is in
+            let on = take_walks work sound lawful s l walk (takeable s bytes l rest front going due) in
+            let fewer = front.fewer in
+            let less = on.no_more in
+            alike (at + size) (work.take s l) rest on.walks (omega arith)
+        by_due false due = refl
 
-  alike_act : (n : ℕ) (f g : Onwards) → Alike n f g → (at : ℕ) (s : State) (bytes : List ℕ) → Walks s →
-      steps_left s bytes ≤ suc n → (a : Action) → action_of s ≡ a →
-      acts work f at s bytes a ≡ acts work g at s bytes a
-  alike_act n f g alike at s bytes walk few Over is = refl
-  alike_act n f g alike at s bytes walk few Ready is =
-      let on = go_walks work sound lawful s walk is in
-      let less = on.less in
-      ap (behind_text (spelled_letters (work.sent s))) (alike at (work.go s) bytes on.walks (omega arith))
-  alike_act n f g alike at s bytes walk few (Waits x) is =
-      alike_front n f g alike at s x (read_of (shape_at s) bytes) bytes walk (waits_on s x is) few
-      (front_of (shape_at s) bytes) refl
+  module _ (n : ℕ) (f g : Onwards) where
+    alike_act : Alike n f g → (at : ℕ) (s : State) (bytes : List ℕ) → Walks s → steps_left s bytes ≤ suc n →
+        (a : Action) → action_of s ≡ a → acts work f at s bytes a ≡ acts work g at s bytes a
+    alike_act alike at s bytes walk few Over is = refl
+    alike_act alike at s bytes walk few Ready is =
+        let on = go_walks work sound lawful s walk is in
+        let less = on.less in
+        ap (behind_text (spelled_letters (work.sent s))) (alike at (work.go s) bytes on.walks (omega arith))
+    alike_act alike at s bytes walk few (Waits x) is =
+        alike_front n f g alike at s x (read_of (shape_at s) bytes) bytes walk (waits_on s x is) few
+        (front_of (shape_at s) bytes) refl
 
   enough : (n k : ℕ) → n ≤ k → Alike n (served_within work n) (served_within work k)
   enough zero k le at s bytes walk few = absurd (omega arith)

@@ -15,7 +15,8 @@ check_part-requires g c =
 pub parts-init : goal.parts-init
 parts-init g c =
     let text = c.args.case.now.program.now in
-    let said = subst (λ (typed : Typed). Says text typed.program) (sym c.split_of-split.ensures) c.in_ok-typed_of.ensures in
+    let said = subst (λ (typed : Typed). Says text typed.program) (sym c.split_of-split.ensures)
+    c.in_ok-typed_of.ensures in
     subst (λ (parts : List Part). All (λ part. Says text part.split.value.program.program) parts)
     (sym c.deref-part-items.ensures.value)
     (λ k d lt. subst (λ (split : Split). Says text split.program.program)

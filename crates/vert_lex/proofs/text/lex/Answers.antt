@@ -28,7 +28,7 @@ pub returns-then-length-eq0-clause-refused : goal.returns-then-length-eq0-clause
 returns-then-length-eq0-clause-refused c = λ other.
     let rest = c.text.rest.now in
     let none : c.token_length-length.result ≡ 0 = c.if-length-eq0.true in
-    fault_step c.text.span _ rest 0 _ _ (some_left rest c.is_empty.result c.is_empty.ensures c.text-test.true)
+    fault_step c.text.span _ 0 _ _ rest (some_left rest c.is_empty.result c.is_empty.ensures c.text-test.true)
     (c.gap_length-gap.ensures.blank (omega arith)) (c.gap_length-gap.ensures.comment (omega arith))
     (sym c.token_length-length.ensures.longest ∙ none) (no_token c.text.span rest) c.text.invariant.read
 

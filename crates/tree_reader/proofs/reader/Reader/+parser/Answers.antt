@@ -24,13 +24,13 @@ binary-returns-clause-read t c = chain_done c.args.room c.args.layer
 
 pub binary-returns-then-chains_comparison-clause-read : goal.binary-returns-then-chains_comparison-clause-read
 binary-returns-then-chains_comparison-clause-read t c =
-    chain_refuses_second c.args.room c.args.layer (plain c.args.self.now.names.items c.args.tokens.now) _ _ _
+    chain_refuses_second c.args.room (plain c.args.self.now.names.items c.args.tokens.now) _ _ c.args.layer _
     c.chain.invariant c.requires.layer (sym c.layer_ahead.ensures ∙ c.chain-test.true)
     (sym c.chains_comparison.ensures ∙ c.if-chains_comparison.true)
 
 pub binary-returns-then-room-depth-clause-read : goal.binary-returns-then-room-depth-clause-read
 binary-returns-then-room-depth-clause-read t c =
-    chain_too_deep c.args.room c.args.layer (plain c.args.self.now.names.items c.args.tokens.now) _ _ _
+    chain_too_deep c.args.room (plain c.args.self.now.names.items c.args.tokens.now) _ _ c.args.layer _
     c.chain.invariant c.requires.layer (sym c.layer_ahead.ensures ∙ c.chain-test.true)
     (sym c.chains_comparison.ensures ∙ c.if-chains_comparison.false) c.if-room-depth.true
 
@@ -44,9 +44,9 @@ binary-returns-in_err-right-clause-read t c =
     (tree_at c.args.room (c.args.layer - 1) (rest (plain names c.chain.tokens.now))) = rw
     (← again c.args.room (c.args.layer - 1) pos, ← c.rest.ensures) c.in_err-right.ensures.read in
     rw (p.1, p.2)
-    (chain_operand_fails names c.args.room c.args.layer (plain names c.args.tokens.now) _ _ _ c.in_err-right.field-0.0
-    c.chain.invariant c.requires.layer (sym c.layer_ahead.ensures ∙ c.chain-test.true)
-    (sym c.chains_comparison.ensures ∙ c.if-chains_comparison.false) c.if-room-depth.false f)
+    (chain_operand_fails names c.args.room (plain names c.args.tokens.now) _ _ c.if-room-depth.false c.args.layer _
+    c.in_err-right.field-0.0 c.chain.invariant c.requires.layer (sym c.layer_ahead.ensures ∙ c.chain-test.true)
+    (sym c.chains_comparison.ensures ∙ c.if-chains_comparison.false) f)
 
 pub binary-chain-preserved : goal.binary-chain-preserved
 binary-chain-preserved t c =
@@ -57,9 +57,10 @@ binary-chain-preserved t c =
     ≡ Ok (view names c.in_ok-right.right, plain names c.in_ok-right.after.now) = rw
     (← again c.args.room (c.args.layer - 1) pos, ← c.rest.ensures) c.in_ok-right.ensures.read in
     rw (c.in_ok-left-2.ensures, c.deeper-depth.ensures, c.operator-op.ensures)
-    (chain_goes_on c.args.room c.args.layer (plain names c.args.tokens.now) _ _ _ _ _ _ c.chain.invariant
-    c.requires.layer (sym c.layer_ahead.ensures ∙ c.chain-test.true) (sym c.chains_comparison.ensures
-    ∙ c.if-chains_comparison.false) c.if-room-depth.false f c.in_ok-right.ensures.depth
+    (chain_goes_on c.args.room (plain names c.args.tokens.now) _ _ _ _ _ c.if-room-depth.false
+    c.in_ok-right.ensures.depth c.args.layer _ c.chain.invariant c.requires.layer (sym c.layer_ahead.ensures ∙
+    c.chain-test.true) (sym c.chains_comparison.ensures
+    ∙ c.if-chains_comparison.false) f
     (let g = c.in_ok-right.ensures.fits in omega arith))
 
 pub expression-returns-in_err-held-clause-read : goal.expression-returns-in_err-held-clause-read
@@ -76,7 +77,7 @@ expression-returns-in_err-held-clause-read t c =
     (tree_at (c.args.room - 1 + 1) 6 (rest (plain names c.in_ok-test.tokens.now))) = rw (← c.rest.ensures)
     c.in_err-held.ensures.read in
     rw (p.1, p.2)
-    (choice_first_fails names c.args.room c.in_err-held.field-0.0 (plain names c.args.tokens.now) _ _
+    (choice_first_fails names c.args.room (plain names c.args.tokens.now) _ _ c.in_err-held.field-0.0
     c.in_ok-test.ensures.read (sym c.begins_mark.ensures ∙ c.if-not-begins_mark.false)
     (omega (arith, c.in_ok-test.ensures.depth, c.if-room-depth.false)) pos f)
 
@@ -94,7 +95,7 @@ expression-returns-in_err-tokens-clause-read t c =
     ≡ Ok (view names c.in_ok-held.held, plain names c.in_ok-held.tokens.now) = rw (← c.rest.ensures)
     c.in_ok-held.ensures.read in
     rw (p.1, p.2)
-    (choice_mark_fails names c.args.room c.in_err-tokens.field-0.0 (plain names c.args.tokens.now) _ _ _ _
+    (choice_mark_fails names c.args.room (plain names c.args.tokens.now) _ _ _ _ c.in_err-tokens.field-0.0
     c.in_ok-test.ensures.read (sym c.begins_mark.ensures ∙ c.if-not-begins_mark.false)
     (omega (arith, c.in_ok-test.ensures.depth, c.if-room-depth.false)) pos f c.in_err-tokens.ensures)
 
@@ -130,7 +131,7 @@ expression-returns-in_err-otherwise-clause-read t c =
     ≡ Ok (view names c.in_ok-held.held, plain names c.in_ok-held.tokens.now) = rw (← c.rest.ensures)
     c.in_ok-held.ensures.read in
     rw (p.1, p.2)
-    (choice_second_fails names c.args.room c.in_err-otherwise.field-0.0 (plain names c.args.tokens.now) _ _ _ _ _ _
+    (choice_second_fails names c.args.room (plain names c.args.tokens.now) _ _ _ _ _ _ c.in_err-otherwise.field-0.0
     c.in_ok-test.ensures.read (sym c.begins_mark.ensures ∙ c.if-not-begins_mark.false)
     (omega (arith, c.in_ok-test.ensures.depth, c.if-room-depth.false)) pos f c.in_ok-tokens.ensures
     c.in_err-otherwise.ensures.read)
