@@ -34,10 +34,11 @@ FORMS = {status: re.compile(form) for status, form in NOTES.items()}
 NOT_THERE = (1, b"symple: unknown command\n")
 
 
-def asked(text, *more):
-    """The options of a script with this text at its head; each of `more` is a name and what argparse is told of it."""
+def asked(text, *more, program="symple"):
+    """The options of a script with this text at its head, which calls this program; each of `more` is a name and what
+    argparse is told of it."""
     parser = argparse.ArgumentParser(description=text, formatter_class=argparse.RawDescriptionHelpFormatter)
-    parser.add_argument("--program", default=str(TOP / "crates/symple/out/symple"))
+    parser.add_argument("--program", default=str(TOP / "crates" / program / "out" / program))
     for name, told in more:
         parser.add_argument(name, **told)
     found = parser.parse_args()

@@ -1,11 +1,8 @@
-//! A text with a piece changed at random.
+//! A text with pieces changed at random.
 
 use rand_core::utils::NextWord;
 use rand_pcg::Lcg64Xsh32;
 use std::alloc::{AllocError, Global};
-
-/// How many texts each test tries.
-pub(crate) const CASES: u32 = 400;
 
 /// What is put in the place of a number or a word.
 static BORDERS: &str = "\
@@ -22,6 +19,7 @@ static BORDERS: &str = "\
 2097151
 2097152
 8388608
+2147483648
 4294967295
 4294967296
 9223372036854775807
@@ -30,6 +28,7 @@ static BORDERS: &str = "\
 18446744073709551616
 99999999999999999999999999999999999999
 -1
+-2147483648
 -2147483649
 go 0
 take tally 1 0
@@ -40,25 +39,26 @@ total t: sum = 1;
 @";
 
 /// How many lines `BORDERS` has.
-const BORDER_COUNT: usize = 29;
+const BORDER_COUNT: usize = 31;
 
 static BITS: [u8; 8] = [1, 2, 4, 8, 16, 32, 64, 128];
 
 /// Changes texts, each change by the next words of a generator.
 #[derive(Drop)]
-pub(crate) struct Mutator {
+pub struct Mutator {
     generator: Lcg64Xsh32,
 }
 
 impl Mutator {
-    pub(crate) fn new(seed: u64) -> Mutator {
+    /// The mutator of a seed.
+    pub fn new(seed: u64) -> Mutator {
         Mutator {
             generator: Lcg64Xsh32::new(seed, 28),
         }
     }
 
     /// A number below the bound, or 0 where that is 0.
-    pub(crate) fn below(&mut self, bound: usize) -> usize {
+    pub fn below(&mut self, bound: usize) -> usize {
         let word = self.generator.next_word() as usize;
         word.checked_rem(bound).unwrap_or(0)
     }
@@ -92,42 +92,37 @@ impl Mutator {
         number.to_le_bytes()
     }
 
-    /// The text with one piece changed: a bit, a number or a word, or the piece is cut out, repeated, or
-    /// one of the other text.
-    pub(crate) fn change(
-        &mut self,
-        alloc: Global,
-        text: &[u8],
-        other: &[u8],
-    ) -> Result<Vec<u8>, AllocError> {
+    /// A number or a word at the border of what is read.
+    fn border(&mut self) -> &'static [u8] {
+        let line = self.below(BORDER_COUNT);
+        BORDERS.lines().nth(line).unwrap_or("").as_bytes()
+    }
+
+    /// A piece of a text.
+    fn piece<'a>(&mut self, text: &'a [u8]) -> &'a [u8] {
+        let (begun, ended) = self.places(text.len());
+        text.get(begun..ended).unwrap_or(&[])
+    }
+
+    /// The text with one piece changed: the piece or the end is cut off, the piece is repeated, one
+    /// of the other text is put in, a number or a word stands in its place, or a bit is another
+    /// one.
+    fn change(&mut self, alloc: Global, text: &[u8], other: &[u8]) -> Result<Vec<u8>, AllocError> {
         let (begun, ended) = self.places(text.len());
         match self.below(8) {
             0 => joined(alloc, text, begun, &[], ended),
             1 => joined(alloc, text, begun, &[], begun.saturating_add(1)),
             2 => joined(alloc, text, begun, &[], usize::MAX),
             3 => joined(alloc, text, ended, text.get(begun..).unwrap_or(&[]), ended),
-            4 => {
-                let (first, last) = self.places(other.len());
-                joined(
-                    alloc,
-                    text,
-                    begun,
-                    other.get(first..last).unwrap_or(&[]),
-                    begun,
-                )
-            }
+            4 => joined(alloc, text, begun, self.piece(other), begun),
             5 => joined(alloc, text, begun, &self.number(), begun.saturating_add(4)),
-            6 => {
-                let line = self.below(BORDER_COUNT);
-                let word = BORDERS.lines().nth(line).unwrap_or("");
-                joined(
-                    alloc,
-                    text,
-                    begun,
-                    word.as_bytes(),
-                    behind_digits(text, begun),
-                )
-            }
+            6 => joined(
+                alloc,
+                text,
+                begun,
+                self.border(),
+                behind_digits(text, begun),
+            ),
             _ => {
                 let byte = text.get(begun).copied().unwrap_or(0) ^ self.bit();
                 joined(alloc, text, begun, &[byte], begun.saturating_add(1))
@@ -135,8 +130,8 @@ impl Mutator {
         }
     }
 
-    /// The text changed one to three times.
-    pub(crate) fn case(
+    /// The text changed one to three times, in part by pieces of the other one.
+    pub fn changed(
         &mut self,
         alloc: Global,
         text: &[u8],
@@ -158,10 +153,12 @@ fn joined(
     piece: &[u8],
     ended: usize,
 ) -> Result<Vec<u8>, AllocError> {
-    let mut bytes = Vec::new(alloc);
-    bytes.extend_from_slice(text.get(..begun).unwrap_or(&[]))?;
+    let front = text.get(..begun).unwrap_or(&[]);
+    let behind = text.get(ended..).unwrap_or(&[]);
+    let mut bytes = Vec::with_capacity(alloc, text.len().saturating_add(piece.len()))?;
+    bytes.extend_from_slice(front)?;
     bytes.extend_from_slice(piece)?;
-    bytes.extend_from_slice(text.get(ended..).unwrap_or(&[]))?;
+    bytes.extend_from_slice(behind)?;
     Ok(bytes)
 }
 
