@@ -1,8 +1,7 @@
 //! One line of words, performed over files and streams in memory.
 
 use command_steps::Status;
-use outside::{MemShelf, MemSink, MemSource, Shelf};
-use sample_programs::{graph_named, program_named};
+use outside::{MemShelf, MemSink, MemSource};
 use std::alloc::{AllocError, AllocFailed, Global};
 use std::fmt;
 use symple_face::Restart;
@@ -10,14 +9,14 @@ use symple_run::symple;
 use vert_base::Want;
 
 /// What was otherwise than a case says.
-#[derive(Drop)]
+#[derive(Debug, Drop)]
 pub enum Otherwise {
     Want,
     Told(&'static str),
 }
 
 impl fmt::Display for Otherwise {
-    fn fmt(&self, out: &mut fmt::Formatter<'_>) -> fmt::Result {
+    fn fmt<W: fmt::Write>(&self, out: &mut fmt::Formatter<W>) -> fmt::Result {
         match self {
             Otherwise::Want => out.write_str("memory was wanted"),
             Otherwise::Told(what) => out.write_str(what),
@@ -26,19 +25,19 @@ impl fmt::Display for Otherwise {
 }
 
 impl From<AllocError> for Otherwise {
-    fn from(_: AllocError) -> Self {
+    fn from(_error: AllocError) -> Otherwise {
         Otherwise::Want
     }
 }
 
 impl<T: Drop> From<AllocFailed<T>> for Otherwise {
-    fn from(_: AllocFailed<T>) -> Self {
+    fn from(_error: AllocFailed<T>) -> Otherwise {
         Otherwise::Want
     }
 }
 
 impl From<Want> for Otherwise {
-    fn from(_: Want) -> Self {
+    fn from(_error: Want) -> Otherwise {
         Otherwise::Want
     }
 }
@@ -71,12 +70,22 @@ pub fn performed<S: Restart>(
     input: &mut MemSource,
     fails: Vec<u64>,
 ) -> Result<Outcome, Otherwise> {
+    performed_noting::<S>(alloc, line, shelf, input, fails, Vec::new(alloc))
+}
+
+/// Performs a line by machines of the kind `S`, over an output and notes that fail at these puts.
+pub fn performed_noting<S: Restart>(
+    alloc: Global,
+    line: &str,
+    shelf: &mut MemShelf,
+    input: &mut MemSource,
+    fails: Vec<u64>,
+    note_fails: Vec<u64>,
+) -> Result<Outcome, Otherwise> {
     let words = words(alloc, line)?;
     let mut printed = MemSink::new(alloc, ROOM, fails)?;
-    let mut noted = MemSink::new(alloc, 4_000, Vec::new(alloc))?;
-    let status = symple::<S, _, _, _, _>(
-        alloc, &words, shelf, input, &mut printed, &mut noted,
-    );
+    let mut noted = MemSink::new(alloc, 4_000, note_fails)?;
+    let status = symple::<S, _, _, _, _>(alloc, &words, shelf, input, &mut printed, &mut noted);
     Ok(Outcome {
         status,
         printed,
